@@ -1,0 +1,115 @@
+-- Walks that give the same offsets: an axis of extent 1 goes, two axes that are one are fused, at any depth. Assumes nothing.
+use mathlib.Core.Path.{_≡_, refl, sym, _∙_, ap, ap₂, subst}
+use mathlib.Core.Bool.{Bool, true, false, cond}
+use mathlib.Core.List.{List, [], _∷_, _++_}
+use Prim.Native.Nat.{ℕ, zero, suc, _+_, _*_, _-_, _/_, _%_, _<_, _≤_}
+use native.Mathlib.Nat.{mul-le-mul-left, div-add-mod', div-add-mod, mod-lt, mod-eq-of-lt, div-eq-of-lt, div-self, mod-self, mul-add-div-right, mul-add-mod-self-right, div-div-eq-div-mul, mul-add, mul-assoc, mod-def, zero-mod, zero-div, add-zero, zero-add, mod-one, div-one, div-lt-iff-lt-mul, mul-comm, zero-mul, mul-zero, mul-pos, one-mul}
+use native.Mathlib.Omega.{arith}
+use lib.Dec.{T, leb, ltb, le→leb}
+use lib.ListN.{length, getD, set, replicate, take, drop}
+use lib.IntN.{ℤ, pos, negsuc, negℤ, _+ℤ_, _-ℤ_, _*ℤ_, +ℤ-idl, +ℤ-idr, +ℤ-assoc, +ℤ-comm, -ℤ-+ℤ-cancel, +ℤ-negℤ-cancel, *ℤ-zero, natAbs}
+use lib.Signed.{_≤ℤ_, ≤ℤ-refl}
+use borrow.Author.Tests.{ltb-true, ltb-false}
+use Rattle.integer.specs.Z.{*ℤ-+ℤ, *ℤ-assoc}
+use Rattle.integer.specs.Laws.{+ℤ-ac, +ℤ-left-comm, times-one, +ℤ-cancel-r, +ℤ-mono}
+use Rattle.indexing.specs.Coordinates.{product, unravel, dot, Within}
+use Rattle.indexing.specs.Odometer.{AllPos, offsetAt}
+use Rattle.indexing.specs.Linear.{div-below}
+
+-- ---- B. two axes that are one
+
+pub mod-fuse : (k p d : ℕ) → k % (p * d) ≡ k % p + p * (k / p % d)
+mod-fuse k p d =
+    let q : ℕ = k / p in
+    let e₁ : p * q + k % p ≡ k = div-add-mod k p in
+    let e₂ : p * q ≡ p * (d * (q / d)) + p * (q % d) = ap (λ (n : ℕ). p * n) (sym (div-add-mod q d)) ∙ mul-add p (d * (q / d)) (q % d) in
+    let e₃ : p * d * (q / d) ≡ p * (d * (q / d)) = mul-assoc p d (q / d) in
+    let e₄ : p * d * (k / (p * d)) ≡ p * d * (q / d) = ap (λ (n : ℕ). p * d * n) (sym (div-div-eq-div-mul k p d)) in
+    let e₅ : k % (p * d) ≡ k - p * d * (k / (p * d)) = mod-def k (p * d) in
+    omega arith
+
+pub div-fuse : (k p d : ℕ) → k / p / d ≡ k / (p * d)
+div-fuse k p d = div-div-eq-div-mul k p d
+
+pub fuse-term : (s t : ℤ) (k p d : ℕ) → t ≡ s *ℤ pos p → s *ℤ pos (k % p) +ℤ t *ℤ pos (k / p % d) ≡ s *ℤ pos (k % (p * d))
+fuse-term s t k p d e =
+    ap (λ (x : ℤ). s *ℤ pos (k % p) +ℤ x *ℤ pos (k / p % d)) e
+    ∙ ap (λ (x : ℤ). s *ℤ pos (k % p) +ℤ x) (*ℤ-assoc s (pos p) (pos (k / p % d)))
+    ∙ sym (*ℤ-+ℤ s (pos (k % p)) (pos (p * (k / p % d))))
+    ∙ ap (λ (n : ℕ). s *ℤ pos n) (sym (mod-fuse k p d))
+
+-- where the second stride is the first times the first extent, the two axes are one of the product's extent
+pub dot-fuse : (s t : ℤ) (ss : List ℤ) (p d : ℕ) (ds : List ℕ) (k : ℕ) → t ≡ s *ℤ pos p
+    → dot (s ∷ t ∷ ss) (unravel (p ∷ d ∷ ds) k) ≡ dot (s ∷ ss) (unravel (p * d ∷ ds) k)
+unfolding dot unravel
+dot-fuse s t ss p d ds k e =
+    sym (+ℤ-assoc (s *ℤ pos (k % p)) (t *ℤ pos (k / p % d)) (dot ss (unravel ds (k / p / d))))
+    ∙ ap (λ (x : ℤ). x +ℤ dot ss (unravel ds (k / p / d))) (fuse-term s t k p d e)
+    ∙ ap (λ (n : ℕ). s *ℤ pos (k % (p * d)) +ℤ dot ss (unravel ds n)) (div-fuse k p d)
+
+pub offset-fuse : (base s t : ℤ) (ss : List ℤ) (p d : ℕ) (ds : List ℕ) (k : ℕ) → t ≡ s *ℤ pos p
+    → offsetAt base (p ∷ d ∷ ds) (s ∷ t ∷ ss) k ≡ offsetAt base (p * d ∷ ds) (s ∷ ss) k
+unfolding offsetAt
+offset-fuse base s t ss p d ds k e = ap (λ (x : ℤ). base +ℤ x) (dot-fuse s t ss p d ds k e)
+
+pub product-fuse : (p d : ℕ) (ds : List ℕ) → product (p ∷ d ∷ ds) ≡ product (p * d ∷ ds)
+unfolding product
+product-fuse p d ds = sym (mul-assoc p d (product ds))
+
+-- ---- the same offsets over other axes
+
+-- what holds of the axes that follow holds below any axes
+pub under-axes : (ss₁ : List ℤ) (ds₁ : List ℕ) (ss ss′ : List ℤ) (ds ds′ : List ℕ) → length ss₁ ≡ length ds₁ → ((k : ℕ) → dot ss (unravel ds k) ≡ dot ss′ (unravel ds′ k))
+    → (k : ℕ) → dot (ss₁ ++ ss) (unravel (ds₁ ++ ds) k) ≡ dot (ss₁ ++ ss′) (unravel (ds₁ ++ ds′) k)
+unfolding dot unravel
+under-axes [] [] ss ss′ ds ds′ l h k = h k
+under-axes [] (d ∷ ds₁) ss ss′ ds ds′ l h k = absurd (omega arith)
+under-axes (s ∷ ss₁) [] ss ss′ ds ds′ l h k = absurd (omega arith)
+under-axes (s ∷ ss₁) (d ∷ ds₁) ss ss′ ds ds′ l h k = ap (λ (x : ℤ). s *ℤ pos (k % d) +ℤ x) (under-axes ss₁ ds₁ ss ss′ ds ds′ (omega arith) h (k / d))
+
+-- an axis of extent 1 adds nothing
+pub dot-unit : (s : ℤ) (ss : List ℤ) (ds : List ℕ) (k : ℕ) → dot (s ∷ ss) (unravel (1 ∷ ds) k) ≡ dot ss (unravel ds k)
+unfolding dot unravel
+dot-unit s ss ds k =
+    ap₂ (λ (a b : ℕ). s *ℤ pos a +ℤ dot ss (unravel ds b)) (mod-one k) (div-one k)
+    ∙ ap (λ (x : ℤ). x +ℤ dot ss (unravel ds k)) (*ℤ-zero s)
+    ∙ +ℤ-idl (dot ss (unravel ds k))
+
+pub drop-unit : (ss₁ : List ℤ) (ds₁ : List ℕ) (s : ℤ) (ss : List ℤ) (ds : List ℕ) → length ss₁ ≡ length ds₁ → (k : ℕ) → dot (ss₁ ++ s ∷ ss) (unravel (ds₁ ++ 1 ∷ ds) k) ≡ dot (ss₁ ++ ss) (unravel (ds₁ ++ ds) k)
+drop-unit ss₁ ds₁ s ss ds l = under-axes ss₁ ds₁ (s ∷ ss) ss (1 ∷ ds) ds l (dot-unit s ss ds)
+
+pub fuse-at : (ss₁ : List ℤ) (ds₁ : List ℕ) (s t : ℤ) (ss : List ℤ) (p d : ℕ) (ds : List ℕ) → length ss₁ ≡ length ds₁ → t ≡ s *ℤ pos p
+    → (k : ℕ) → dot (ss₁ ++ s ∷ t ∷ ss) (unravel (ds₁ ++ p ∷ d ∷ ds) k) ≡ dot (ss₁ ++ s ∷ ss) (unravel (ds₁ ++ p * d ∷ ds) k)
+fuse-at ss₁ ds₁ s t ss p d ds l e = under-axes ss₁ ds₁ (s ∷ t ∷ ss) (s ∷ ss) (p ∷ d ∷ ds) (p * d ∷ ds) l (λ k. dot-fuse s t ss p d ds k e)
+
+-- ---- dense strides
+
+unfoldable pub dense : ℕ → List ℕ → List ℤ
+dense w [] = []
+dense w (d ∷ ds) = pos w ∷ dense (w * d) ds
+
+pub product-pos : (ds : List ℕ) → AllPos ds → 0 < product ds
+unfolding AllPos product
+product-pos [] p = omega arith
+product-pos (d ∷ ds) p = mul-pos (p .0) (product-pos ds (p .1))
+
+-- over dense strides the sum is the linear index, times the first stride
+pub dot-dense : (w : ℕ) (ds : List ℕ) (k : ℕ) → k < product ds → dot (dense w ds) (unravel ds k) ≡ pos (w * k)
+unfolding product unravel dense dot
+dot-dense w [] k h = sym (ap (λ (n : ℕ). pos (w * n)) (zero-of k h) ∙ ap pos (mul-zero w))
+  where
+    zero-of : (k : ℕ) → k < 1 → k ≡ 0
+    zero-of k h = omega arith
+dot-dense w (d ∷ ds) k h =
+    ap (λ (x : ℤ). pos (w * (k % d)) +ℤ x) (dot-dense (w * d) ds (k / d) (div-below k d (product ds) h))
+    ∙ ap pos (sum w d k)
+  where
+    sum : (w d k : ℕ) → w * (k % d) + w * d * (k / d) ≡ w * k
+    sum w d k =
+        let e₁ : w * k ≡ w * (d * (k / d)) + w * (k % d) = ap (λ (n : ℕ). w * n) (sym (div-add-mod k d)) ∙ mul-add w (d * (k / d)) (k % d) in
+        let e₂ : w * d * (k / d) ≡ w * (d * (k / d)) = mul-assoc w d (k / d) in
+        omega arith
+
+pub offset-dense : (base : ℤ) (ds : List ℕ) (k : ℕ) → k < product ds → offsetAt base ds (dense 1 ds) k ≡ base +ℤ pos k
+unfolding offsetAt
+offset-dense base ds k h = ap (λ (x : ℤ). base +ℤ x) (dot-dense 1 ds k h ∙ ap pos (one-mul k))

@@ -1,0 +1,12 @@
+-- What the contracts cite, and the laws of ℤ.
+
+-- what a reader must believe
+pub mod Defs
+-- ℤ read as differences of naturals, for `omega`; a ring solver; order, sums, products and ranges
+pub mod Z
+pub mod Ring
+pub mod Laws
+-- what the needs of signed code ask
+pub mod Machine
+-- arithmetic modulo 2^32
+pub mod Wrap
