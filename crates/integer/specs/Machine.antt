@@ -99,6 +99,14 @@ fitsOrU-over : (t : Bool) (n : ℕ) → fitsOrU t n ≡ U.Overflow → t ≡ fal
 fitsOrU-over true n e = cc
 fitsOrU-over false n e = refl
 
+pub checkedU-below : (n m : ℕ) → checkedU n ≡ U.Fits m → n < 2 ^ 64
+unfolding checkedU
+checkedU-below n m e = go (ltb n (2 ^ 64)) refl e
+  where
+    go : (t : Bool) → ltb n (2 ^ 64) ≡ t → fitsOrU t n ≡ U.Fits m → n < 2 ^ 64
+    go true h k = ltb-true n (2 ^ 64) h
+    go false h k = let z : _≡_ {A = ℕ} 0 1 = cc in absurd (omega arith)
+
 pub checkedU-over : (n : ℕ) → checkedU n ≡ U.Overflow → 2 ^ 64 ≤ n
 unfolding checkedU
 checkedU-over n e = ltb-false n (2 ^ 64) (fitsOrU-over (ltb n (2 ^ 64)) n e)

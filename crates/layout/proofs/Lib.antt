@@ -1,0 +1,6 @@
+pub mod Turns
+pub mod Fill
+pub mod Unique
+pub mod Ends
+pub mod Apart
+pub mod First

@@ -1,0 +1,46 @@
+use mathlib.Core.Path.{_≡_, refl, sym, ap, ap₂, _∙_}
+use Prim.Native.Nat.{ℕ, zero, suc, _+_, _*_, _-_, _<_, _≤_, zero-le, min}
+use native.Mathlib.Omega.{arith}
+use lib.ListN.{length, take, drop, getD}
+use lib.Dec.{eqb}
+use lib.IntN.{ℤ, pos, natAbs, _+ℤ_, _*ℤ_}
+use mir.Syntax.{w64}
+use mir.Val.{SFits, Fits, toZ, ofZ}
+use mir.Facts.{fits-ofZ, sfits-lit}
+use borrow.Author.Needs.{needs, sfits-of}
+use Rattle.integer.specs.Z.{back}
+use Rattle.integer.specs.Defs.{checked, checkedU}
+use Rattle.integer.specs.declared.Checked.{Checked}
+use Rattle.integer.specs.declared.CheckedU.{CheckedU}
+use Rattle.layout.specs.Spans.{andThen}
+use borrow.Author.Needs.{needs}
+use Rattle.layout.proofs.added.Statement.{statement}
+use Rattle.layout.proofs.added.Tie as tie
+use Rattle.layout.proofs.added.Reads as reads
+use Rattle.layout.proofs.added.Lts as lts
+use Rattle.integer.proofs.checked_add_i64.Reads as checked-add-i64-reads
+
+-- src/lib.rt:277:23
+enum-known-x : tie.Need-enum-known-x
+enum-known-x c = search needs
+
+-- src/lib.rt:277:29
+checked-add-i64-requires : tie.Need-checked-add-i64-requires
+checked-add-i64-requires c κs = search needs
+
+-- src/lib.rt:278:30
+enum-told : tie.Need-enum-told
+enum-told c = search needs
+
+-- src/lib.rt:273:1
+returns : tie.Need-returns
+returns c =
+    let z : SFits w64 (c .before .before .x .given .0 .0) = sfits-of (c .before .known-told .given .0 .1) in
+    rw (c .before .before .x .given .1) (c .checked-add-i64 .ensures ∙ ap checked (ap₂ _+ℤ_ (back (c .before .before .before .before .fits .base)) (back z)))
+
+-- src/lib.rt:273:1
+returns-2 : tie.Need-returns-2
+returns-2 c = search needs
+
+pub added-spec : {M : Type 1} → statement M
+added-spec = tie.close (tie.spec enum-known-x checked-add-i64-requires enum-told returns returns-2)

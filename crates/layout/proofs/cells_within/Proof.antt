@@ -1,0 +1,76 @@
+use mathlib.Core.Path.{_≡_, refl, sym, ap, ap₂, _∙_}
+use Prim.Native.Nat.{ℕ, _+_, _*_, _-_, _<_, _≤_}
+use native.Mathlib.Omega.{arith}
+use lib.IntN.{ℤ, pos, natAbs}
+use mir.Facts.{sfits-lit}
+use borrow.Author.Tests.{le-leb, lt-leb, lt-ltb, le-ltb}
+use Rattle.integer.specs.Z.{back, less, not-less}
+use Rattle.integer.specs.Defs.{checkedU}
+use Rattle.integer.specs.Machine.{checkedU-yes, isNeg-yes, isNeg-no}
+use Rattle.layout.specs.Sums.{cellsWithin}
+use borrow.Author.Needs.{needs}
+use Rattle.layout.proofs.cells_within.Statement.{statement}
+use Rattle.layout.proofs.cells_within.Tie as tie
+use Rattle.layout.proofs.cells_within.Reads as reads
+use Rattle.layout.proofs.cells_within.Lts as lts
+use Rattle.layout.proofs.sum_with.Reads as sum-with-reads
+
+-- src/lib.rt:631:24
+enum-known-down : tie.Need-enum-known-down
+enum-known-down c = search needs
+
+-- src/lib.rt:633:17
+returns : tie.Need-returns
+unfolding cellsWithin
+returns c = rw (c .before .before .down .given .1, lt-ltb _ _ (c .if1 .taken))
+
+-- src/lib.rt:635:17
+sum-with-requires : tie.Need-sum-with-requires
+sum-with-requires c κs = search needs
+
+-- src/lib.rt:637:32
+enum-known-high : tie.Need-enum-known-high
+enum-known-high c = search needs
+
+-- src/lib.rt:644:39
+enum-told : tie.Need-enum-told
+enum-told c = search needs
+
+-- src/lib.rt:647:31
+enum-told-2 : tie.Need-enum-told-2
+enum-told-2 c = search needs
+
+-- src/lib.rt:627:1
+returns-2 : tie.Need-returns-2
+unfolding cellsWithin
+returns-2 c = rw (c .before .before .before .before .before .before .before .down .given .1, le-ltb _ _ (c .before .before .before .before .before .if1 .left), sym (c .before .before .before .before .sum-with .ensures) ∙ c .before .before .high .given .1, lt-ltb _ _ (c .if2 .taken))
+
+-- src/lib.rt:627:1
+returns-3 : tie.Need-returns-3
+unfolding cellsWithin
+returns-3 c = rw (c .before .before .before .before .before .before .before .down .given .1, le-ltb _ _ (c .before .before .before .before .before .if1 .left), sym (c .before .before .before .before .sum-with .ensures) ∙ c .before .before .high .given .1, le-ltb _ _ (c .if2 .left))
+
+-- src/lib.rt:627:1
+returns-4 : tie.Need-returns-4
+unfolding cellsWithin
+returns-4 c = rw (c .before .before .before .before .before .down .given .1, le-ltb _ _ (c .before .before .before .if1 .left), sym (c .before .before .sum-with .ensures) ∙ c .enum-told .given .1)
+
+-- src/lib.rt:627:1
+returns-5 : tie.Need-returns-5
+unfolding cellsWithin
+returns-5 c = rw (c .enum-told2 .given .1)
+
+pub cells-within-spec : {M : Type 1} → statement M
+cells-within-spec =
+    tie.close
+    (tie.spec
+    enum-known-down
+    returns
+    sum-with-requires
+    enum-known-high
+    enum-told
+    enum-told-2
+    returns-2
+    returns-3
+    returns-4
+    returns-5)

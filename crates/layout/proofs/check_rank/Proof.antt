@@ -1,0 +1,16 @@
+use borrow.Author.Tests.{le-leb, lt-leb}
+use Rattle.layout.proofs.check_rank.Statement.{statement}
+use Rattle.layout.proofs.check_rank.Tie as tie
+use Rattle.layout.proofs.check_rank.Reads as reads
+use Rattle.layout.proofs.check_rank.Lts as lts
+
+-- src/lib.rt:171:1
+returns : tie.Need-returns
+returns c = rw (le-leb _ _ (c .if1 .taken))
+
+-- src/lib.rt:171:1
+returns-2 : tie.Need-returns-2
+returns-2 c = rw (lt-leb _ _ (c .if1 .left))
+
+pub check-rank-spec : {M : Type 1} → statement M
+check-rank-spec = tie.close (tie.spec returns returns-2)

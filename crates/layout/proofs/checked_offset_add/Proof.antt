@@ -1,0 +1,49 @@
+use mathlib.Core.Path.{_≡_, refl, sym, ap, ap₂, _∙_}
+use Prim.Native.Nat.{ℕ, zero, suc, _+_, _*_, _-_, _<_, _≤_, zero-le, min}
+use native.Mathlib.Omega.{arith}
+use lib.ListN.{length, take, drop, getD}
+use lib.Dec.{eqb}
+use lib.IntN.{ℤ, pos, natAbs, _+ℤ_, _*ℤ_}
+use mir.Syntax.{w64}
+use mir.Val.{SFits, Fits, toZ, ofZ}
+use mir.Facts.{fits-ofZ, sfits-lit}
+use borrow.Author.Needs.{needs, sfits-of}
+use Rattle.integer.specs.Z.{back}
+use Rattle.integer.specs.Defs.{checked, checkedU}
+use Rattle.integer.specs.declared.Checked.{Checked}
+use Rattle.integer.specs.declared.CheckedU.{CheckedU}
+use Rattle.layout.specs.Spans.{andThen, offsetAdd}
+use borrow.Author.Needs.{needs}
+use Rattle.layout.proofs.checked_offset_add.Statement.{statement}
+use Rattle.layout.proofs.checked_offset_add.Tie as tie
+use Rattle.layout.proofs.checked_offset_add.Reads as reads
+use Rattle.layout.proofs.checked_offset_add.Lts as lts
+use Rattle.integer.proofs.u64_to_i64.Reads as u64-to-i64-reads
+use Rattle.layout.proofs.added.Reads as added-reads
+use Rattle.layout.proofs.scaled.Reads as scaled-reads
+
+-- src/lib.rt:384:9
+u64-to-i64-requires : tie.Need-u64-to-i64-requires
+u64-to-i64-requires c κs = search needs
+
+-- src/lib.rt:385:9
+scaled-requires : tie.Need-scaled-requires
+scaled-requires c κs = search needs
+
+-- src/lib.rt:386:5
+added-requires : tie.Need-added-requires
+added-requires c κs = search needs
+
+-- src/lib.rt:381:1
+returns : tie.Need-returns
+unfolding offsetAdd
+returns c =
+    let s = c .before .before .before in
+    c .added .ensures
+    ∙ ap₂ (λ (x : Checked) (b : ℤ). andThen x (λ e. checked (b +ℤ e)))
+    (c .before .scaled .ensures ∙ ap₂ (λ (x : Checked) (t : ℤ). andThen x (λ m. checked (t *ℤ m))) (c .before .before .u64-to-i64 .ensures) (back (s .fits .stride)))
+    (back (s .fits .base))
+
+pub checked-offset-add-spec : {M : Type 1} → statement M
+checked-offset-add-spec =
+    tie.close (tie.spec u64-to-i64-requires scaled-requires added-requires returns)

@@ -1,0 +1,50 @@
+use mathlib.Core.Path.{_≡_, refl, sym, ap, ap₂, _∙_}
+use Prim.Native.Nat.{ℕ, zero, suc, _+_, _*_, _-_, _<_, _≤_, zero-le}
+use native.Mathlib.Omega.{arith}
+use lib.ListN.{length, take, drop, getD}
+use lib.IntN.{ℤ, pos, negℤ, _+ℤ_, _*ℤ_}
+use mir.Syntax.{w64}
+use mir.Val.{SFits, Fits, toZ, ofZ}
+use mir.Facts.{fits-ofZ, sfits-lit}
+use borrow.Author.Needs.{sfits-of}
+use Rattle.integer.specs.Z.{back, less, not-less}
+use Rattle.integer.specs.Defs.{checked, checkedU, isNeg}
+use Rattle.integer.specs.Machine.{isNeg-yes, isNeg-no}
+use Rattle.integer.specs.declared.Checked.{Checked}
+use Rattle.integer.specs.declared.Checked.the-variants as C
+use Rattle.layout.specs.declared.OffsetSpan.{OffsetSpan}
+use Rattle.layout.specs.declared.OffsetSpan.the-variants as S
+use Rattle.layout.specs.Spans.{andThen, spanOf, widenBy, reachOf, widened, resetOf, totalFrom, totalOf, spanFrom, spanned}
+use borrow.Author.Needs.{needs}
+use Rattle.layout.proofs.checked_replay_reset.Statement.{statement}
+use Rattle.layout.proofs.checked_replay_reset.Tie as tie
+use Rattle.layout.proofs.checked_replay_reset.Reads as reads
+use Rattle.layout.proofs.checked_replay_reset.Lts as lts
+use Rattle.layout.proofs.negated.Reads as negated-reads
+use Rattle.layout.proofs.axis_reach.Reads as axis-reach-reads
+
+is-zero : (n : ℕ) (s : ℤ) → n ≡ 0 → C.Fits (pos 0) ≡ resetOf n s
+unfolding resetOf
+is-zero n s e = rw e
+
+not-zero : (n : ℕ) (s : ℤ) → (n ≡ 0 → ⊥) → andThen (reachOf n s) (λ e. checked (negℤ e)) ≡ resetOf n s
+unfolding resetOf
+not-zero zero s h = absurd (h refl)
+not-zero (suc n) s h = refl
+
+axis-reach-requires : tie.Need-axis-reach-requires
+axis-reach-requires c κs = search needs
+
+negated-requires : tie.Need-negated-requires
+negated-requires c κs = search needs
+
+returns : tie.Need-returns
+returns c = is-zero (c .before .args .extent) (c .before .args .step) (c .if1 .taken)
+
+returns-2 : tie.Need-returns-2
+returns-2 c =
+    let s = c .before .before .before in
+    c .negated .ensures ∙ ap (λ (x : Checked). andThen x (λ e. checked (negℤ e))) (c .before .axis-reach .ensures ∙ ap (reachOf (s .args .extent)) (back (s .fits .step))) ∙ not-zero (s .args .extent) (s .args .step) (c .before .before .if1 .left)
+
+pub checked-replay-reset-spec : {M : Type 1} → statement M
+checked-replay-reset-spec = tie.close (tie.spec axis-reach-requires negated-requires returns returns-2)

@@ -1,0 +1,100 @@
+use mathlib.Core.Path.{_≡_, refl, sym, ap, ap₂, _∙_}
+use Prim.Native.Nat.{ℕ, zero, suc, _+_, _*_, _-_, _<_, _≤_, zero-le}
+use native.Mathlib.Omega.{arith}
+use lib.ListN.{length, take, drop, getD}
+use lib.IntN.{ℤ, pos, negℤ, _+ℤ_, _*ℤ_}
+use mir.Syntax.{w64}
+use mir.Val.{SFits, Fits, toZ, ofZ}
+use mir.Facts.{fits-ofZ, sfits-lit}
+use borrow.Author.Needs.{sfits-of}
+use Rattle.integer.specs.Z.{back, less, not-less}
+use Rattle.integer.specs.Defs.{checked, checkedU, isNeg}
+use Rattle.integer.specs.Machine.{isNeg-yes, isNeg-no}
+use Rattle.integer.specs.declared.Checked.{Checked}
+use Rattle.integer.specs.declared.Checked.the-variants as C
+use Rattle.layout.specs.declared.OffsetSpan.{OffsetSpan}
+use Rattle.layout.specs.declared.OffsetSpan.the-variants as S
+use Rattle.layout.specs.Spans.{andThen, spanOf, widenBy, reachOf, widened, resetOf, totalFrom, totalOf, spanFrom, spanned}
+use borrow.Author.Needs.{needs}
+use Rattle.layout.proofs.Turns.{total-over, total-next, total-done}
+use Rattle.layout.proofs.checked_total_len.Statement.{statement}
+use Rattle.layout.proofs.checked_total_len.Tie as tie
+use Rattle.layout.proofs.checked_total_len.Reads as reads
+use Rattle.layout.proofs.checked_total_len.Lts as lts
+use Rattle.layout.proofs.axis_count.Reads as axis-count-reads
+use Rattle.integer.proofs.checked_mul_u64.Reads as checked-mul-u64-reads
+
+abbrev Inv-loop : tie.InvT-loop
+Inv-loop rank extents n acc₀ i₀ acc i = (i ≤ n) × (totalFrom acc (drop i (take rank extents)) ≡ totalOf (take rank extents))
+
+abbrev μ-loop : tie.MeasureT-loop
+μ-loop rank extents n acc₀ i₀ acc i = n - i
+
+axis-count-requires : tie.Need-axis-count-requires Inv-loop μ-loop
+axis-count-requires c κs = search needs
+
+loop-holds : tie.Need-loop-holds Inv-loop μ-loop
+loop-holds c = (zero-le, refl)
+
+mul-checked-mul-u64 : tie.Need-mul-checked-mul-u64 Inv-loop μ-loop
+mul-checked-mul-u64 c = search needs
+
+array-read-checked-mul-u64 : tie.Need-array-read-checked-mul-u64 Inv-loop μ-loop
+array-read-checked-mul-u64 c = search needs
+
+checked-mul-u64-requires : tie.Need-checked-mul-u64-requires Inv-loop μ-loop
+checked-mul-u64-requires c κs = search needs
+
+enum-known-p : tie.Need-enum-known-p Inv-loop μ-loop
+enum-known-p c = search needs
+
+enum-told : tie.Need-enum-told Inv-loop μ-loop
+enum-told c = search needs
+
+returns : tie.Need-returns Inv-loop μ-loop
+returns c =
+    let m = c .before .before in
+    let l = m .before .before in
+    let s = l .before .before in
+    let n : length (s .args .t1) ≡ 8 = search needs in
+    total-over (l .loop .acc) (s .args .t1) (s .args .rank) (l .loop .i) (omega (arith, l .before .axis-count .ensures, m .before .loop-test .taken)) (m .checked-mul-u64 .result) (m .checked-mul-u64 .ensures) (c .enum-told .given .1) ∙ l .loop .inv .1
+
+add-i : tie.Need-add-i Inv-loop μ-loop
+add-i c = search needs
+
+loop-less : tie.Need-loop-less Inv-loop μ-loop
+loop-less c = search needs
+
+loop-again : tie.Need-loop-again Inv-loop μ-loop
+loop-again c =
+    let m = c .before .before .before in
+    let l = m .before .before in
+    let s = l .before .before in
+    let n : length (s .args .t1) ≡ 8 = search needs in
+    (omega (arith, m .before .loop-test .taken), total-next (l .loop .acc) (s .args .t1) (s .args .rank) (l .loop .i) (omega (arith, l .before .axis-count .ensures, m .before .loop-test .taken)) (m .checked-mul-u64 .result) (m .checked-mul-u64 .ensures) (c .before .p .given .0 .0) (c .before .p .given .1) ∙ l .loop .inv .1)
+
+returns-2 : tie.Need-returns-2 Inv-loop μ-loop
+returns-2 c =
+    let l = c .before in
+    let s = l .before .before in
+    let n : length (s .args .t1) ≡ 8 = search needs in
+    total-done (l .loop .acc) (s .args .t1) (s .args .rank) (l .loop .i) (omega (arith, l .before .axis-count .ensures, c .loop-test .left)) ∙ l .loop .inv .1
+
+pub checked-total-len-spec : {M : Type 1} → statement M
+checked-total-len-spec =
+    tie.close
+    (tie.spec
+    Inv-loop
+    μ-loop
+    axis-count-requires
+    loop-holds
+    mul-checked-mul-u64
+    array-read-checked-mul-u64
+    checked-mul-u64-requires
+    enum-known-p
+    enum-told
+    returns
+    add-i
+    loop-less
+    loop-again
+    returns-2)

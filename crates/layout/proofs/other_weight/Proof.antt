@@ -1,0 +1,46 @@
+use mathlib.Core.Path.{_≡_, refl, sym, ap, ap₂, _∙_}
+use Prim.Native.Nat.{ℕ, _+_, _*_, _-_, _<_, _≤_}
+use native.Mathlib.Omega.{arith}
+use lib.IntN.{ℤ, pos, natAbs}
+use mir.Facts.{sfits-lit}
+use borrow.Author.Tests.{le-leb, lt-leb, lt-ltb, le-ltb}
+use Rattle.integer.specs.Z.{back, less, not-less}
+use Rattle.integer.specs.Defs.{checkedU}
+use Rattle.integer.specs.Machine.{checkedU-yes, isNeg-yes, isNeg-no}
+use borrow.Author.Needs.{needs}
+use Rattle.layout.proofs.other_weight.Statement.{statement}
+use Rattle.layout.proofs.other_weight.Tie as tie
+use Rattle.layout.proofs.other_weight.Reads as reads
+use Rattle.layout.proofs.other_weight.Lts as lts
+use Rattle.integer.proofs.magnitude_i64.Reads as magnitude-i64-reads
+use Rattle.layout.proofs.axis_weight.Reads as axis-weight-reads
+
+-- src/lib.rt:490:13
+magnitude-i64-requires : tie.Need-magnitude-i64-requires
+magnitude-i64-requires c κs = search needs
+
+-- src/lib.rt:494:13
+axis-weight-requires : tie.Need-axis-weight-requires
+axis-weight-requires c κs = search needs
+
+-- src/lib.rt:484:1
+returns : tie.Need-returns
+returns c = rw (c .if1 .taken) (checkedU-yes 0 (omega arith))
+
+-- src/lib.rt:484:1
+returns-2 : tie.Need-returns-2
+returns-2 c =
+    let s = c .before .before .before in
+    let m : c .before .magnitude-i64 .result ≡ natAbs (s .args .stride) = c .before .magnitude-i64 .ensures ∙ ap natAbs (back (s .fits .stride)) in
+    rw (c .before .before .if1 .left, lt-leb (natAbs (s .args .stride)) (s .args .limit) (omega (arith, c .if2 .taken, m))) (checkedU-yes 0 (omega arith))
+
+-- src/lib.rt:484:1
+returns-3 : tie.Need-returns-3
+returns-3 c =
+    let s = c .before .before .before .before in
+    let m : c .before .before .magnitude-i64 .result ≡ natAbs (s .args .stride) = c .before .before .magnitude-i64 .ensures ∙ ap natAbs (back (s .fits .stride)) in
+    rw (c .before .before .before .if1 .left, le-leb (natAbs (s .args .stride)) (s .args .limit) (omega (arith, c .before .if2 .left, m))) (c .axis-weight .ensures ∙ ap (λ (z : ℤ). checkedU (natAbs z * (s .args .extent - 1))) (back (s .fits .stride)))
+
+pub other-weight-spec : {M : Type 1} → statement M
+other-weight-spec =
+    tie.close (tie.spec magnitude-i64-requires axis-weight-requires returns returns-2 returns-3)

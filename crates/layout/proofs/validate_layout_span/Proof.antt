@@ -1,0 +1,127 @@
+use mathlib.Core.Path.{_≡_, refl, sym, ap, ap₂, _∙_}
+use Prim.Native.Nat.{ℕ, zero, suc, _+_, _*_, _-_, _<_, _≤_, zero-le}
+use native.Mathlib.Omega.{arith}
+use lib.ListN.{length, take, drop, getD}
+use lib.IntN.{ℤ, pos, negℤ, _+ℤ_, _*ℤ_}
+use mir.Syntax.{w64}
+use mir.Val.{SFits, Fits, toZ, ofZ}
+use mir.Facts.{fits-ofZ, sfits-lit}
+use borrow.Author.Needs.{sfits-of}
+use Rattle.integer.specs.Z.{back, less, not-less}
+use Rattle.integer.specs.Defs.{checked, checkedU, isNeg}
+use Rattle.integer.specs.Machine.{isNeg-yes, isNeg-no}
+use Rattle.integer.specs.declared.Checked.{Checked}
+use Rattle.integer.specs.declared.Checked.the-variants as C
+use Rattle.layout.specs.declared.OffsetSpan.{OffsetSpan}
+use Rattle.layout.specs.declared.OffsetSpan.the-variants as S
+use Rattle.layout.specs.Spans.{andThen, spanOf, widenBy, reachOf, widened, resetOf, totalFrom, totalOf, spanFrom, spanned}
+use borrow.Author.Needs.{needs}
+use Rattle.layout.proofs.Turns.{span-over, span-next, span-done}
+use Rattle.layout.proofs.validate_layout_span.Statement.{statement}
+use Rattle.layout.proofs.validate_layout_span.Tie as tie
+use Rattle.layout.proofs.validate_layout_span.Reads as reads
+use Rattle.layout.proofs.validate_layout_span.Lts as lts
+use Rattle.layout.proofs.widen.Reads as widen-reads
+
+abbrev Inv-loop : tie.InvT-loop
+Inv-loop rank extents strides n low₀ high₀ i₀ low high i =
+    (i ≤ n) × Fits w64 low × Fits w64 high × (spanFrom (toZ w64 low) (toZ w64 high) (drop i (take rank extents)) (drop i (take rank strides)) ≡ spanned (take rank extents) (take rank strides))
+
+abbrev μ-loop : tie.MeasureT-loop
+μ-loop rank extents strides n low₀ high₀ i₀ low high i = n - i
+
+-- what the call returned, of the numbers themselves
+axis : (w : tie.After-widen Inv-loop μ-loop) → w .widen .result ≡ widened (toZ w64 (w .before .before .before .loop .low)) (toZ w64 (w .before .before .before .loop .high)) (getD (w .before .before .before .before .before .args .t1) (w .before .before .before .loop .i) 0) (getD (w .before .before .before .before .before .args .t2) (w .before .before .before .loop .i) (pos 0))
+axis w =
+    let l = w .before .before .before in
+    let f : SFits w64 (getD (l .before .before .args .t2) (l .loop .i) (pos 0)) = search needs in
+    w .widen .ensures ∙ ap (widened (toZ w64 (l .loop .low)) (toZ w64 (l .loop .high)) (getD (l .before .before .args .t1) (l .loop .i) 0)) (back f)
+
+axis-count-requires : tie.Need-axis-count-requires Inv-loop μ-loop
+axis-count-requires c κs = search needs
+
+loop-holds : tie.Need-loop-holds Inv-loop μ-loop
+loop-holds c = (zero-le, fits-ofZ (sfits-lit {z = pos 0} tt), fits-ofZ (sfits-lit {z = pos 0} tt), refl)
+
+mul-widen : tie.Need-mul-widen Inv-loop μ-loop
+mul-widen c = search needs
+
+array-read-widen : tie.Need-array-read-widen Inv-loop μ-loop
+array-read-widen c = search needs
+
+mul-widen-2 : tie.Need-mul-widen-2 Inv-loop μ-loop
+mul-widen-2 c = search needs
+
+array-copy-out-widen : tie.Need-array-copy-out-widen Inv-loop μ-loop
+array-copy-out-widen c = search needs
+
+widen-requires : tie.Need-widen-requires Inv-loop μ-loop
+widen-requires c κs = search needs
+
+enum-known-s : tie.Need-enum-known-s Inv-loop μ-loop
+enum-known-s c = search needs
+
+enum-told : tie.Need-enum-told Inv-loop μ-loop
+enum-told c = search needs
+
+returns : tie.Need-returns Inv-loop μ-loop
+returns c =
+    let w = c .before .before in
+    let l = w .before .before .before in
+    let s = l .before .before in
+    let n : length (s .args .t1) ≡ 8 = search needs in
+    let m : length (s .args .t2) ≡ 8 = search needs in
+    span-over (toZ w64 (l .loop .low)) (toZ w64 (l .loop .high)) (s .args .t1) (s .args .t2) (s .args .rank) (l .loop .i) (omega (arith, l .before .axis-count .ensures, w .before .before .loop-test .taken)) (omega (arith, l .before .axis-count .ensures, w .before .before .loop-test .taken)) (w .widen .result) (axis w) (c .enum-told .given .1) ∙ l .loop .inv .3
+
+add-i : tie.Need-add-i Inv-loop μ-loop
+add-i c = search needs
+
+loop-less : tie.Need-loop-less Inv-loop μ-loop
+loop-less c = search needs
+
+loop-again : tie.Need-loop-again Inv-loop μ-loop
+loop-again c =
+    let w = c .before .before .before in
+    let l = w .before .before .before in
+    let s = l .before .before in
+    let a = c .before .s .given .0 .0 in
+    let b = c .before .s .given .0 .1 .0 in
+    let fa : SFits w64 a = sfits-of (c .known-told .given .0 .1) in
+    let fb : SFits w64 b = sfits-of (c .known-told .given .1 .0 .1) in
+    let n : length (s .args .t1) ≡ 8 = search needs in
+    let m : length (s .args .t2) ≡ 8 = search needs in (
+      omega (arith, w .before .before .loop-test .taken),
+      fits-ofZ fa,
+      fits-ofZ fb,
+      ap₂ (λ (x y : ℤ). spanFrom x y (drop (l .loop .i + 1) (take (s .args .rank) (s .args .t1))) (drop (l .loop .i + 1) (take (s .args .rank) (s .args .t2)))) (back fa) (back fb)
+          ∙ span-next (toZ w64 (l .loop .low)) (toZ w64 (l .loop .high)) (s .args .t1) (s .args .t2) (s .args .rank) (l .loop .i) (omega (arith, l .before .axis-count .ensures, w .before .before .loop-test .taken)) (omega (arith, l .before .axis-count .ensures, w .before .before .loop-test .taken)) (w .widen .result) (axis w) a b (c .before .s .given .1) ∙ l .loop .inv .3,
+    )
+
+returns-2 : tie.Need-returns-2 Inv-loop μ-loop
+returns-2 c =
+    let l = c .before in
+    let s = l .before .before in
+    let n : length (s .args .t1) ≡ 8 = search needs in
+    let m : length (s .args .t2) ≡ 8 = search needs in
+    span-done (toZ w64 (l .loop .low)) (toZ w64 (l .loop .high)) (s .args .t1) (s .args .t2) (s .args .rank) (l .loop .i) (omega (arith, l .before .axis-count .ensures, c .loop-test .left)) ∙ l .loop .inv .3
+
+pub validate-layout-span-spec : {M : Type 1} → statement M
+validate-layout-span-spec =
+    tie.close
+    (tie.spec
+    Inv-loop
+    μ-loop
+    axis-count-requires
+    loop-holds
+    mul-widen
+    array-read-widen
+    mul-widen-2
+    array-copy-out-widen
+    widen-requires
+    enum-known-s
+    enum-told
+    returns
+    add-i
+    loop-less
+    loop-again
+    returns-2)

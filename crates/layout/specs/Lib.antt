@@ -1,0 +1,11 @@
+-- What layouts mean, and the laws about them.
+
+-- what a reader must believe
+pub mod Answers
+pub mod Layouts
+pub mod Spans
+pub mod Lists
+pub mod Nested
+pub mod Reach
+-- what the code adds up
+pub mod Sums
