@@ -9,3 +9,7 @@ pub mod Nested
 pub mod Reach
 -- what the code adds up
 pub mod Sums
+-- what an accepted product, span, reset or offset is; a nested layout gives no two coordinates one offset
+pub mod Laws
+pub mod Distinct
+pub mod Inside

@@ -252,7 +252,7 @@ pub fn checked_total_len(extents: [u64; RAW_FUSED_RANK_LIMIT], rank: usize) -> C
 }
 
 // The stride times what `x` holds.
-fn scaled(x: Checked, stride: i64) -> Checked
+pub fn scaled(x: Checked, stride: i64) -> Checked
     ensures { λ r. ⌜ r ≡ andThen x (λ m. checked (stride *ℤ m)) ⌝ }
 {
     match x {

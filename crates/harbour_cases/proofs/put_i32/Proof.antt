@@ -1,0 +1,23 @@
+use native.Mathlib.Omega.{arith}
+use Rattle.integer.specs.Z.{znorm, zflat, known}
+use borrow.Author.Needs.{needs}
+use Rattle.harbour_cases.proofs.put_i32.Statement.{statement}
+use Rattle.harbour_cases.proofs.put_i32.Tie as tie
+use Rattle.harbour_cases.proofs.put_i32.Reads as reads
+use Rattle.harbour_cases.proofs.put_i32.Lts as lts
+use Rattle.harbour_cases.proofs.put_i64.Reads as put-i64-reads
+
+-- src/main.rt:21:13
+cast-put-i64 : tie.Need-cast-put-i64
+cast-put-i64 c = simp znorm (simp zflat (omega (arith, known (c .fits .n))))
+
+-- src/main.rt:21:5
+put-i64-requires : tie.Need-put-i64-requires
+put-i64-requires c κs = search needs
+
+-- src/main.rt:20:1
+returns : tie.Need-returns
+returns c = search needs
+
+pub put-i32-spec : {M : Type 1} → statement M
+put-i32-spec = tie.close (tie.spec cast-put-i64 put-i64-requires returns)

@@ -1,0 +1,54 @@
+-- Document 01's harbour cases marked as proved, as one table with one theorem about the definitions. Assumes nothing.
+use mathlib.Core.Path.{_≡_, refl}
+use mathlib.Core.Bool.{Bool, true, false}
+use mathlib.Core.List.{List, [], _∷_}
+use Prim.Native.Nat.{ℕ}
+use lib.IntN.{ℤ, pos, negsuc, _+ℤ_}
+use Rattle.integer.specs.Defs.{checked, checkedU, wrap32}
+use Rattle.integer.specs.declared.Checked.{Checked}
+use Rattle.integer.specs.declared.Checked.the-variants as C
+use Rattle.integer.specs.declared.CheckedU.{CheckedU}
+use Rattle.integer.specs.declared.CheckedU.the-variants as U
+use Rattle.indexing.specs.Start.{clamp}
+use Rattle.layout.specs.Spans.{totalFrom, totalOf, reachOf, resetOf}
+use Rattle.layout.specs.Nested.{hasZero, longAxes, insert, ordered, exceeds, nested}
+
+-- a case: what is asked, and the answer (an overflow is refusal 3)
+pub data Case : Type 0 where
+  product : List ℕ → CheckedU → Case
+  clamped : ℤ → ℕ → ℕ → ℕ → Case
+  reset : ℕ → ℤ → Checked → Case
+  nests : List ℕ → List ℤ → Bool → Case
+  plus : ℤ → ℤ → ℤ → Case
+
+abbrev pub Holds : Case → Type 0
+Holds (product extents answer) = totalOf extents ≡ answer
+Holds (clamped start extent window answer) = clamp start extent window ≡ answer
+Holds (reset extent stride answer) = resetOf extent stride ≡ answer
+Holds (nests extents strides answer) = nested extents strides ≡ answer
+Holds (plus a b answer) = wrap32 (a +ℤ b) ≡ answer
+
+pub table : List Case
+table =
+    product [] (U.Fits 1)
+    ∷ product (18446744073709551615 ∷ 2 ∷ 0 ∷ []) U.Overflow
+    ∷ product (0 ∷ 18446744073709551615 ∷ 2 ∷ []) (U.Fits 0)
+    ∷ clamped (negsuc 4) 10 3 0
+    ∷ clamped (pos 7) 10 3 7
+    ∷ clamped (pos 8) 10 3 7
+    ∷ reset 2 (negsuc 9223372036854775807) C.Overflow
+    ∷ reset 1 (negsuc 9223372036854775807) (C.Fits (pos 0))
+    ∷ nests (2 ∷ 2 ∷ []) (pos 2 ∷ pos 3 ∷ []) true
+    ∷ nests (3 ∷ 2 ∷ []) (pos 2 ∷ pos 3 ∷ []) false
+    ∷ nests (1 ∷ 4 ∷ []) (pos 0 ∷ pos 1 ∷ []) true
+    ∷ plus (pos 2147483647) (pos 1) (negsuc 2147483647)
+    ∷ []
+
+abbrev pub All : List Case → Type 0
+All [] = Unit {0}
+All (c ∷ cs) = Holds c × All cs
+
+-- EVERY CASE of the table holds
+pub harbour : All table
+unfolding table totalFrom checkedU resetOf reachOf checked clamp nested hasZero longAxes insert ordered exceeds wrap32
+harbour = (refl, (refl, (refl, (refl, (refl, (refl, (refl, (refl, (refl, (refl, (refl, (refl, tt))))))))))))
