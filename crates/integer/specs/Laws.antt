@@ -1,15 +1,15 @@
 -- The laws of ℤ that `lib.IntN` and `lib.Signed` lack. Assumes nothing.
-use mathlib.Core.Path.{_≡_, refl, sym, ap, _∙_}
+use mathlib.Core.Path.{_≡_, refl, ap}
 use mathlib.Core.Logic.{_⊎_, inl, inr, ⊎-elim}
-use Prim.Native.Nat.{ℕ, _+_, _*_, _≤_, _<_, _^_}
-use native.Mathlib.Nat.{mul-le-mul-right, mul-le-mul-left}
+use Prim.Native.Nat.{ℕ, _+_, _*_, _≤_}
+use native.Mathlib.Nat.{mul-le-mul-right}
 use native.Mathlib.Omega.{arith}
 use lib.IntN.{ℤ, pos, negsuc, negℤ, _+ℤ_, _-ℤ_, _*ℤ_, +ℤ-assoc, +ℤ-comm, *ℤ-comm, zero-*ℤ, one, *ℤ-one}
 use mathlib.Core.Bool.{Bool, true, false, cond}
 use lib.Signed.{_≤ℤ_, _<ℤ_, ≤ℤ-refl, leZ}
 use mir.Syntax.{Width, w64}
-use mir.Val.{SFits, hbits}
-use Rattle.integer.specs.Z.{up, dn, ≤-to, ≤-from, <-to, <-from, ≡-to, ≡-from, znorm, zflat, zfacts, up-*pos, dn-*pos, known, eq-by, le-by, v, _⊕_, _⊖_, _⊛_, minus}
+use mir.Val.{SFits}
+use Rattle.integer.specs.Z.{up, ≤-to, ≤-from, <-from, ≡-from, znorm, zflat, zfacts, up-*pos, dn-*pos, known}
 
 -- ---- the order
 pub ≤ℤ-trans : {a b c : ℤ} → a ≤ℤ b → b ≤ℤ c → a ≤ℤ c

@@ -1,18 +1,16 @@
 -- What the needs of signed code ask, from orders and equations of ℤ. Assumes nothing.
-use mathlib.Core.Path.{_≡_, refl, sym, ap, subst, subst₂, _∙_}
+use mathlib.Core.Path.{_≡_, refl, sym, ap, subst, _∙_}
 use mathlib.Core.Bool.{Bool, true, false, not}
-use Prim.Native.Nat.{ℕ, zero, suc, _+_, _-_, _*_, _/_, _%_, _≤_, _<_, _^_, min}
-use native.Mathlib.Nat.{div-le-self, div-add-mod', mod-lt, mul-le-mul-left}
+use Prim.Native.Nat.{ℕ, zero, suc, _+_, _*_, _≤_, _<_, _^_}
 use native.Mathlib.Omega.{arith}
 use borrow.Author.Tests.{lt-ltb, le-ltb, ltb-false, ltb-true}
 use lib.Dec.{T, ltb}
-use lib.IntN.{ℤ, pos, negsuc, natAbs, negℤ, _+ℤ_, _-ℤ_, _*ℤ_}
+use lib.IntN.{ℤ, pos, negsuc, natAbs, negℤ, _*ℤ_}
 use lib.Signed.{_≤ℤ_, _<ℤ_, nonNeg, mag}
-use mir.Syntax.{Width, w32, w64}
+use mir.Syntax.{Width, w64}
 use mir.Val.{SFits, Fits, toZ, ofZ, bits, hbits}
-use mir.ValLaws.{sfits-le}
 use mir.Facts.{fits-natAbs}
-use Rattle.integer.specs.Z.{dn, znorm, zflat, zfacts, known, back, ≤-to, <-from, ≡-from, only, up, eq-by, lt-by, v, minus, _⊕_, _⊛_}
+use Rattle.integer.specs.Z.{dn, zfacts, known, back, ≤-to, <-from, up}
 use Rattle.integer.specs.Defs.{checked, checkedU, fitsOr, fitsOrU, isNeg}
 use Rattle.integer.specs.declared.Checked.the-variants as C
 use Rattle.integer.specs.declared.CheckedU.the-variants as U

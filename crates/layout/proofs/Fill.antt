@@ -1,10 +1,10 @@
 -- Lists copied into an array of a fixed length, entry by entry. Assumes nothing.
-use mathlib.Core.Path.{_≡_, refl, ap, sym, _∙_}
-use mathlib.Core.List.{List, [], _∷_, _++_, append-assoc}
+use mathlib.Core.Path.{_≡_, refl}
+use mathlib.Core.List.{List, _++_}
 use Prim.Native.Nat.{ℕ, suc, _+_, _-_, _≤_, _<_}
 use native.Mathlib.Numerals.{add-one}
 use native.Mathlib.Omega.{arith}
-use lib.ListN.{length, take, drop, getD, set, replicate, length-take}
+use lib.ListN.{length, take, getD, set, replicate}
 use lib.Seq.{set-at, take-suc, length-take-le, take-all, append-snoc}
 use Rattle.layout.specs.Layouts.{padded}
 

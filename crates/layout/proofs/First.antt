@@ -1,12 +1,9 @@
 -- Answers in order: a check that refuses is the answer, and one that passes leaves it to those after it. Assumes nothing.
-use mathlib.Core.Path.{_≡_, refl, sym, ap, _∙_}
+use mathlib.Core.Path.{_≡_, refl, sym, _∙_}
 use mathlib.Core.Bool.{Bool, true, false}
-use Prim.Native.Nat.{ℕ}
-use native.Mathlib.Omega.{arith}
 use Rattle.layout.specs.declared.Answer.{Answer}
 use Rattle.layout.specs.declared.Answer.the-variants.{Done, StrideLengthMismatch, RankTooLarge, OffsetOverflow, NonInjectiveOutputLayout, RankMismatch, InvalidAxis, ShapeMismatch, PlanLayoutMismatch, BufferBounds, JobBytes}
 use Rattle.layout.specs.declared.Layout.{Layout}
-use Rattle.layout.specs.declared.MadeLayout.{MadeLayout}
 use Rattle.layout.specs.Answers.{isDone, orElse}
 use Rattle.layout.specs.Layouts.{refusedLayout, madeBy}
 

@@ -1,18 +1,17 @@
 -- A turn of the loops over a layout's axes, by what the call in it returned. Of n axes and an array, those below `min n (length ..)` count. Assumes nothing.
-use mathlib.Core.Path.{_≡_, refl, sym, ap, ap₂, _∙_}
-use mathlib.Core.Bool.{Bool, true, false, _||_}
+use mathlib.Core.Path.{_≡_, refl, sym, ap, _∙_}
+use mathlib.Core.Bool.{true, false, _||_}
 use mathlib.Core.List.{List, [], _∷_}
-use Prim.Native.Nat.{ℕ, zero, suc, _+_, _*_, _-_, _<_, _≤_, _^_, min}
+use Prim.Native.Nat.{ℕ, suc, _+_, _*_, _<_, _≤_, min}
 use native.Mathlib.Numerals.{add-one}
-use native.Mathlib.Nat.{add-assoc, add-zero}
 use native.Mathlib.Omega.{arith}
 use borrow.Author.Tests.{eq-eqb, ne-eqb}
 use lib.Dec.{eqb}
 use lib.ListN.{length, take, drop, getD, length-take, drop-of-length-le}
 use lib.Seq.{drop-cons, getD-take}
 use lib.IntN.{ℤ, pos}
-use Rattle.integer.specs.Defs.{checked, checkedU}
-use Rattle.integer.specs.Machine.{checkedU-yes, checkedU-no, checkedU-fits, checkedU-over}
+use Rattle.integer.specs.Defs.{checkedU}
+use Rattle.integer.specs.Machine.{checkedU-no, checkedU-fits, checkedU-over}
 use Rattle.integer.specs.declared.Checked.{Checked}
 use Rattle.integer.specs.declared.Checked.the-variants as C
 use Rattle.integer.specs.declared.CheckedU.{CheckedU}

@@ -1,16 +1,16 @@
 -- A nested layout gives no two coordinates the same offset. Assumes nothing.
-use mathlib.Core.Path.{_≡_, refl, sym, ap, ap₂, subst, _∙_}
+use mathlib.Core.Path.{_≡_, refl, sym, ap, ap₂, _∙_}
 use mathlib.Core.Logic.{_⊎_, inl, inr, ⊎-elim}
 use mathlib.Core.Bool.{Bool, true, false, cond, _||_, _&&_}
-use mathlib.Core.List.{List, [], _∷_, map}
+use mathlib.Core.List.{List, [], _∷_}
 use Prim.Native.Nat.{ℕ, zero, suc, _+_, _*_, _-_, _<_, _≤_}
 use native.Mathlib.Nat.{mul-le-mul-left, mul-one}
 use native.Mathlib.Omega.{arith}
-use borrow.Author.Tests.{ltb-true, eqb-true, eqb-false}
+use borrow.Author.Tests.{ltb-true, eqb-true}
 use lib.Dec.{eqb, leb, ltb}
 use lib.ListN.{length}
 use lib.IntN.{ℤ, pos, negsuc, negℤ, natAbs, _+ℤ_, _-ℤ_, _*ℤ_, +ℤ-idl, +ℤ-idr, *ℤ-zero}
-use Rattle.integer.specs.Z.{up, dn, up-neg, dn-neg, znorm, zflat, zfacts, zring, abs-is, only, add-is, ≡-to, ≡-from}
+use Rattle.integer.specs.Z.{up-neg, dn-neg, znorm, zflat, zring, abs-is, only, add-is}
 use Rattle.integer.specs.Laws.{+ℤ-ac, +ℤ-left-comm, +ℤ-cancel-r}
 use Rattle.indexing.specs.Coordinates.{dot, Within}
 use Rattle.layout.specs.Nested.{hasZero, longAxes, insert, ordered, exceeds, nested}

@@ -2,17 +2,16 @@
 use mathlib.Core.Path.{_≡_, refl, sym, ap, subst, _∙_}
 use mathlib.Core.Bool.{Bool, true, false, cond, _&&_}
 use mathlib.Core.List.{List, [], _∷_}
-use Prim.Native.Nat.{ℕ, _-_, _<_, _≤_}
+use Prim.Native.Nat.{ℕ, _-_, _<_}
 use native.Mathlib.Omega.{arith}
 use borrow.Author.Tests.{le-leb}
 use lib.ListN.{length}
 use lib.IntN.{ℤ, pos, negsuc, _+ℤ_, _*ℤ_}
-use lib.Signed.{leZ, ltZ, _≤ℤ_, _<ℤ_}
-use Rattle.integer.specs.Z.{up, zfacts, ≤-from, <-from}
+use lib.Signed.{leZ, ltZ, _≤ℤ_}
+use Rattle.integer.specs.Z.{up, zfacts, ≤-from}
 use Rattle.integer.specs.Laws.{≤ℤ-trans, +ℤ-mono, +ℤ-mono-r}
 use Rattle.indexing.specs.Coordinates.{dot, Within}
 use Rattle.indexing.specs.Reach.{belowZero, aboveZero, lowest, highest, dot-low, dot-high}
-use Rattle.layout.specs.declared.Reach.{Reach}
 use Rattle.layout.specs.declared.Reach.the-variants as R
 use Rattle.layout.specs.Nested.{hasZero}
 use Rattle.layout.specs.Reach.{viewReach}

@@ -1,9 +1,9 @@
 -- What an accepted product, span or reset is: the product, the least and the greatest sums, the way back. Assumes nothing.
-use mathlib.Core.Path.{_≡_, refl, sym, ap, ap₂, subst, _∙_}
-use mathlib.Core.Bool.{Bool, true, false, cond}
+use mathlib.Core.Path.{_≡_, refl, sym, ap, subst, _∙_}
+use mathlib.Core.Bool.{Bool, true, false}
 use mathlib.Core.List.{List, [], _∷_}
-use Prim.Native.Nat.{ℕ, zero, suc, _+_, _*_, _-_, _<_, _≤_, _^_}
-use native.Mathlib.Nat.{mul-assoc, mul-one, one-mul}
+use Prim.Native.Nat.{ℕ, zero, suc, _*_, _-_, _≤_}
+use native.Mathlib.Nat.{mul-assoc, one-mul}
 use native.Mathlib.Omega.{arith}
 use lib.ListN.{length}
 use lib.IntN.{ℤ, pos, negsuc, negℤ, _+ℤ_, _*ℤ_, +ℤ-idl, +ℤ-idr, +ℤ-assoc, *ℤ-zero}
@@ -11,7 +11,6 @@ use lib.Signed.{_≤ℤ_}
 use mir.Syntax.{w64}
 use mir.Val.{SFits}
 use mir.Facts.{sfits-lit}
-use borrow.Author.Tests.{ltb-true}
 use Rattle.integer.specs.Defs.{checked, checkedU, isNeg}
 use Rattle.integer.specs.Machine.{checked-fits, checked-sfits, checkedU-fits}
 use Rattle.integer.specs.declared.Checked.{Checked}

@@ -3,9 +3,6 @@ use Rattle.integer.specs.Z.{znorm, zflat, known}
 use borrow.Author.Needs.{needs}
 use Rattle.harbour_cases.proofs.put_i32.Statement.{statement}
 use Rattle.harbour_cases.proofs.put_i32.Tie as tie
-use Rattle.harbour_cases.proofs.put_i32.Reads as reads
-use Rattle.harbour_cases.proofs.put_i32.Lts as lts
-use Rattle.harbour_cases.proofs.put_i64.Reads as put-i64-reads
 
 -- src/main.rt:21:13
 cast-put-i64 : tie.Need-cast-put-i64

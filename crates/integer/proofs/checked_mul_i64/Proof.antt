@@ -13,11 +13,6 @@ use Rattle.integer.specs.declared.CheckedU.the-variants as U
 use borrow.Author.Needs.{needs}
 use Rattle.integer.proofs.checked_mul_i64.Statement.{statement}
 use Rattle.integer.proofs.checked_mul_i64.Tie as tie
-use Rattle.integer.proofs.checked_mul_i64.Reads as reads
-use Rattle.integer.proofs.checked_mul_i64.Lts as lts
-use Rattle.integer.proofs.checked_mul_u64.Reads as checked-mul-u64-reads
-use Rattle.integer.proofs.signed_i64.Reads as signed-i64-reads
-use Rattle.integer.proofs.magnitude_i64.Reads as magnitude-i64-reads
 
 -- src/lib.rt:92:9
 magnitude-i64-requires : tie.Need-magnitude-i64-requires

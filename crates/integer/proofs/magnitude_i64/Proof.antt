@@ -1,7 +1,6 @@
 -- `integer::magnitude_i64` meets its contract. Assumes nothing.
-use mathlib.Core.Path.{_≡_}
 use native.Mathlib.Omega.{arith}
-use lib.IntN.{ℤ, pos, negsuc, _-ℤ_}
+use lib.IntN.{pos, negsuc, _-ℤ_}
 use lib.Signed.{_≤ℤ_, _<ℤ_}
 use mir.Syntax.{w64}
 use mir.Val.{toZ, ofZ}
@@ -9,8 +8,6 @@ use Rattle.integer.specs.Z.{znorm, zflat, zfacts, known}
 use Rattle.integer.specs.Machine.{as-u64, u64-is, abs-neg}
 use Rattle.integer.proofs.magnitude_i64.Statement.{statement}
 use Rattle.integer.proofs.magnitude_i64.Tie as tie
-use Rattle.integer.proofs.magnitude_i64.Reads as reads
-use Rattle.integer.proofs.magnitude_i64.Lts as lts
 
 sub-result : tie.Need-sub-result
 sub-result c = simp znorm (simp zflat (omega (arith, zfacts, known (c .before .fits .a))))

@@ -1,24 +1,13 @@
-use mathlib.Core.Path.{_≡_, refl, sym, ap, ap₂, _∙_}
-use Prim.Native.Nat.{ℕ, zero, suc, _+_, _*_, _-_, _<_, _≤_, zero-le, min}
-use native.Mathlib.Omega.{arith}
-use lib.ListN.{length, take, drop, getD}
-use lib.Dec.{eqb}
-use lib.IntN.{ℤ, pos, natAbs, _+ℤ_, _*ℤ_}
+use mathlib.Core.Path.{ap, ap₂, _∙_}
+use lib.IntN.{_+ℤ_}
 use mir.Syntax.{w64}
-use mir.Val.{SFits, Fits, toZ, ofZ}
-use mir.Facts.{fits-ofZ, sfits-lit}
+use mir.Val.{SFits}
 use borrow.Author.Needs.{needs, sfits-of}
 use Rattle.integer.specs.Z.{back}
-use Rattle.integer.specs.Defs.{checked, checkedU}
-use Rattle.integer.specs.declared.Checked.{Checked}
-use Rattle.integer.specs.declared.CheckedU.{CheckedU}
-use Rattle.layout.specs.Spans.{andThen}
+use Rattle.integer.specs.Defs.{checked}
 use borrow.Author.Needs.{needs}
 use Rattle.layout.proofs.added.Statement.{statement}
 use Rattle.layout.proofs.added.Tie as tie
-use Rattle.layout.proofs.added.Reads as reads
-use Rattle.layout.proofs.added.Lts as lts
-use Rattle.integer.proofs.checked_add_i64.Reads as checked-add-i64-reads
 
 -- src/lib.rt:277:23
 enum-known-x : tie.Need-enum-known-x

@@ -1,11 +1,10 @@
-use mathlib.Core.Path.{_≡_, refl, sym, ap, ap₂, _∙_}
-use mathlib.Core.Bool.{Bool, true, false, _||_}
-use Prim.Native.Nat.{ℕ, _<_, _≤_, _^_, min}
+use mathlib.Core.Path.{_≡_, sym, ap, ap₂, _∙_}
+use Prim.Native.Nat.{ℕ}
 use native.Mathlib.Omega.{arith}
 use borrow.Author.Tests.{eq-eqb, ne-eqb, le-ltb}
 use lib.Dec.{ltb}
-use lib.IntN.{ℤ, pos, natAbs}
-use lib.ListN.{length, take, getD}
+use lib.IntN.{pos, natAbs}
+use lib.ListN.{take, getD}
 use lib.Seq.{getD-take}
 use mir.Syntax.{w64}
 use mir.Val.{SFits, Fits}
@@ -15,10 +14,6 @@ use Rattle.layout.specs.Sums.{othersWeight, axisExceeds}
 use borrow.Author.Needs.{needs}
 use Rattle.layout.proofs.axis_exceeds.Statement.{statement}
 use Rattle.layout.proofs.axis_exceeds.Tie as tie
-use Rattle.layout.proofs.axis_exceeds.Reads as reads
-use Rattle.layout.proofs.axis_exceeds.Lts as lts
-use Rattle.integer.proofs.magnitude_i64.Reads as magnitude-i64-reads
-use Rattle.layout.proofs.others_weight.Reads as others-weight-reads
 
 -- src/lib.rt:547:8
 mul-if1 : tie.Need-mul-if1

@@ -1,28 +1,13 @@
-use mathlib.Core.Path.{_≡_, refl, sym, ap, ap₂, _∙_}
-use Prim.Native.Nat.{ℕ, zero, suc, _+_, _*_, _-_, _<_, _≤_, zero-le}
-use native.Mathlib.Omega.{arith}
-use lib.ListN.{length, take, drop, getD}
-use lib.IntN.{ℤ, pos, negℤ, _+ℤ_, _*ℤ_}
-use mir.Syntax.{w64}
-use mir.Val.{SFits, Fits, toZ, ofZ}
-use mir.Facts.{fits-ofZ, sfits-lit}
-use borrow.Author.Needs.{sfits-of}
-use Rattle.integer.specs.Z.{back, less, not-less}
-use Rattle.integer.specs.Defs.{checked, checkedU, isNeg}
-use Rattle.integer.specs.Machine.{isNeg-yes, isNeg-no}
+use mathlib.Core.Path.{ap, ap₂, _∙_}
+use Prim.Native.Nat.{ℕ}
+use lib.IntN.{ℤ, pos, _*ℤ_}
+use Rattle.integer.specs.Z.{back}
+use Rattle.integer.specs.Defs.{checked}
 use Rattle.integer.specs.declared.Checked.{Checked}
-use Rattle.integer.specs.declared.Checked.the-variants as C
-use Rattle.layout.specs.declared.OffsetSpan.{OffsetSpan}
-use Rattle.layout.specs.declared.OffsetSpan.the-variants as S
-use Rattle.layout.specs.Spans.{andThen, spanOf, widenBy, reachOf, widened, resetOf, totalFrom, totalOf, spanFrom, spanned}
+use Rattle.layout.specs.Spans.{andThen, reachOf}
 use borrow.Author.Needs.{needs}
 use Rattle.layout.proofs.axis_reach.Statement.{statement}
 use Rattle.layout.proofs.axis_reach.Tie as tie
-use Rattle.layout.proofs.axis_reach.Reads as reads
-use Rattle.layout.proofs.axis_reach.Lts as lts
-use Rattle.integer.proofs.u64_to_i64.Reads as u64-to-i64-reads
-use Rattle.layout.proofs.last_coordinate.Reads as last-coordinate-reads
-use Rattle.layout.proofs.scaled.Reads as scaled-reads
 
 last-coordinate-requires : tie.Need-last-coordinate-requires
 last-coordinate-requires c κs = search needs

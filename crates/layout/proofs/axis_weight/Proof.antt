@@ -1,25 +1,12 @@
-use mathlib.Core.Path.{_≡_, refl, sym, ap, ap₂, _∙_}
-use Prim.Native.Nat.{ℕ, zero, suc, _+_, _*_, _-_, _<_, _≤_, zero-le, min}
-use native.Mathlib.Omega.{arith}
-use lib.ListN.{length, take, drop, getD}
-use lib.Dec.{eqb}
-use lib.IntN.{ℤ, pos, natAbs, _+ℤ_, _*ℤ_}
-use mir.Syntax.{w64}
-use mir.Val.{SFits, Fits, toZ, ofZ}
-use mir.Facts.{fits-ofZ, sfits-lit}
-use borrow.Author.Needs.{needs, sfits-of}
+use mathlib.Core.Path.{ap, ap₂, _∙_}
+use Prim.Native.Nat.{_*_}
+use lib.IntN.{natAbs}
+use borrow.Author.Needs.{needs}
 use Rattle.integer.specs.Z.{back}
-use Rattle.integer.specs.Defs.{checked, checkedU}
-use Rattle.integer.specs.declared.Checked.{Checked}
-use Rattle.integer.specs.declared.CheckedU.{CheckedU}
+use Rattle.integer.specs.Defs.{checkedU}
 use borrow.Author.Needs.{needs}
 use Rattle.layout.proofs.axis_weight.Statement.{statement}
 use Rattle.layout.proofs.axis_weight.Tie as tie
-use Rattle.layout.proofs.axis_weight.Reads as reads
-use Rattle.layout.proofs.axis_weight.Lts as lts
-use Rattle.integer.proofs.checked_mul_u64.Reads as checked-mul-u64-reads
-use Rattle.integer.proofs.magnitude_i64.Reads as magnitude-i64-reads
-use Rattle.layout.proofs.last_coordinate.Reads as last-coordinate-reads
 
 -- src/lib.rt:478:9
 magnitude-i64-requires : tie.Need-magnitude-i64-requires

@@ -1,19 +1,9 @@
-use mathlib.Core.Path.{_≡_, refl, sym, ap, ap₂, _∙_}
-use Prim.Native.Nat.{ℕ, _+_, _*_, _-_, _<_, _≤_}
-use native.Mathlib.Omega.{arith}
-use lib.IntN.{ℤ, pos, natAbs}
-use mir.Facts.{sfits-lit}
-use borrow.Author.Tests.{le-leb, lt-leb, lt-ltb, le-ltb}
-use Rattle.integer.specs.Z.{back, less, not-less}
-use Rattle.integer.specs.Defs.{checkedU}
-use Rattle.integer.specs.Machine.{checkedU-yes, isNeg-yes, isNeg-no}
+use mathlib.Core.Path.{sym, _∙_}
+use borrow.Author.Tests.{lt-ltb, le-ltb}
 use Rattle.layout.specs.Sums.{cellsWithin}
 use borrow.Author.Needs.{needs}
 use Rattle.layout.proofs.cells_within.Statement.{statement}
 use Rattle.layout.proofs.cells_within.Tie as tie
-use Rattle.layout.proofs.cells_within.Reads as reads
-use Rattle.layout.proofs.cells_within.Lts as lts
-use Rattle.layout.proofs.sum_with.Reads as sum-with-reads
 
 -- src/lib.rt:631:24
 enum-known-down : tie.Need-enum-known-down

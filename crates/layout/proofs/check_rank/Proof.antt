@@ -1,8 +1,6 @@
 use borrow.Author.Tests.{le-leb, lt-leb}
 use Rattle.layout.proofs.check_rank.Statement.{statement}
 use Rattle.layout.proofs.check_rank.Tie as tie
-use Rattle.layout.proofs.check_rank.Reads as reads
-use Rattle.layout.proofs.check_rank.Lts as lts
 
 -- src/lib.rt:171:1
 returns : tie.Need-returns

@@ -1,8 +1,6 @@
 use borrow.Author.Needs.{needs}
 use Rattle.layout.proofs.check_reach.Statement.{statement}
 use Rattle.layout.proofs.check_reach.Tie as tie
-use Rattle.layout.proofs.check_reach.Reads as reads
-use Rattle.layout.proofs.check_reach.Lts as lts
 
 -- src/lib.rt:680:31
 enum-told : tie.Need-enum-told

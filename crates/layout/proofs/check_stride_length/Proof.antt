@@ -1,8 +1,6 @@
 use borrow.Author.Tests.{eq-eqb, ne-eqb}
 use Rattle.layout.proofs.check_stride_length.Statement.{statement}
 use Rattle.layout.proofs.check_stride_length.Tie as tie
-use Rattle.layout.proofs.check_stride_length.Reads as reads
-use Rattle.layout.proofs.check_stride_length.Lts as lts
 
 -- src/lib.rt:160:1
 returns : tie.Need-returns

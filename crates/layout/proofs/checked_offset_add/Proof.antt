@@ -1,26 +1,13 @@
-use mathlib.Core.Path.{_≡_, refl, sym, ap, ap₂, _∙_}
-use Prim.Native.Nat.{ℕ, zero, suc, _+_, _*_, _-_, _<_, _≤_, zero-le, min}
-use native.Mathlib.Omega.{arith}
-use lib.ListN.{length, take, drop, getD}
-use lib.Dec.{eqb}
-use lib.IntN.{ℤ, pos, natAbs, _+ℤ_, _*ℤ_}
-use mir.Syntax.{w64}
-use mir.Val.{SFits, Fits, toZ, ofZ}
-use mir.Facts.{fits-ofZ, sfits-lit}
-use borrow.Author.Needs.{needs, sfits-of}
+use mathlib.Core.Path.{ap₂, _∙_}
+use lib.IntN.{ℤ, _+ℤ_, _*ℤ_}
+use borrow.Author.Needs.{needs}
 use Rattle.integer.specs.Z.{back}
-use Rattle.integer.specs.Defs.{checked, checkedU}
+use Rattle.integer.specs.Defs.{checked}
 use Rattle.integer.specs.declared.Checked.{Checked}
-use Rattle.integer.specs.declared.CheckedU.{CheckedU}
 use Rattle.layout.specs.Spans.{andThen, offsetAdd}
 use borrow.Author.Needs.{needs}
 use Rattle.layout.proofs.checked_offset_add.Statement.{statement}
 use Rattle.layout.proofs.checked_offset_add.Tie as tie
-use Rattle.layout.proofs.checked_offset_add.Reads as reads
-use Rattle.layout.proofs.checked_offset_add.Lts as lts
-use Rattle.integer.proofs.u64_to_i64.Reads as u64-to-i64-reads
-use Rattle.layout.proofs.added.Reads as added-reads
-use Rattle.layout.proofs.scaled.Reads as scaled-reads
 
 -- src/lib.rt:384:9
 u64-to-i64-requires : tie.Need-u64-to-i64-requires

@@ -1,27 +1,15 @@
-use mathlib.Core.Path.{_≡_, refl, sym, ap, ap₂, _∙_}
-use Prim.Native.Nat.{ℕ, zero, suc, _+_, _*_, _-_, _<_, _≤_, zero-le}
-use native.Mathlib.Omega.{arith}
-use lib.ListN.{length, take, drop, getD}
-use lib.IntN.{ℤ, pos, negℤ, _+ℤ_, _*ℤ_}
-use mir.Syntax.{w64}
-use mir.Val.{SFits, Fits, toZ, ofZ}
-use mir.Facts.{fits-ofZ, sfits-lit}
-use borrow.Author.Needs.{sfits-of}
-use Rattle.integer.specs.Z.{back, less, not-less}
-use Rattle.integer.specs.Defs.{checked, checkedU, isNeg}
-use Rattle.integer.specs.Machine.{isNeg-yes, isNeg-no}
+use mathlib.Core.Path.{_≡_, refl, ap, _∙_}
+use Prim.Native.Nat.{ℕ, zero, suc}
+use lib.IntN.{ℤ, pos, negℤ}
+use mir.Val.{Fits}
+use Rattle.integer.specs.Z.{back}
+use Rattle.integer.specs.Defs.{checked}
 use Rattle.integer.specs.declared.Checked.{Checked}
 use Rattle.integer.specs.declared.Checked.the-variants as C
-use Rattle.layout.specs.declared.OffsetSpan.{OffsetSpan}
-use Rattle.layout.specs.declared.OffsetSpan.the-variants as S
-use Rattle.layout.specs.Spans.{andThen, spanOf, widenBy, reachOf, widened, resetOf, totalFrom, totalOf, spanFrom, spanned}
+use Rattle.layout.specs.Spans.{andThen, reachOf, resetOf}
 use borrow.Author.Needs.{needs}
 use Rattle.layout.proofs.checked_replay_reset.Statement.{statement}
 use Rattle.layout.proofs.checked_replay_reset.Tie as tie
-use Rattle.layout.proofs.checked_replay_reset.Reads as reads
-use Rattle.layout.proofs.checked_replay_reset.Lts as lts
-use Rattle.layout.proofs.negated.Reads as negated-reads
-use Rattle.layout.proofs.axis_reach.Reads as axis-reach-reads
 
 is-zero : (n : ℕ) (s : ℤ) → n ≡ 0 → C.Fits (pos 0) ≡ resetOf n s
 unfolding resetOf

@@ -1,21 +1,17 @@
-use mathlib.Core.Path.{_≡_, refl, sym, ap, ap₂, _∙_}
-use Prim.Native.Nat.{ℕ, zero, suc, _+_, _*_, _-_, _<_, _≤_, zero-le, min}
+use mathlib.Core.Path.{_≡_, refl, ap, _∙_}
+use Prim.Native.Nat.{_+_, _-_, _≤_, zero-le}
 use native.Mathlib.Omega.{arith}
 use lib.ListN.{length, take, drop, getD}
-use lib.IntN.{ℤ, pos, natAbs, _+ℤ_, _*ℤ_}
+use lib.IntN.{ℤ, pos}
 use mir.Syntax.{w64}
-use mir.Val.{SFits, Fits, toZ, ofZ}
-use mir.Facts.{fits-ofZ, sfits-lit}
+use mir.Val.{SFits, Fits, toZ}
+use mir.Facts.{fits-ofZ}
 use borrow.Author.Needs.{needs, sfits-of}
 use Rattle.integer.specs.Z.{back}
 use Rattle.layout.specs.Spans.{offsetAdd, stridedOffset}
 use Rattle.layout.proofs.Turns.{offset-over, offset-next, offset-done}
 use Rattle.layout.proofs.checked_strided_offset.Statement.{statement}
 use Rattle.layout.proofs.checked_strided_offset.Tie as tie
-use Rattle.layout.proofs.checked_strided_offset.Reads as reads
-use Rattle.layout.proofs.checked_strided_offset.Lts as lts
-use Rattle.layout.proofs.axis_count.Reads as axis-count-reads
-use Rattle.layout.proofs.checked_offset_add.Reads as checked-offset-add-reads
 
 abbrev Inv-loop : tie.InvT-loop
 Inv-loop base rank strides index n offset₀ i₀ offset i =

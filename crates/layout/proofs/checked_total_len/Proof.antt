@@ -1,28 +1,12 @@
-use mathlib.Core.Path.{_≡_, refl, sym, ap, ap₂, _∙_}
-use Prim.Native.Nat.{ℕ, zero, suc, _+_, _*_, _-_, _<_, _≤_, zero-le}
+use mathlib.Core.Path.{_≡_, refl, _∙_}
+use Prim.Native.Nat.{_-_, _≤_, zero-le}
 use native.Mathlib.Omega.{arith}
-use lib.ListN.{length, take, drop, getD}
-use lib.IntN.{ℤ, pos, negℤ, _+ℤ_, _*ℤ_}
-use mir.Syntax.{w64}
-use mir.Val.{SFits, Fits, toZ, ofZ}
-use mir.Facts.{fits-ofZ, sfits-lit}
-use borrow.Author.Needs.{sfits-of}
-use Rattle.integer.specs.Z.{back, less, not-less}
-use Rattle.integer.specs.Defs.{checked, checkedU, isNeg}
-use Rattle.integer.specs.Machine.{isNeg-yes, isNeg-no}
-use Rattle.integer.specs.declared.Checked.{Checked}
-use Rattle.integer.specs.declared.Checked.the-variants as C
-use Rattle.layout.specs.declared.OffsetSpan.{OffsetSpan}
-use Rattle.layout.specs.declared.OffsetSpan.the-variants as S
-use Rattle.layout.specs.Spans.{andThen, spanOf, widenBy, reachOf, widened, resetOf, totalFrom, totalOf, spanFrom, spanned}
+use lib.ListN.{length, take, drop}
+use Rattle.layout.specs.Spans.{totalFrom, totalOf}
 use borrow.Author.Needs.{needs}
 use Rattle.layout.proofs.Turns.{total-over, total-next, total-done}
 use Rattle.layout.proofs.checked_total_len.Statement.{statement}
 use Rattle.layout.proofs.checked_total_len.Tie as tie
-use Rattle.layout.proofs.checked_total_len.Reads as reads
-use Rattle.layout.proofs.checked_total_len.Lts as lts
-use Rattle.layout.proofs.axis_count.Reads as axis-count-reads
-use Rattle.integer.proofs.checked_mul_u64.Reads as checked-mul-u64-reads
 
 abbrev Inv-loop : tie.InvT-loop
 Inv-loop rank extents n acc₀ i₀ acc i = (i ≤ n) × (totalFrom acc (drop i (take rank extents)) ≡ totalOf (take rank extents))

@@ -7,8 +7,6 @@ use Rattle.indexing.specs.Start.{clamp}
 use Rattle.integer.specs.Machine.{as-u64}
 use Rattle.layout.proofs.clamp_window_start.Statement.{statement}
 use Rattle.layout.proofs.clamp_window_start.Tie as tie
-use Rattle.layout.proofs.clamp_window_start.Reads as reads
-use Rattle.layout.proofs.clamp_window_start.Lts as lts
 
 above : (c : tie.Else1) → pos 0 ≤ℤ c .before .args .start
 above c = simp znorm (simp zflat (omega (arith, zfacts, known (c .before .fits .start))))

@@ -1,24 +1,12 @@
-use mathlib.Core.Path.{_≡_, refl, sym, ap, ap₂, _∙_}
-use Prim.Native.Nat.{ℕ, zero, suc, _+_, _*_, _-_, _<_, _≤_, zero-le, min}
+use mathlib.Core.Path.{_≡_, refl, _∙_}
+use Prim.Native.Nat.{_-_, _≤_, zero-le}
 use native.Mathlib.Omega.{arith}
-use lib.ListN.{length, take, drop, getD}
-use lib.Dec.{eqb}
-use lib.IntN.{ℤ, pos, natAbs, _+ℤ_, _*ℤ_}
-use mir.Syntax.{w64}
-use mir.Val.{SFits, Fits, toZ, ofZ}
-use mir.Facts.{fits-ofZ, sfits-lit}
-use borrow.Author.Needs.{needs, sfits-of}
-use Rattle.integer.specs.Z.{back}
-use Rattle.integer.specs.Defs.{checked, checkedU}
-use Rattle.integer.specs.declared.Checked.{Checked}
-use Rattle.integer.specs.declared.CheckedU.{CheckedU}
+use lib.ListN.{length, take, drop}
+use borrow.Author.Needs.{needs}
 use Rattle.layout.specs.Nested.{hasZero}
 use Rattle.layout.proofs.Turns.{zero-here, zero-next, zero-none}
 use Rattle.layout.proofs.has_zero.Statement.{statement}
 use Rattle.layout.proofs.has_zero.Tie as tie
-use Rattle.layout.proofs.has_zero.Reads as reads
-use Rattle.layout.proofs.has_zero.Lts as lts
-use Rattle.layout.proofs.axis_count.Reads as axis-count-reads
 
 abbrev Inv-loop : tie.InvT-loop
 Inv-loop rank extents n i₀ i = (i ≤ n) × (hasZero (drop i (take rank extents)) ≡ hasZero (take rank extents))

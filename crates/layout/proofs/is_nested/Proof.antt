@@ -1,5 +1,5 @@
-use mathlib.Core.Path.{_≡_, refl, sym, ap, ap₂, _∙_}
-use Prim.Native.Nat.{ℕ, _-_, _<_, _≤_, zero-le, min}
+use mathlib.Core.Path.{_≡_, sym, ap, _∙_}
+use Prim.Native.Nat.{ℕ, _-_, _≤_, zero-le}
 use native.Mathlib.Omega.{arith}
 use borrow.Author.Needs.{needs}
 use borrow.Author.Tests.{not-true, not-false}
@@ -8,11 +8,6 @@ use Rattle.layout.specs.Nested.{nested}
 use Rattle.layout.proofs.Apart.{exceedsFrom, tests-are, from-no, from-yes, from-end, zero-nested}
 use Rattle.layout.proofs.is_nested.Statement.{statement}
 use Rattle.layout.proofs.is_nested.Tie as tie
-use Rattle.layout.proofs.is_nested.Reads as reads
-use Rattle.layout.proofs.is_nested.Lts as lts
-use Rattle.layout.proofs.axis_count.Reads as axis-count-reads
-use Rattle.layout.proofs.axis_exceeds.Reads as axis-exceeds-reads
-use Rattle.layout.proofs.has_zero.Reads as has-zero-reads
 
 abbrev Inv-loop : tie.InvT-loop
 Inv-loop extents strides rank n i₀ i = (i ≤ n) × (exceedsFrom (n - i) i (take rank extents) (take rank strides) ≡ nested (take rank extents) (take rank strides))

@@ -1,21 +1,10 @@
-use mathlib.Core.Path.{_≡_, refl, sym, ap, ap₂, _∙_}
+use mathlib.Core.Path.{_∙_}
 use borrow.Author.Tests.{not-true, not-false}
-use mathlib.Core.List.{List}
-use Prim.Native.Nat.{ℕ}
-use lib.IntN.{ℤ}
-use Rattle.layout.specs.Layouts.{layoutFrom, layoutOf}
+use Rattle.layout.specs.Layouts.{layoutFrom}
 use Rattle.layout.proofs.First.{first-refuses, second-refuses, both-pass}
 use borrow.Author.Needs.{needs}
 use Rattle.layout.proofs.make_layout.Statement.{statement}
 use Rattle.layout.proofs.make_layout.Tie as tie
-use Rattle.layout.proofs.make_layout.Reads as reads
-use Rattle.layout.proofs.make_layout.Lts as lts
-use Rattle.layout.proofs.check_rank.Reads as check-rank-reads
-use Rattle.layout.proofs.check_stride_length.Reads as check-stride-length-reads
-use Rattle.layout.proofs.is_done.Reads as is-done-reads
-use Rattle.layout.proofs.padded_extents.Reads as padded-extents-reads
-use Rattle.layout.proofs.padded_strides.Reads as padded-strides-reads
-use Rattle.layout.proofs.refused_layout.Reads as refused-layout-reads
 
 -- src/lib.rt:201:9
 check-stride-length-requires : tie.Need-check-stride-length-requires

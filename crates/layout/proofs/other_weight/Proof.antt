@@ -1,19 +1,14 @@
-use mathlib.Core.Path.{_≡_, refl, sym, ap, ap₂, _∙_}
-use Prim.Native.Nat.{ℕ, _+_, _*_, _-_, _<_, _≤_}
+use mathlib.Core.Path.{_≡_, ap, _∙_}
+use Prim.Native.Nat.{_*_, _-_}
 use native.Mathlib.Omega.{arith}
-use lib.IntN.{ℤ, pos, natAbs}
-use mir.Facts.{sfits-lit}
-use borrow.Author.Tests.{le-leb, lt-leb, lt-ltb, le-ltb}
-use Rattle.integer.specs.Z.{back, less, not-less}
+use lib.IntN.{ℤ, natAbs}
+use borrow.Author.Tests.{le-leb, lt-leb}
+use Rattle.integer.specs.Z.{back}
 use Rattle.integer.specs.Defs.{checkedU}
-use Rattle.integer.specs.Machine.{checkedU-yes, isNeg-yes, isNeg-no}
+use Rattle.integer.specs.Machine.{checkedU-yes}
 use borrow.Author.Needs.{needs}
 use Rattle.layout.proofs.other_weight.Statement.{statement}
 use Rattle.layout.proofs.other_weight.Tie as tie
-use Rattle.layout.proofs.other_weight.Reads as reads
-use Rattle.layout.proofs.other_weight.Lts as lts
-use Rattle.integer.proofs.magnitude_i64.Reads as magnitude-i64-reads
-use Rattle.layout.proofs.axis_weight.Reads as axis-weight-reads
 
 -- src/lib.rt:490:13
 magnitude-i64-requires : tie.Need-magnitude-i64-requires

@@ -1,29 +1,21 @@
-use mathlib.Core.Path.{_≡_, refl, sym, ap, ap₂, _∙_}
-use Prim.Native.Nat.{ℕ, zero, suc, _+_, _*_, _-_, _<_, _≤_, zero-le, min, _^_}
+use mathlib.Core.Path.{_≡_, sym, ap, _∙_}
+use Prim.Native.Nat.{_+_, _-_, _<_, _≤_, zero-le, _^_}
 use native.Mathlib.Omega.{arith}
 use lib.ListN.{length, take, drop, getD}
 use lib.Dec.{eqb}
-use lib.IntN.{ℤ, pos, natAbs, _+ℤ_, _*ℤ_}
+use lib.IntN.{ℤ, pos}
 use mir.Syntax.{w64}
-use mir.Val.{SFits, Fits, toZ, ofZ}
-use mir.Facts.{fits-ofZ, sfits-lit}
-use borrow.Author.Needs.{needs, sfits-of}
+use mir.Val.{SFits}
+use borrow.Author.Needs.{needs}
 use Rattle.integer.specs.Z.{back}
-use Rattle.integer.specs.Defs.{checked, checkedU}
+use Rattle.integer.specs.Defs.{checkedU}
 use Rattle.integer.specs.Machine.{checkedU-is, checkedU-below, checkedU-fits}
-use Rattle.integer.specs.declared.Checked.{Checked}
 use Rattle.integer.specs.declared.CheckedU.{CheckedU}
 use Rattle.layout.specs.Spans.{andThenU}
 use Rattle.layout.specs.Sums.{sumAxes, otherAt, otherWeight, othersWeight}
 use Rattle.layout.proofs.Turns.{sum-checked, sum-over, sum-next, sum-done}
-use mathlib.Core.Bool.{true, false}
 use Rattle.layout.proofs.others_weight.Statement.{statement}
 use Rattle.layout.proofs.others_weight.Tie as tie
-use Rattle.layout.proofs.others_weight.Reads as reads
-use Rattle.layout.proofs.others_weight.Lts as lts
-use Rattle.layout.proofs.axis_count.Reads as axis-count-reads
-use Rattle.layout.proofs.other_weight.Reads as other-weight-reads
-use Rattle.layout.proofs.sum_with.Reads as sum-with-reads
 
 abbrev Inv-loop : tie.InvT-loop
 Inv-loop rank axis limit extents strides n sum₀ i₀ sum i = (i ≤ n) × (sum < 2 ^ 64) × (sum + sumAxes (otherAt (limit) (axis)) i (drop i (take rank extents)) (drop i (take rank strides)) ≡ othersWeight (limit) (axis) (take rank extents) (take rank strides))

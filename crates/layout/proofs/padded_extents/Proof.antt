@@ -1,16 +1,13 @@
 use borrow.Author.Tests.{ltb-true, ltb-false}
 use borrow.Author.Needs.{needs}
-use Prim.Native.Nat.{ℕ, _≤_, _<_, _-_, _+_}
-use mathlib.Core.Path.{_≡_, refl, sym, _∙_, ap}
+use Prim.Native.Nat.{ℕ, _≤_, _-_}
+use mathlib.Core.Path.{_≡_, refl, _∙_, ap}
 use mathlib.Core.List.{List, _++_}
 use native.Mathlib.Omega.{arith}
 use lib.ListN.{length, take, getD, replicate, set}
-use lib.IntN.{pos}
-use Rattle.layout.proofs.Fill.{fill-one, fill-none, fill-short, fill-full}
+use Rattle.layout.proofs.Fill.{fill-one, fill-short, fill-full}
 use Rattle.layout.proofs.padded_extents.Statement.{statement}
 use Rattle.layout.proofs.padded_extents.Tie as tie
-use Rattle.layout.proofs.padded_extents.Reads as reads
-use Rattle.layout.proofs.padded_extents.Lts as lts
 
 abbrev Inv-loop : tie.InvT-loop
 Inv-loop extents out₀ i₀ out i = (i ≤ length extents) × (i ≤ 8) × (out ≡ take i extents ++ replicate (8 - i) 1)

@@ -2,17 +2,15 @@ use mir.Syntax.{w64}
 use mir.Facts.{toZ-ofZ}
 use borrow.Author.Tests.{ltb-true, ltb-false}
 use borrow.Author.Needs.{needs}
-use Prim.Native.Nat.{ℕ, _≤_, _<_, _-_, _+_}
-use mathlib.Core.Path.{_≡_, refl, sym, _∙_, ap}
-use mathlib.Core.List.{List, _++_}
+use Prim.Native.Nat.{_≤_, _-_}
+use mathlib.Core.Path.{_≡_, refl, _∙_}
+use mathlib.Core.List.{_++_}
 use native.Mathlib.Omega.{arith}
-use lib.ListN.{length, take, getD, replicate, set}
+use lib.ListN.{length, take, replicate}
 use lib.IntN.{pos}
-use Rattle.layout.proofs.Fill.{fill-one, fill-none, fill-short, fill-full}
+use Rattle.layout.proofs.Fill.{fill-one, fill-short, fill-full}
 use Rattle.layout.proofs.padded_strides.Statement.{statement}
 use Rattle.layout.proofs.padded_strides.Tie as tie
-use Rattle.layout.proofs.padded_strides.Reads as reads
-use Rattle.layout.proofs.padded_strides.Lts as lts
 
 abbrev Inv-loop : tie.InvT-loop
 Inv-loop strides out₀ i₀ out i = (i ≤ length strides) × (i ≤ 8) × (out ≡ take i strides ++ replicate (8 - i) (pos 0))

@@ -1,26 +1,13 @@
-use mathlib.Core.Path.{_≡_, refl, sym, ap, ap₂, _∙_}
-use Prim.Native.Nat.{ℕ, zero, suc, _+_, _*_, _-_, _<_, _≤_, zero-le}
-use native.Mathlib.Omega.{arith}
-use lib.ListN.{length, take, drop, getD}
-use lib.IntN.{ℤ, pos, negℤ, _+ℤ_, _*ℤ_}
+use mathlib.Core.Path.{ap, ap₂, _∙_}
+use lib.IntN.{_*ℤ_}
 use mir.Syntax.{w64}
-use mir.Val.{SFits, Fits, toZ, ofZ}
-use mir.Facts.{fits-ofZ, sfits-lit}
+use mir.Val.{SFits}
 use borrow.Author.Needs.{sfits-of}
-use Rattle.integer.specs.Z.{back, less, not-less}
-use Rattle.integer.specs.Defs.{checked, checkedU, isNeg}
-use Rattle.integer.specs.Machine.{isNeg-yes, isNeg-no}
-use Rattle.integer.specs.declared.Checked.{Checked}
-use Rattle.integer.specs.declared.Checked.the-variants as C
-use Rattle.layout.specs.declared.OffsetSpan.{OffsetSpan}
-use Rattle.layout.specs.declared.OffsetSpan.the-variants as S
-use Rattle.layout.specs.Spans.{andThen, spanOf, widenBy, reachOf, widened, resetOf, totalFrom, totalOf, spanFrom, spanned}
+use Rattle.integer.specs.Z.{back}
+use Rattle.integer.specs.Defs.{checked}
 use borrow.Author.Needs.{needs}
 use Rattle.layout.proofs.scaled.Statement.{statement}
 use Rattle.layout.proofs.scaled.Tie as tie
-use Rattle.layout.proofs.scaled.Reads as reads
-use Rattle.layout.proofs.scaled.Lts as lts
-use Rattle.integer.proofs.checked_mul_i64.Reads as checked-mul-i64-reads
 
 enum-known-x : tie.Need-enum-known-x
 enum-known-x c = search needs

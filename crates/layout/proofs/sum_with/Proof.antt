@@ -1,23 +1,7 @@
-use mathlib.Core.Path.{_≡_, refl, sym, ap, ap₂, _∙_}
-use Prim.Native.Nat.{ℕ, zero, suc, _+_, _*_, _-_, _<_, _≤_, zero-le, min}
-use native.Mathlib.Omega.{arith}
-use lib.ListN.{length, take, drop, getD}
-use lib.Dec.{eqb}
-use lib.IntN.{ℤ, pos, natAbs, _+ℤ_, _*ℤ_}
-use mir.Syntax.{w64}
-use mir.Val.{SFits, Fits, toZ, ofZ}
-use mir.Facts.{fits-ofZ, sfits-lit}
-use borrow.Author.Needs.{needs, sfits-of}
-use Rattle.integer.specs.Z.{back}
-use Rattle.integer.specs.Defs.{checked, checkedU}
-use Rattle.integer.specs.declared.Checked.{Checked}
-use Rattle.integer.specs.declared.CheckedU.{CheckedU}
+use borrow.Author.Needs.{needs}
 use borrow.Author.Needs.{needs}
 use Rattle.layout.proofs.sum_with.Statement.{statement}
 use Rattle.layout.proofs.sum_with.Tie as tie
-use Rattle.layout.proofs.sum_with.Reads as reads
-use Rattle.layout.proofs.sum_with.Lts as lts
-use Rattle.integer.proofs.checked_add_u64.Reads as checked-add-u64-reads
 
 -- src/lib.rt:503:24
 enum-known-x : tie.Need-enum-known-x

@@ -1,27 +1,18 @@
-use mathlib.Core.Path.{_≡_, refl, sym, ap, ap₂, _∙_}
-use Prim.Native.Nat.{ℕ, zero, suc, _+_, _*_, _-_, _<_, _≤_, zero-le}
+use mathlib.Core.Path.{_≡_, refl, ap, ap₂, _∙_}
+use Prim.Native.Nat.{_+_, _-_, _≤_, zero-le}
 use native.Mathlib.Omega.{arith}
 use lib.ListN.{length, take, drop, getD}
-use lib.IntN.{ℤ, pos, negℤ, _+ℤ_, _*ℤ_}
+use lib.IntN.{ℤ, pos}
 use mir.Syntax.{w64}
-use mir.Val.{SFits, Fits, toZ, ofZ}
+use mir.Val.{SFits, Fits, toZ}
 use mir.Facts.{fits-ofZ, sfits-lit}
 use borrow.Author.Needs.{sfits-of}
-use Rattle.integer.specs.Z.{back, less, not-less}
-use Rattle.integer.specs.Defs.{checked, checkedU, isNeg}
-use Rattle.integer.specs.Machine.{isNeg-yes, isNeg-no}
-use Rattle.integer.specs.declared.Checked.{Checked}
-use Rattle.integer.specs.declared.Checked.the-variants as C
-use Rattle.layout.specs.declared.OffsetSpan.{OffsetSpan}
-use Rattle.layout.specs.declared.OffsetSpan.the-variants as S
-use Rattle.layout.specs.Spans.{andThen, spanOf, widenBy, reachOf, widened, resetOf, totalFrom, totalOf, spanFrom, spanned}
+use Rattle.integer.specs.Z.{back}
+use Rattle.layout.specs.Spans.{widened, spanFrom, spanned}
 use borrow.Author.Needs.{needs}
 use Rattle.layout.proofs.Turns.{span-over, span-next, span-done}
 use Rattle.layout.proofs.validate_layout_span.Statement.{statement}
 use Rattle.layout.proofs.validate_layout_span.Tie as tie
-use Rattle.layout.proofs.validate_layout_span.Reads as reads
-use Rattle.layout.proofs.validate_layout_span.Lts as lts
-use Rattle.layout.proofs.widen.Reads as widen-reads
 
 abbrev Inv-loop : tie.InvT-loop
 Inv-loop rank extents strides n low₀ high₀ i₀ low high i =

@@ -1,8 +1,8 @@
 use borrow.Author.Needs.{needs}
-use Prim.Native.Nat.{ℕ, _≤_, _<_, _-_, _+_}
-use mathlib.Core.Path.{_≡_, refl, sym, _∙_, ap}
+use Prim.Native.Nat.{_≤_, _-_}
+use mathlib.Core.Path.{_≡_, refl, sym, _∙_}
 use mathlib.Core.Bool.{false}
-use mathlib.Core.List.{List, []}
+use mathlib.Core.List.{[]}
 use native.Mathlib.Omega.{arith}
 use lib.ListN.{length, getD, take}
 use Rattle.indexing.specs.Coordinates.{has}
@@ -10,8 +10,6 @@ use Rattle.layout.specs.Lists.{uniqueAxes}
 use Rattle.layout.proofs.Unique.{restAt, at-start, at-end, at-large, at-again, at-next, has-none, has-found}
 use Rattle.layout.proofs.validate_unique_axes.Statement.{statement}
 use Rattle.layout.proofs.validate_unique_axes.Tie as tie
-use Rattle.layout.proofs.validate_unique_axes.Reads as reads
-use Rattle.layout.proofs.validate_unique_axes.Lts as lts
 
 abbrev Inv-loop : tie.InvT-loop
 Inv-loop axes rank i a j₀ j = (j ≤ i) × (has (take j axes) a ≡ false)

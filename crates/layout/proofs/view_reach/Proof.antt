@@ -1,29 +1,18 @@
-use mathlib.Core.Path.{_≡_, refl, sym, ap, ap₂, subst, _∙_}
-use mathlib.Core.Bool.{true, false}
-use Prim.Native.Nat.{ℕ, _<_, _≤_, _^_}
-use native.Mathlib.Omega.{arith}
-use lib.ListN.{take}
+use mathlib.Core.Path.{sym, ap, ap₂, _∙_}
 use lib.IntN.{ℤ, pos, natAbs}
-use lib.Signed.{_≤ℤ_}
 use mir.Syntax.{w64}
-use mir.Val.{SFits, Fits, toZ, ofZ}
+use mir.Val.{SFits, toZ, ofZ}
 use mir.Facts.{sfits-lit}
 use Rattle.integer.specs.Z.{less, not-less}
-use Rattle.integer.specs.Defs.{checkedU}
 use Rattle.integer.specs.Machine.{as-u64, u64-is}
 use Rattle.integer.specs.declared.CheckedU.{CheckedU}
 use Rattle.layout.specs.Layouts.{extentsOf, stridesOf}
-use Rattle.layout.specs.Sums.{sideReach, cellsWithin}
+use Rattle.layout.specs.Sums.{cellsWithin}
 use Rattle.layout.specs.Reach.{viewReach}
 use Rattle.layout.proofs.Ends.{cells-are, negative-outside, none-inside, none-outside}
 use borrow.Author.Needs.{needs}
 use Rattle.layout.proofs.view_reach.Statement.{statement}
 use Rattle.layout.proofs.view_reach.Tie as tie
-use Rattle.layout.proofs.view_reach.Reads as reads
-use Rattle.layout.proofs.view_reach.Lts as lts
-use Rattle.layout.proofs.cells_within.Reads as cells-within-reads
-use Rattle.layout.proofs.has_zero.Reads as has-zero-reads
-use Rattle.layout.proofs.side_reach.Reads as side-reach-reads
 
 -- src/lib.rt:661:9
 returns : tie.Need-returns

@@ -1,30 +1,21 @@
-use mathlib.Core.Bool.{Bool, true, false}
-use mathlib.Core.Path.{_≡_, refl, sym, ap, ap₂, _∙_}
-use Prim.Native.Nat.{ℕ, zero, suc, _+_, _*_, _-_, _<_, _≤_, zero-le}
-use native.Mathlib.Omega.{arith}
-use lib.ListN.{length, take, drop, getD}
-use lib.IntN.{ℤ, pos, negℤ, _+ℤ_, _*ℤ_}
+use mathlib.Core.Bool.{true, false}
+use mathlib.Core.Path.{_≡_, sym, ap, ap₂, _∙_}
+use Prim.Native.Nat.{ℕ}
+use lib.IntN.{ℤ, pos, _+ℤ_}
 use mir.Syntax.{w64}
-use mir.Val.{SFits, Fits, toZ, ofZ}
-use mir.Facts.{fits-ofZ, sfits-lit}
+use mir.Val.{SFits, Fits}
+use mir.Facts.{sfits-lit}
 use borrow.Author.Needs.{sfits-of}
 use Rattle.integer.specs.Z.{back, less, not-less}
-use Rattle.integer.specs.Defs.{checked, checkedU, isNeg}
+use Rattle.integer.specs.Defs.{checked, isNeg}
 use Rattle.integer.specs.Machine.{isNeg-yes, isNeg-no}
 use Rattle.integer.specs.declared.Checked.{Checked}
 use Rattle.integer.specs.declared.Checked.the-variants as C
-use Rattle.layout.specs.declared.OffsetSpan.{OffsetSpan}
 use Rattle.layout.specs.declared.OffsetSpan.the-variants as S
-use Rattle.layout.specs.Spans.{andThen, spanOf, widenBy, reachOf, widened, resetOf, totalFrom, totalOf, spanFrom, spanned}
+use Rattle.layout.specs.Spans.{spanOf, reachOf, widened}
 use borrow.Author.Needs.{needs}
 use Rattle.layout.proofs.widen.Statement.{statement}
 use Rattle.layout.proofs.widen.Tie as tie
-use Rattle.layout.proofs.widen.Reads as reads
-use Rattle.layout.proofs.widen.Lts as lts
-use Rattle.integer.proofs.checked_add_i64.Reads as checked-add-i64-reads
-use Rattle.layout.proofs.axis_reach.Reads as axis-reach-reads
-use Rattle.layout.proofs.with_high.Reads as with-high-reads
-use Rattle.layout.proofs.with_low.Reads as with-low-reads
 
 -- what the axis reaches, and to which side
 below : (low high : ℤ) (d : ℕ) (s e : ℤ) → reachOf d s ≡ C.Fits e → isNeg e ≡ true → spanOf (checked (low +ℤ e)) (λ l. S.Fits l high) ≡ widened low high d s

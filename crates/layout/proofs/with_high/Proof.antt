@@ -1,25 +1,12 @@
-use mathlib.Core.Path.{_≡_, refl, sym, ap, ap₂, _∙_}
-use Prim.Native.Nat.{ℕ, zero, suc, _+_, _*_, _-_, _<_, _≤_, zero-le}
-use native.Mathlib.Omega.{arith}
-use lib.ListN.{length, take, drop, getD}
-use lib.IntN.{ℤ, pos, negℤ, _+ℤ_, _*ℤ_}
+use mathlib.Core.Path.{ap₂}
 use mir.Syntax.{w64}
-use mir.Val.{SFits, Fits, toZ, ofZ}
-use mir.Facts.{fits-ofZ, sfits-lit}
+use mir.Val.{SFits, Fits}
 use borrow.Author.Needs.{sfits-of}
-use Rattle.integer.specs.Z.{back, less, not-less}
-use Rattle.integer.specs.Defs.{checked, checkedU, isNeg}
-use Rattle.integer.specs.Machine.{isNeg-yes, isNeg-no}
-use Rattle.integer.specs.declared.Checked.{Checked}
-use Rattle.integer.specs.declared.Checked.the-variants as C
-use Rattle.layout.specs.declared.OffsetSpan.{OffsetSpan}
+use Rattle.integer.specs.Z.{back}
 use Rattle.layout.specs.declared.OffsetSpan.the-variants as S
-use Rattle.layout.specs.Spans.{andThen, spanOf, widenBy, reachOf, widened, resetOf, totalFrom, totalOf, spanFrom, spanned}
 use borrow.Author.Needs.{needs}
 use Rattle.layout.proofs.with_high.Statement.{statement}
 use Rattle.layout.proofs.with_high.Tie as tie
-use Rattle.layout.proofs.with_high.Reads as reads
-use Rattle.layout.proofs.with_high.Lts as lts
 
 enum-known-x : tie.Need-enum-known-x
 enum-known-x c = search needs
