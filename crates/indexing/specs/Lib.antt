@@ -15,11 +15,14 @@ pub mod Demand3
 pub mod Cells
 pub mod Whole
 pub mod Exact
+pub mod Sign
+pub mod Nan
 -- places as the sums that a walk makes, and that they are inside their views
 pub mod Linear
 pub mod Axes
 pub mod Steps
 pub mod Valid
+pub mod Met
 pub mod Bounds
 pub mod Places
 -- the walk: its successor, fusion of axes, the least and the greatest offset
