@@ -7,25 +7,30 @@ pub mod Gather
 pub mod Scatter
 -- what it gives in the papers' own cases
 pub mod Examples
--- demand 3, and what one element holds at the end
+-- what one element holds at the end, and demand 3
 pub mod Cuts
-pub mod Parts
 pub mod Sums
-pub mod Demand3
 pub mod Cells
+pub mod Demand3
+-- the same of f64: exact sums, the sign of zero, NaN and infinities
 pub mod Whole
 pub mod Exact
 pub mod Sign
 pub mod Nan
--- places as the sums that a walk makes, and that they are inside their views
-pub mod Linear
-pub mod Axes
-pub mod Steps
-pub mod Valid
-pub mod Met
-pub mod Bounds
-pub mod Places
--- the walk: its successor, fusion of axes, the least and the greatest offset
+-- the walk: a linear index and its coordinate, the successor, fusion of axes, the least and the greatest offset
 pub mod Odometer
+pub mod Linear
 pub mod Reach
 pub mod Fusion
+-- places as the sums that a walk makes
+pub mod Axes
+pub mod Steps
+-- what compile has tested, and what follows: coordinates inside their views, each update once, places as indexes
+pub mod Valid
+pub mod Met
+pub mod Inside
+pub mod Bounds
+pub mod Once
+pub mod Places
+-- a part of the slice lent on
+pub mod Parts

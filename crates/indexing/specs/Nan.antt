@@ -1,13 +1,13 @@
 -- NaN and infinities in f64 sums: when one add gives a NaN, what becomes of a NaN and of an infinity, and what an element then holds. Which NaN it is,
 -- is left open. Assumes nothing.
-use mathlib.Core.Path.{_≡_, refl, sym, ap, _∙_}
+use mathlib.Core.Path.{_≡_, refl, ap, _∙_}
 use mathlib.Core.List.{List, [], _∷_}
 use mathlib.Core.Bool.{Bool, true, false, not, _&&_, _||_, cond, Bool·beq}
 use Prim.Native.Nat.{ℕ, zero, suc, _+_, _-_, _*_, _^_, _<_}
 use native.Mathlib.Omega.{arith}
 use lib.IntN.{ℤ, pos}
 use lib.ListN.{length, getD}
-use lib.Dec.{T, ltb}
+use lib.Dec.{ltb}
 use lib.Ieee.{Float, nan, inf, fin, Format, binary64, prec, emax, low, up, down, odd, units, round, sum, add, isNan}
 use lib.Ieee.Fits.{round-is}
 use Rattle.indexing.specs.Scatter.{Scatter, cuts, landing, addF64, scatteredF64}

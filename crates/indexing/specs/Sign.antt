@@ -7,7 +7,7 @@ use native.Mathlib.Nat.{lt-irrefl, mul-comm, mul-one, mul-pos, zero-mul, zero-lt
 use native.Mathlib.Omega.{arith}
 use lib.IntN.{ℤ, pos, negsuc, negℤ, natAbs, _+ℤ_, +ℤ-assoc, +ℤ-idr}
 use lib.Dec.{T, ltb, eqb, eqb→eq, eqb·suc-zero, ltb→lt, nltb→le}
-use lib.Ieee.{Float, nan, inf, fin, Format, binary64, prec, up, down, round, sum, add, ofInt, fits}
+use lib.Ieee.{Float, nan, fin, Format, binary64, prec, up, down, round, sum, add, ofInt, fits}
 use lib.Ieee.Fits.{down-pos, up-pos, ofInt-fits}
 use lib.Ieee.Exact.{HasValue}
 use lib.Ieee.Back.{round-whole, whole-unique}
