@@ -10,7 +10,7 @@ use lib.ListN.{length, getD, set, take, drop, replicate, drop-of-length-le}
 use lib.Seq.{take-all}
 use lib.IntN.{ℤ, pos, negsuc, _+ℤ_, _-ℤ_}
 use lib.Signed.{_≤ℤ_, _<ℤ_}
-use Rattle.integer.specs.Z.{up, only, znorm, zflat, zfacts, ≡-from, ≤-from}
+use Rattle.integer.specs.Z.{up, only, znorm, zflat, zfacts, ≡-from, ≤-from, <-from}
 use Rattle.integer.specs.Laws.{minℤ, maxℤ, minℤ-by, maxℤ-by, maxℤ-l}
 use Rattle.indexing.specs.Coordinates.{View, rank, Within, ints, plus, Inside, tabulate, pick, spread, has}
 use Rattle.indexing.specs.Start.{without, components, indexCoordinate, clamp, startOn, fullStart}
@@ -96,6 +96,13 @@ inside-within (d ∷ ds) [] h = absurd h
 inside-within (d ∷ ds) (pos c ∷ zs) h =
     let r = inside-within ds zs (h .2) in (c ∷ r .0, ap (λ (l : List ℤ). pos c ∷ l) (r .1), (omega (arith, zfacts, h .1), r .2))
 inside-within (d ∷ ds) (negsuc c ∷ zs) h = absurd (h .0 .le)
+
+pub within-inside : (ds cs : List ℕ) → Within ds cs → Inside ds (ints cs)
+unfolding Inside Within
+within-inside [] [] w = tt
+within-inside [] (c ∷ cs) w = absurd w
+within-inside (d ∷ ds) [] w = absurd w
+within-inside (d ∷ ds) (c ∷ cs) w = (≤-from (pos 0) (pos c) (omega arith), <-from (pos c) (pos d) (omega (arith, w .0)), within-inside ds cs (w .1))
 
 -- ---- the clamp
 -- in the words of ℕ: 0 for a start below 0, the start, or the last start that leaves room

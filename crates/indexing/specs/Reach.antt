@@ -1,15 +1,17 @@
 -- The least and the greatest sum that strides make over extents, and that every coordinate's offset lies between them. Assumes nothing.
-use mathlib.Core.Path.{_≡_, refl, ap}
-use mathlib.Core.Bool.{Bool, cond}
+use mathlib.Core.Path.{_≡_, refl, sym, ap, ap₂, _∙_}
+use mathlib.Core.Bool.{Bool, true, false, not, cond}
 use mathlib.Core.List.{List, [], _∷_}
-use Prim.Native.Nat.{ℕ, _-_, _<_, _≤_}
+use Prim.Native.Nat.{ℕ, zero, suc, _*_, _-_, _<_, _≤_}
 use native.Mathlib.Omega.{arith}
 use lib.Dec.{leb·zero}
 use lib.ListN.{length}
-use lib.IntN.{ℤ, pos, negsuc, _+ℤ_, _*ℤ_}
+use lib.IntN.{ℤ, pos, negsuc, negℤ, _+ℤ_, _*ℤ_, *ℤ-zero}
 use lib.Signed.{_≤ℤ_, ≤ℤ-refl}
+use Rattle.integer.specs.Defs.{isNeg}
 use Rattle.integer.specs.Laws.{minℤ, maxℤ, term-low, term-high, pos-≤, +ℤ-mono}
 use Rattle.indexing.specs.Coordinates.{dot, Within}
+use Rattle.indexing.specs.Odometer.{AllPos}
 
 -- the part of a number below zero, and the part above
 abbrev pub belowZero : ℤ → ℤ
@@ -66,3 +68,57 @@ offset-low base ss ds cs h w = +ℤ-mono (≤ℤ-refl base) (dot-low ss ds cs h 
 
 pub offset-high : (base : ℤ) (ss : List ℤ) (ds cs : List ℕ) → length ss ≤ length ds → Within ds cs → (base +ℤ dot ss cs) ≤ℤ (base +ℤ highest ss ds)
 offset-high base ss ds cs h w = +ℤ-mono (≤ℤ-refl base) (dot-high ss ds cs h w)
+
+-- ---- both are the offset of a cell
+-- the coordinate where each stride of one sign is at its last place and the others at 0
+cornerOf : (ℤ → Bool) → List ℤ → List ℕ → List ℕ
+cornerOf far ss [] = []
+cornerOf far [] (d ∷ ds) = 0 ∷ cornerOf far [] ds
+cornerOf far (s ∷ ss) (d ∷ ds) = cond (far s) (d - 1) 0 ∷ cornerOf far ss ds
+
+corner-within : (far : ℤ → Bool) (ss : List ℤ) (ds : List ℕ) → AllPos ds → Within ds (cornerOf far ss ds)
+unfolding cornerOf Within AllPos
+corner-within far ss [] p = tt
+corner-within far [] (d ∷ ds) p = (p .0, corner-within far [] ds (p .1))
+corner-within far (s ∷ ss) (d ∷ ds) p = (go (far s), corner-within far ss ds (p .1))
+  where
+    go : (t : Bool) → cond t (d - 1) 0 < d
+    go true = omega (arith, p .0)
+    go false = p .0
+
+not-neg : ℤ → Bool
+not-neg s = not (isNeg s)
+
+minus-is : (s m : ℕ) → belowZero (negℤ (pos (suc s * m))) ≡ negℤ (pos (suc s * m))
+minus-is s m = go (suc s * m)
+  where
+    go : (n : ℕ) → belowZero (negℤ (pos n)) ≡ negℤ (pos n)
+    go zero = refl
+    go (suc n) = refl
+
+minus-none : (s m : ℕ) → aboveZero (negℤ (pos (suc s * m))) ≡ pos 0
+minus-none s m = go (suc s * m)
+  where
+    go : (n : ℕ) → aboveZero (negℤ (pos n)) ≡ pos 0
+    go zero = refl
+    go (suc n) = refl
+
+pub lowest-cell : (ss : List ℤ) (ds : List ℕ) → AllPos ds → (cs : List ℕ) × Within ds cs × (dot ss cs ≡ lowest ss ds)
+unfolding dot cornerOf lowest
+lowest-cell ss ds p = (cornerOf isNeg ss ds, corner-within isNeg ss ds p, is ss ds)
+  where
+    is : (ss : List ℤ) (ds : List ℕ) → dot ss (cornerOf isNeg ss ds) ≡ lowest ss ds
+    is [] ds = refl
+    is (s ∷ ss) [] = refl
+    is (pos s ∷ ss) (d ∷ ds) = ap₂ _+ℤ_ (*ℤ-zero (pos s)) (is ss ds)
+    is (negsuc s ∷ ss) (d ∷ ds) = ap₂ _+ℤ_ (sym (minus-is s (d - 1))) (is ss ds)
+
+pub highest-cell : (ss : List ℤ) (ds : List ℕ) → AllPos ds → (cs : List ℕ) × Within ds cs × (dot ss cs ≡ highest ss ds)
+unfolding dot cornerOf highest not-neg
+highest-cell ss ds p = (cornerOf not-neg ss ds, corner-within not-neg ss ds p, is ss ds)
+  where
+    is : (ss : List ℤ) (ds : List ℕ) → dot ss (cornerOf not-neg ss ds) ≡ highest ss ds
+    is [] ds = refl
+    is (s ∷ ss) [] = refl
+    is (pos s ∷ ss) (d ∷ ds) = ap (λ (z : ℤ). pos s *ℤ pos (d - 1) +ℤ z) (is ss ds)
+    is (negsuc s ∷ ss) (d ∷ ds) = ap₂ _+ℤ_ (*ℤ-zero (negsuc s) ∙ sym (minus-none s (d - 1))) (is ss ds)
