@@ -6,7 +6,7 @@ pub mod Start
 pub mod Gather
 pub mod Scatter
 -- what it gives in the papers' own cases
-pub mod Examples
+pub mod Answers
 -- what one element holds at the end, and demand 3
 pub mod Cuts
 pub mod Sums

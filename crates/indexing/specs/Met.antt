@@ -11,7 +11,7 @@ use Rattle.indexing.specs.Gather.{batchDims, shownDims}
 use Rattle.indexing.specs.Scatter.{scatterDims, windowDims, batchShape, windowShape, windows}
 use Rattle.indexing.specs.Axes.{Axes}
 use Rattle.indexing.specs.Valid.{ValidGather, ValidScatter}
-use Rattle.indexing.specs.Examples.{harbourWindows, printedScatter}
+use Rattle.indexing.specs.Answers.{harbourWindows, printedScatter}
 
 pub harbour-valid : ValidGather harbourWindows
 unfolding Axes has othersFrom pick batchDims shownDims without components
