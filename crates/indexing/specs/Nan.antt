@@ -15,18 +15,18 @@ use Rattle.indexing.specs.Cuts.{inTurn}
 use Rattle.indexing.specs.Exact.{each-f64}
 
 -- infinities of unlike signs
-abbrev pub opposed : Float → Float → Bool
-opposed nan y = false
-opposed (inf s) nan = false
-opposed (inf s) (inf t) = not (Bool·beq s t)
-opposed (inf s) (fin t n d) = false
-opposed (fin s m e) y = false
+abbrev pub unlikeInfinities : Float → Float → Bool
+unlikeInfinities nan y = false
+unlikeInfinities (inf s) nan = false
+unlikeInfinities (inf s) (inf t) = not (Bool·beq s t)
+unlikeInfinities (inf s) (fin t n d) = false
+unlikeInfinities (fin s m e) y = false
 
 -- neither a NaN nor the infinity of the other sign: what the infinity of sign s outlasts
-abbrev pub mild : Bool → Float → Bool
-mild s nan = false
-mild s (inf t) = Bool·beq s t
-mild s (fin t n d) = true
+abbrev pub compatible : Bool → Float → Bool
+compatible s nan = false
+compatible s (inf t) = Bool·beq s t
+compatible s (fin t n d) = true
 
 -- ---- rounding gives no NaN
 odd-no-nan : (d : ℕ) (s : Bool) (q k l : ℕ) → isNan (odd d s q k l) ≡ false
@@ -56,7 +56,7 @@ sum-no-nan f s a t b c =
     (cond-no-nan (ltb a b) (round f t (b - a) c) (round f (s && ltb b a) (a - b) c) (round-no-nan f t (b - a) c) (round-no-nan f (s && ltb b a) (a - b) c))
 
 -- ONE ADD gives a NaN exactly where an operand is one, or the operands are infinities of unlike signs
-pub add-nan : (f : Format) (x y : Float) → isNan (add f x y) ≡ (isNan x || (isNan y || opposed x y))
+pub add-nan : (f : Format) (x y : Float) → isNan (add f x y) ≡ (isNan x || (isNan y || unlikeInfinities x y))
 unfolding add isNan
 add-nan f nan y = refl
 add-nan f (inf s) nan = refl
@@ -76,8 +76,8 @@ add-nan-r f nan = refl
 add-nan-r f (inf s) = refl
 add-nan-r f (fin s m e) = refl
 
--- an infinity and anything mild is that infinity; and anything else makes it a NaN
-add-inf : (f : Format) (s : Bool) (y : Float) → add f (inf s) y ≡ cond (mild s y) (inf s) nan
+-- an infinity and anything compatible with it is that infinity; and anything else makes it a NaN
+add-inf : (f : Format) (s : Bool) (y : Float) → add f (inf s) y ≡ cond (compatible s y) (inf s) nan
 unfolding add
 add-inf f s nan = refl
 add-inf f s (inf t) = refl
@@ -95,17 +95,17 @@ in-turn-with-nan x [] k h p = absurd (omega arith)
 in-turn-with-nan x (u ∷ us) zero h p = ap (λ (y : Float). inTurn addF64 (add binary64 x y) us) p ∙ ap (λ (y : Float). inTurn addF64 y us) (add-nan-r binary64 x) ∙ in-turn-nan us
 in-turn-with-nan x (u ∷ us) (suc k) h p = in-turn-with-nan (add binary64 x u) us k (omega arith) p
 
-abbrev pub allMild : Bool → List Float → Bool
-allMild s [] = true
-allMild s (u ∷ us) = mild s u && allMild s us
+abbrev pub allCompatible : Bool → List Float → Bool
+allCompatible s [] = true
+allCompatible s (u ∷ us) = compatible s u && allCompatible s us
 
 -- from an infinity the sum is that infinity, or a NaN
-pub in-turn-inf : (s : Bool) (us : List Float) → inTurn addF64 (inf s) us ≡ cond (allMild s us) (inf s) nan
+pub in-turn-inf : (s : Bool) (us : List Float) → inTurn addF64 (inf s) us ≡ cond (allCompatible s us) (inf s) nan
 unfolding inTurn
 in-turn-inf s [] = refl
-in-turn-inf s (u ∷ us) = ap (λ (y : Float). inTurn addF64 y us) (add-inf binary64 s u) ∙ go (mild s u) (in-turn-inf s us)
+in-turn-inf s (u ∷ us) = ap (λ (y : Float). inTurn addF64 y us) (add-inf binary64 s u) ∙ go (compatible s u) (in-turn-inf s us)
   where
-    go : (b : Bool) → inTurn addF64 (inf s) us ≡ cond (allMild s us) (inf s) nan → inTurn addF64 (cond b (inf s) nan) us ≡ cond (b && allMild s us) (inf s) nan
+    go : (b : Bool) → inTurn addF64 (inf s) us ≡ cond (allCompatible s us) (inf s) nan → inTurn addF64 (cond b (inf s) nan) us ≡ cond (b && allCompatible s us) (inf s) nan
     go true e = e
     go false e = in-turn-nan us
 
@@ -122,6 +122,6 @@ module _ (s : Scatter) (starts : List ℤ) (updates grid : List Float) (i : ℕ)
   nan-lands k l e = each-f64 s starts updates grid i h ∙ in-turn-with-nan (getD grid i nan) (landing (pos i) (cuts nan s starts updates)) k l e
 
   -- an infinity stays, unless a NaN or the other infinity lands on it, which leave a NaN
-  pub infinity-stays : (t : Bool) → getD grid i nan ≡ inf t → getD (scatteredF64 s starts updates grid) i nan ≡ cond (allMild t (landing (pos i) (cuts nan s starts updates))) (inf t) nan
+  pub infinity-stays : (t : Bool) → getD grid i nan ≡ inf t → getD (scatteredF64 s starts updates grid) i nan ≡ cond (allCompatible t (landing (pos i) (cuts nan s starts updates))) (inf t) nan
   infinity-stays t e =
       each-f64 s starts updates grid i h ∙ ap (λ (x : Float). inTurn addF64 x (landing (pos i) (cuts nan s starts updates))) e ∙ in-turn-inf t (landing (pos i) (cuts nan s starts updates))
