@@ -7,11 +7,12 @@ pub mod Gather
 pub mod Scatter
 -- what it gives in the papers' own cases
 pub mod Answers
--- what one element holds at the end, and demand 3
+-- what one element holds at the end, and demand 3; the same as loops
 pub mod Cuts
 pub mod Sums
 pub mod Cells
 pub mod Demand3
+pub mod Loops
 -- the same of f64: exact sums, the sign of zero, NaN and infinities
 pub mod Whole
 pub mod Exact
