@@ -16,7 +16,7 @@ use Rattle.layout.specs.Nested.{hasZero, longAxes, insert, ordered, exceeds, ne
 -- a case: what is asked, and the answer (an overflow is refusal 3)
 pub data Case : Type 0 where
   product : List ℕ → CheckedU → Case
-  clamped : ℤ → ℕ → ℕ → ℕ → Case
+  clamped : ℤ → ℕ → ℕ → ℤ → Case
   reset : ℕ → ℤ → Checked → Case
   nests : List ℕ → List ℤ → Bool → Case
   plus : ℤ → ℤ → ℤ → Case
@@ -33,9 +33,9 @@ table =
     product [] (U.Fits 1)
     ∷ product (18446744073709551615 ∷ 2 ∷ 0 ∷ []) U.Overflow
     ∷ product (0 ∷ 18446744073709551615 ∷ 2 ∷ []) (U.Fits 0)
-    ∷ clamped (negsuc 4) 10 3 0
-    ∷ clamped (pos 7) 10 3 7
-    ∷ clamped (pos 8) 10 3 7
+    ∷ clamped (negsuc 4) 10 3 (pos 0)
+    ∷ clamped (pos 7) 10 3 (pos 7)
+    ∷ clamped (pos 8) 10 3 (pos 7)
     ∷ reset 2 (negsuc 9223372036854775807) C.Overflow
     ∷ reset 1 (negsuc 9223372036854775807) (C.Fits (pos 0))
     ∷ nests (2 ∷ 2 ∷ []) (pos 2 ∷ pos 3 ∷ []) true

@@ -1,22 +1,17 @@
 -- Walks that give the same offsets: an axis of extent 1 goes, two axes that are one are fused, at any depth. Assumes nothing.
-use mathlib.Core.Path.{_≡_, refl, sym, _∙_, ap, ap₂, subst}
-use mathlib.Core.Bool.{Bool, true, false, cond}
+use mathlib.Core.Path.{_≡_, sym, _∙_, ap, ap₂}
 use mathlib.Core.List.{List, [], _∷_, _++_}
-use Prim.Native.Nat.{ℕ, zero, suc, _+_, _*_, _-_, _/_, _%_, _<_, _≤_}
-use native.Mathlib.Nat.{mul-le-mul-left, div-add-mod', div-add-mod, mod-lt, mod-eq-of-lt, div-eq-of-lt, div-self, mod-self, mul-add-div-right, mul-add-mod-self-right, div-div-eq-div-mul, mul-add, mul-assoc, mod-def, zero-mod, zero-div, add-zero, zero-add, mod-one, div-one, div-lt-iff-lt-mul, mul-comm, zero-mul, mul-zero, mul-pos, one-mul}
+use Prim.Native.Nat.{ℕ, _+_, _*_, _-_, _/_, _%_, _<_}
+use native.Mathlib.Nat.{div-add-mod, div-div-eq-div-mul, mul-add, mul-assoc, mod-def, mod-one, div-one, mul-zero, mul-pos, one-mul}
 use native.Mathlib.Omega.{arith}
-use lib.Dec.{T, leb, ltb, le→leb}
-use lib.ListN.{length, getD, set, replicate, take, drop}
-use lib.IntN.{ℤ, pos, negsuc, negℤ, _+ℤ_, _-ℤ_, _*ℤ_, +ℤ-idl, +ℤ-idr, +ℤ-assoc, +ℤ-comm, -ℤ-+ℤ-cancel, +ℤ-negℤ-cancel, *ℤ-zero, natAbs}
-use lib.Signed.{_≤ℤ_, ≤ℤ-refl}
-use borrow.Author.Tests.{ltb-true, ltb-false}
+use lib.ListN.{length}
+use lib.IntN.{ℤ, pos, _+ℤ_, _*ℤ_, +ℤ-idl, +ℤ-assoc, *ℤ-zero}
 use Rattle.integer.specs.Z.{*ℤ-+ℤ, *ℤ-assoc}
-use Rattle.integer.specs.Laws.{+ℤ-ac, +ℤ-left-comm, times-one, +ℤ-cancel-r, +ℤ-mono}
-use Rattle.indexing.specs.Coordinates.{product, unravel, dot, Within}
+use Rattle.indexing.specs.Coordinates.{product, unravel, dot}
 use Rattle.indexing.specs.Odometer.{AllPos, offsetAt}
 use Rattle.indexing.specs.Linear.{div-below}
 
--- ---- B. two axes that are one
+-- ---- two axes that are one
 
 pub mod-fuse : (k p d : ℕ) → k % (p * d) ≡ k % p + p * (k / p % d)
 mod-fuse k p d =

@@ -1,11 +1,12 @@
 -- A linear index and its coordinate are one and the same: `unravel` has an inverse. Assumes nothing.
 use mathlib.Core.Path.{_≡_, refl, sym, ap, ap₂, _∙_, subst}
 use mathlib.Core.List.{List, [], _∷_}
-use Prim.Native.Nat.{ℕ, zero, suc, _+_, _*_, _/_, _%_, _<_, _≤_}
-use native.Mathlib.Nat.{div-add-mod, mod-lt, mod-eq-of-lt, div-eq-of-lt, add-mul-mod-self-left, add-mul-div-left, div-lt-iff-lt-mul, mul-le-mul-left, mul-suc, mul-comm, zero-mul, zero-add, add-comm}
+use Prim.Native.Nat.{ℕ, zero, suc, _+_, _*_, _/_, _%_, _<_}
+use native.Mathlib.Nat.{div-add-mod, mod-eq-of-lt, div-eq-of-lt, add-mul-mod-self-left, add-mul-div-left, div-lt-iff-lt-mul, mul-le-mul-left, mul-suc, mul-comm, zero-mul, zero-add, add-comm}
 use native.Mathlib.Omega.{arith}
 use lib.ListN.{length, getD}
 use Rattle.indexing.specs.Coordinates.{product, unravel, Within}
+use Rattle.indexing.specs.Odometer.{AllPos, walk-within}
 
 -- the linear index of a coordinate
 unfoldable pub ravel : List ℕ → List ℕ → ℕ
@@ -25,10 +26,14 @@ head-pos (suc d) n k h = omega arith
 pub div-below : (k d n : ℕ) → k < d * n → k / d < n
 div-below k d n h = div-lt-iff-lt-mul {k = d} (head-pos d n k h) .1 (subst (λ (m : ℕ). k < m) (mul-comm d n) h)
 
+-- where there is a linear index, no extent is 0
+pub index-pos : (ds : List ℕ) (k : ℕ) → k < product ds → AllPos ds
+unfolding product AllPos
+index-pos [] k h = tt
+index-pos (d ∷ ds) k h = (head-pos d (product ds) k h, index-pos ds (k / d) (div-below k d (product ds) h))
+
 pub unravel-within : (ds : List ℕ) (k : ℕ) → k < product ds → Within ds (unravel ds k)
-unfolding product unravel Within
-unravel-within [] k h = tt
-unravel-within (d ∷ ds) k h = (mod-lt k (head-pos d (product ds) k h), unravel-within ds (k / d) (div-below k d (product ds) h))
+unravel-within ds k h = walk-within ds (index-pos ds k h) k
 
 pub ravel-unravel : (ds : List ℕ) (k : ℕ) → k < product ds → ravel ds (unravel ds k) ≡ k
 unfolding product unravel ravel

@@ -1,18 +1,17 @@
 -- The odometer, first axis fastest: the coordinate after a linear index, and the step of its offset as sums of strides and resets. Assumes nothing.
-use mathlib.Core.Path.{_≡_, refl, sym, _∙_, ap, ap₂, subst}
+use mathlib.Core.Path.{_≡_, refl, sym, _∙_, ap}
 use mathlib.Core.Bool.{Bool, true, false, cond}
 use mathlib.Core.List.{List, [], _∷_, _++_}
 use Prim.Native.Nat.{ℕ, zero, suc, _+_, _*_, _-_, _/_, _%_, _<_, _≤_}
-use native.Mathlib.Nat.{mul-le-mul-left, div-add-mod', div-add-mod, mod-lt, mod-eq-of-lt, div-eq-of-lt, div-self, mod-self, mul-add-div-right, mul-add-mod-self-right, div-div-eq-div-mul, mul-add, mul-assoc, mod-def, zero-mod, zero-div, add-zero, zero-add, mod-one, div-one, div-lt-iff-lt-mul, mul-comm, zero-mul, mul-zero, mul-pos, one-mul}
+use native.Mathlib.Nat.{div-add-mod', mod-lt, mod-eq-of-lt, div-eq-of-lt, div-self, mod-self, mul-add-div-right, mul-add-mod-self-right, zero-mod, zero-div, add-zero}
 use native.Mathlib.Omega.{arith}
-use lib.Dec.{T, leb, ltb, le→leb}
-use lib.ListN.{length, getD, set, replicate, take, drop}
-use lib.IntN.{ℤ, pos, negsuc, negℤ, _+ℤ_, _-ℤ_, _*ℤ_, +ℤ-idl, +ℤ-idr, +ℤ-assoc, +ℤ-comm, -ℤ-+ℤ-cancel, +ℤ-negℤ-cancel, *ℤ-zero, natAbs}
-use lib.Signed.{_≤ℤ_, ≤ℤ-refl}
+use lib.Dec.{ltb}
+use lib.ListN.{length, getD, set, replicate}
+use lib.IntN.{ℤ, pos, negℤ, _+ℤ_, _*ℤ_, +ℤ-idl, +ℤ-idr, +ℤ-assoc, +ℤ-comm, -ℤ-+ℤ-cancel, +ℤ-negℤ-cancel, *ℤ-zero}
 use borrow.Author.Tests.{ltb-true, ltb-false}
-use Rattle.integer.specs.Z.{*ℤ-+ℤ, *ℤ-assoc}
-use Rattle.integer.specs.Laws.{+ℤ-ac, +ℤ-left-comm, times-one, +ℤ-cancel-r, +ℤ-mono}
-use Rattle.indexing.specs.Coordinates.{product, unravel, dot, Within}
+use Rattle.integer.specs.Z.{*ℤ-+ℤ}
+use Rattle.integer.specs.Laws.{+ℤ-ac, times-one, +ℤ-cancel-r}
+use Rattle.indexing.specs.Coordinates.{unravel, dot, Within}
 
 -- no extent is 0
 unfoldable pub AllPos : List ℕ → Type 0
@@ -29,7 +28,7 @@ next (d ∷ ds) (c ∷ cs) = cond (ltb (c + 1) d) ((c + 1) ∷ cs) (0 ∷ next d
 unfoldable pub offsetAt : ℤ → List ℕ → List ℤ → ℕ → ℤ
 offsetAt base ds ss k = base +ℤ dot ss (unravel ds k)
 
--- ---- A. the successor
+-- ---- the successor
 
 div-step-in : (k d : ℕ) → k % d + 1 < d → (k + 1) / d ≡ k / d
 div-step-in k d h =
@@ -108,7 +107,7 @@ next-append (d ∷ ds) (c ∷ cs) ts e = go (ltb (c + 1) d) (next-append ds cs t
     go true ih = refl
     go false ih = ap (λ (l : List ℕ). 0 ∷ l) ih
 
--- ---- D. the offset's step
+-- ---- the offset's step
 
 -- what one coordinate adds
 pub dot-set : (ss : List ℤ) (cs : List ℕ) (i v : ℕ) → i < length ss → i < length cs

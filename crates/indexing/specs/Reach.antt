@@ -1,20 +1,17 @@
 -- The least and the greatest sum that strides make over extents, and that every coordinate's offset lies between them. Assumes nothing.
-use mathlib.Core.Path.{_≡_, refl, sym, _∙_, ap, ap₂, subst}
-use mathlib.Core.Bool.{Bool, true, false, cond}
-use mathlib.Core.List.{List, [], _∷_, _++_}
-use Prim.Native.Nat.{ℕ, zero, suc, _+_, _*_, _-_, _/_, _%_, _<_, _≤_}
-use native.Mathlib.Nat.{mul-le-mul-left, div-add-mod', div-add-mod, mod-lt, mod-eq-of-lt, div-eq-of-lt, div-self, mod-self, mul-add-div-right, mul-add-mod-self-right, div-div-eq-div-mul, mul-add, mul-assoc, mod-def, zero-mod, zero-div, add-zero, zero-add, mod-one, div-one, div-lt-iff-lt-mul, mul-comm, zero-mul, mul-zero, mul-pos, one-mul}
+use mathlib.Core.Path.{_≡_, refl, sym, ap, ap₂, _∙_}
+use mathlib.Core.Bool.{Bool, true, false, not, cond}
+use mathlib.Core.List.{List, [], _∷_}
+use Prim.Native.Nat.{ℕ, zero, suc, _*_, _-_, _<_, _≤_}
 use native.Mathlib.Omega.{arith}
-use lib.Dec.{T, leb, ltb, le→leb}
-use lib.ListN.{length, getD, set, replicate, take, drop}
-use lib.IntN.{ℤ, pos, negsuc, negℤ, _+ℤ_, _-ℤ_, _*ℤ_, +ℤ-idl, +ℤ-idr, +ℤ-assoc, +ℤ-comm, -ℤ-+ℤ-cancel, +ℤ-negℤ-cancel, *ℤ-zero, natAbs}
+use lib.Dec.{leb·zero}
+use lib.ListN.{length}
+use lib.IntN.{ℤ, pos, negsuc, negℤ, _+ℤ_, _*ℤ_, *ℤ-zero}
 use lib.Signed.{_≤ℤ_, ≤ℤ-refl}
-use borrow.Author.Tests.{ltb-true, ltb-false}
-use Rattle.integer.specs.Z.{*ℤ-+ℤ, *ℤ-assoc}
-use Rattle.integer.specs.Laws.{+ℤ-ac, +ℤ-left-comm, times-one, +ℤ-cancel-r, +ℤ-mono}
-use Rattle.indexing.specs.Coordinates.{product, unravel, dot, Within}
-
--- ---- C. bounds
+use Rattle.integer.specs.Defs.{isNeg, minℤ, maxℤ}
+use Rattle.integer.specs.Laws.{term-low, term-high, pos-≤, +ℤ-mono}
+use Rattle.indexing.specs.Coordinates.{dot, Within}
+use Rattle.indexing.specs.Odometer.{AllPos}
 
 -- the part of a number below zero, and the part above
 abbrev pub belowZero : ℤ → ℤ
@@ -36,25 +33,19 @@ highest [] ds = pos 0
 highest (s ∷ ss) [] = pos 0
 highest (s ∷ ss) (d ∷ ds) = aboveZero (s *ℤ pos (d - 1)) +ℤ highest ss ds
 
-neg-low : (m n : ℕ) → m ≤ n → belowZero (negℤ (pos n)) ≤ℤ negℤ (pos m)
-neg-low zero zero h = ≤ℤ-refl (pos 0)
-neg-low zero (suc n) h = record { le = tt }
-neg-low (suc m) zero h = absurd (omega arith)
-neg-low (suc m) (suc n) h = record { le = le→leb m n (omega arith) }
+below-is : (z : ℤ) → minℤ (pos 0) z ≡ belowZero z
+below-is (pos n) = ap (λ (t : Bool). cond t (pos 0) (pos n)) (leb·zero n)
+below-is (negsuc n) = refl
 
-neg-high : (m n : ℕ) → negℤ (pos m) ≤ℤ aboveZero (negℤ (pos n))
-neg-high zero zero = ≤ℤ-refl (pos 0)
-neg-high zero (suc n) = ≤ℤ-refl (pos 0)
-neg-high (suc m) zero = record { le = tt }
-neg-high (suc m) (suc n) = record { le = tt }
+above-is : (z : ℤ) → maxℤ (pos 0) z ≡ aboveZero z
+above-is (pos n) = ap (λ (t : Bool). cond t (pos n) (pos 0)) (leb·zero n)
+above-is (negsuc n) = refl
 
-term-low : (s : ℤ) (c d : ℕ) → c < d → belowZero (s *ℤ pos (d - 1)) ≤ℤ (s *ℤ pos c)
-term-low (pos a) c d h = record { le = le→leb 0 (a * c) (omega arith) }
-term-low (negsuc a) c d h = neg-low (suc a * c) (suc a * (d - 1)) (mul-le-mul-left (suc a) (omega arith))
+axis-low : (s : ℤ) (c d : ℕ) → c < d → belowZero (s *ℤ pos (d - 1)) ≤ℤ (s *ℤ pos c)
+axis-low s c d h = rw (← below-is (s *ℤ pos (d - 1))) (term-low s (pos c) (pos (d - 1)) (pos-≤ (omega arith)) (pos-≤ (omega arith)))
 
-term-high : (s : ℤ) (c d : ℕ) → c < d → (s *ℤ pos c) ≤ℤ aboveZero (s *ℤ pos (d - 1))
-term-high (pos a) c d h = record { le = le→leb (a * c) (a * (d - 1)) (mul-le-mul-left a (omega arith)) }
-term-high (negsuc a) c d h = neg-high (suc a * c) (suc a * (d - 1))
+axis-high : (s : ℤ) (c d : ℕ) → c < d → (s *ℤ pos c) ≤ℤ aboveZero (s *ℤ pos (d - 1))
+axis-high s c d h = rw (← above-is (s *ℤ pos (d - 1))) (term-high s (pos c) (pos (d - 1)) (pos-≤ (omega arith)) (pos-≤ (omega arith)))
 
 pub dot-low : (ss : List ℤ) (ds cs : List ℕ) → length ss ≤ length ds → Within ds cs → lowest ss ds ≤ℤ dot ss cs
 unfolding Within lowest dot
@@ -62,7 +53,7 @@ dot-low [] ds cs h w = ≤ℤ-refl (pos 0)
 dot-low (s ∷ ss) [] cs h w = absurd (omega arith)
 dot-low (s ∷ ss) (d ∷ ds) [] h w = absurd w
 dot-low (s ∷ ss) (d ∷ ds) (c ∷ cs) h w =
-    +ℤ-mono (term-low s c d (w .0)) (dot-low ss ds cs (omega arith) (w .1))
+    +ℤ-mono (axis-low s c d (w .0)) (dot-low ss ds cs (omega arith) (w .1))
 
 pub dot-high : (ss : List ℤ) (ds cs : List ℕ) → length ss ≤ length ds → Within ds cs → dot ss cs ≤ℤ highest ss ds
 unfolding Within highest dot
@@ -70,10 +61,64 @@ dot-high [] ds cs h w = ≤ℤ-refl (pos 0)
 dot-high (s ∷ ss) [] cs h w = absurd (omega arith)
 dot-high (s ∷ ss) (d ∷ ds) [] h w = absurd w
 dot-high (s ∷ ss) (d ∷ ds) (c ∷ cs) h w =
-    +ℤ-mono (term-high s c d (w .0)) (dot-high ss ds cs (omega arith) (w .1))
+    +ℤ-mono (axis-high s c d (w .0)) (dot-high ss ds cs (omega arith) (w .1))
 
 pub offset-low : (base : ℤ) (ss : List ℤ) (ds cs : List ℕ) → length ss ≤ length ds → Within ds cs → (base +ℤ lowest ss ds) ≤ℤ (base +ℤ dot ss cs)
 offset-low base ss ds cs h w = +ℤ-mono (≤ℤ-refl base) (dot-low ss ds cs h w)
 
 pub offset-high : (base : ℤ) (ss : List ℤ) (ds cs : List ℕ) → length ss ≤ length ds → Within ds cs → (base +ℤ dot ss cs) ≤ℤ (base +ℤ highest ss ds)
 offset-high base ss ds cs h w = +ℤ-mono (≤ℤ-refl base) (dot-high ss ds cs h w)
+
+-- ---- both are the offset of a cell
+-- the coordinate where each stride of one sign is at its last place and the others at 0
+cornerOf : (ℤ → Bool) → List ℤ → List ℕ → List ℕ
+cornerOf far ss [] = []
+cornerOf far [] (d ∷ ds) = 0 ∷ cornerOf far [] ds
+cornerOf far (s ∷ ss) (d ∷ ds) = cond (far s) (d - 1) 0 ∷ cornerOf far ss ds
+
+corner-within : (far : ℤ → Bool) (ss : List ℤ) (ds : List ℕ) → AllPos ds → Within ds (cornerOf far ss ds)
+unfolding cornerOf Within AllPos
+corner-within far ss [] p = tt
+corner-within far [] (d ∷ ds) p = (p .0, corner-within far [] ds (p .1))
+corner-within far (s ∷ ss) (d ∷ ds) p = (go (far s), corner-within far ss ds (p .1))
+  where
+    go : (t : Bool) → cond t (d - 1) 0 < d
+    go true = omega (arith, p .0)
+    go false = p .0
+
+not-neg : ℤ → Bool
+not-neg s = not (isNeg s)
+
+minus-is : (s m : ℕ) → belowZero (negℤ (pos (suc s * m))) ≡ negℤ (pos (suc s * m))
+minus-is s m = go (suc s * m)
+  where
+    go : (n : ℕ) → belowZero (negℤ (pos n)) ≡ negℤ (pos n)
+    go zero = refl
+    go (suc n) = refl
+
+minus-none : (s m : ℕ) → aboveZero (negℤ (pos (suc s * m))) ≡ pos 0
+minus-none s m = go (suc s * m)
+  where
+    go : (n : ℕ) → aboveZero (negℤ (pos n)) ≡ pos 0
+    go zero = refl
+    go (suc n) = refl
+
+pub lowest-cell : (ss : List ℤ) (ds : List ℕ) → AllPos ds → (cs : List ℕ) × Within ds cs × (dot ss cs ≡ lowest ss ds)
+unfolding dot cornerOf lowest
+lowest-cell ss ds p = (cornerOf isNeg ss ds, corner-within isNeg ss ds p, is ss ds)
+  where
+    is : (ss : List ℤ) (ds : List ℕ) → dot ss (cornerOf isNeg ss ds) ≡ lowest ss ds
+    is [] ds = refl
+    is (s ∷ ss) [] = refl
+    is (pos s ∷ ss) (d ∷ ds) = ap₂ _+ℤ_ (*ℤ-zero (pos s)) (is ss ds)
+    is (negsuc s ∷ ss) (d ∷ ds) = ap₂ _+ℤ_ (sym (minus-is s (d - 1))) (is ss ds)
+
+pub highest-cell : (ss : List ℤ) (ds : List ℕ) → AllPos ds → (cs : List ℕ) × Within ds cs × (dot ss cs ≡ highest ss ds)
+unfolding dot cornerOf highest not-neg
+highest-cell ss ds p = (cornerOf not-neg ss ds, corner-within not-neg ss ds p, is ss ds)
+  where
+    is : (ss : List ℤ) (ds : List ℕ) → dot ss (cornerOf not-neg ss ds) ≡ highest ss ds
+    is [] ds = refl
+    is (s ∷ ss) [] = refl
+    is (pos s ∷ ss) (d ∷ ds) = ap (λ (z : ℤ). pos s *ℤ pos (d - 1) +ℤ z) (is ss ds)
+    is (negsuc s ∷ ss) (d ∷ ds) = ap₂ _+ℤ_ (*ℤ-zero (negsuc s) ∙ sym (minus-none s (d - 1))) (is ss ds)

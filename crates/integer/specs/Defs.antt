@@ -1,9 +1,9 @@
 -- What the contracts of `src/` cite. Definitions only.
-use mathlib.Core.Bool.{Bool, true, false}
+use mathlib.Core.Bool.{Bool, true, false, cond}
 use Prim.Native.Nat.{ℕ, _-_, _%_, _^_}
-use lib.Dec.{ltb}
+use lib.Dec.{eqb, ltb}
 use lib.IntN.{ℤ, pos, negsuc, negℤ}
-use lib.Signed.{mag}
+use lib.Signed.{mag, leZ}
 use Rattle.integer.specs.declared.Checked.{Checked}
 use Rattle.integer.specs.declared.Checked.the-variants as C
 use Rattle.integer.specs.declared.CheckedU.{CheckedU}
@@ -45,3 +45,17 @@ half32 false r = negsuc (4294967295 - r)
 
 unfoldable pub wrap32 : ℤ → ℤ
 wrap32 z = half32 (ltb (rem32 z) 2147483648) (rem32 z)
+
+-- the lesser and the greater of two numbers
+abbrev pub minℤ : ℤ → ℤ → ℤ
+minℤ a b = cond (leZ a b) a b
+
+abbrev pub maxℤ : ℤ → ℤ → ℤ
+maxℤ a b = cond (leZ a b) b a
+
+-- ---- a test for equal
+abbrev pub eqZ : ℤ → ℤ → Bool
+eqZ (pos a) (pos b) = eqb a b
+eqZ (pos a) (negsuc b) = false
+eqZ (negsuc a) (pos b) = false
+eqZ (negsuc a) (negsuc b) = eqb a b

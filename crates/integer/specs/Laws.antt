@@ -1,14 +1,16 @@
 -- The laws of ℤ that `lib.IntN` and `lib.Signed` lack. Assumes nothing.
-use mathlib.Core.Path.{_≡_, refl, ap}
-use mathlib.Core.Logic.{_⊎_, inl, inr, ⊎-elim}
+use mathlib.Core.Path.{_≡_, refl, sym, ap, _∙_}
+use mathlib.Core.Logic.{_≢_, _⊎_, inl, inr, ⊎-elim}
 use Prim.Native.Nat.{ℕ, _+_, _*_, _≤_}
 use native.Mathlib.Nat.{mul-le-mul-right}
 use native.Mathlib.Omega.{arith}
+use borrow.Author.Tests.{eqb-true, eq-eqb}
 use lib.IntN.{ℤ, pos, negsuc, negℤ, _+ℤ_, _-ℤ_, _*ℤ_, +ℤ-assoc, +ℤ-comm, *ℤ-comm, zero-*ℤ, one, *ℤ-one}
-use mathlib.Core.Bool.{Bool, true, false, cond}
+use mathlib.Core.Bool.{Bool, true, false, cond, true≢false}
 use lib.Signed.{_≤ℤ_, _<ℤ_, ≤ℤ-refl, leZ}
 use mir.Syntax.{Width, w64}
 use mir.Val.{SFits}
+use Rattle.integer.specs.Defs.{minℤ, maxℤ, eqZ}
 use Rattle.integer.specs.Z.{up, ≤-to, ≤-from, <-from, ≡-from, znorm, zflat, zfacts, up-*pos, dn-*pos, known}
 
 -- ---- the order
@@ -97,13 +99,20 @@ pub *ℤ-mono-neg : (a b c : ℤ) → c ≤ℤ pos 0 → a ≤ℤ b → (c *ℤ 
     let k : (negℤ c *ℤ a) ≤ℤ (negℤ c *ℤ b) = *ℤ-mono-l a b (negℤ c) (simp znorm (simp zflat (omega (arith, zfacts)))) h in
     simp znorm (simp zflat (omega (arith, simp zflat at (simp znorm at k))))
 
+pub eqZ-true : (a b : ℤ) → eqZ a b ≡ true → a ≡ b
+eqZ-true (pos a) (pos b) e = ap pos (eqb-true a b e)
+eqZ-true (pos a) (negsuc b) e = absurd (true≢false (sym e))
+eqZ-true (negsuc a) (pos b) e = absurd (true≢false (sym e))
+eqZ-true (negsuc a) (negsuc b) e = ap negsuc (eqb-true a b e)
+
+pub eqZ-refl : (a : ℤ) → eqZ a a ≡ true
+eqZ-refl (pos a) = eq-eqb a a refl
+eqZ-refl (negsuc a) = eq-eqb a a refl
+
+pub eqZ-false : (a b : ℤ) → eqZ a b ≡ false → a ≢ b
+eqZ-false a b e q = true≢false (sym (eqZ-refl a) ∙ ap (eqZ a) q ∙ e)
+
 -- ---- the least and the greatest of two
-abbrev pub minℤ : ℤ → ℤ → ℤ
-minℤ a b = cond (leZ a b) a b
-
-abbrev pub maxℤ : ℤ → ℤ → ℤ
-maxℤ a b = cond (leZ a b) b a
-
 by-leZ : (a b x y : ℤ) (P : ℤ → Type 0) → (a ≤ℤ b → P x) → (b ≤ℤ a → P y) → P (cond (leZ a b) x y)
 by-leZ a b x y P f g = go (leZ a b) refl
   where

@@ -440,7 +440,7 @@ pub fn validate_unique_axes(axes: &[u64], rank: u64) -> Answer
 
 // The start of a window that is moved inside the extent.
 pub fn clamp_window_start(start: i64, extent: u64, window: u64) -> u64
-    ensures { λ r. ⌜ r ≡ clamp start extent window ⌝ }
+    ensures { λ r. ⌜ pos r ≡ clamp start extent window ⌝ }
 {
     if start < 0 {
         0
