@@ -1,0 +1,90 @@
+use mathlib.Core.Path.{_≡_, refl, ap, _∙_}
+use mathlib.Core.List.{List}
+use Prim.Native.Nat.{ℕ, _-_, _≤_, zero-le}
+use native.Mathlib.Omega.{arith}
+use borrow.Author.Needs.{needs}
+use lib.ListN.{length, take}
+use Rattle.indexing.specs.Coordinates.{pick}
+use Rattle.layout.specs.Layouts.{rankLimit, padded}
+use Rattle.axis_lists.specs.Held.{numbersOf}
+use Rattle.axis_lists.proofs.Filling.{take-count, numbers-are, written, one-written, all-written, picked, length-picked}
+use Rattle.axis_lists.proofs.pick_numbers.Statement.{statement}
+use Rattle.axis_lists.proofs.pick_numbers.Tie as tie
+
+abbrev Inv-loop : tie.InvT-loop
+Inv-loop list entries n out₀ i₀ out i = (i ≤ n) × (out ≡ written 0 (pick 0 (take n entries) (numbersOf list)) i)
+
+abbrev μ-loop : tie.MeasureT-loop
+μ-loop list entries n out₀ i₀ out i = n - i
+
+-- src/lib.rt:147:9
+axis-count-requires : tie.Need-axis-count-requires Inv-loop μ-loop
+axis-count-requires c κs = search needs
+
+-- src/lib.rt:150:5
+loop-holds : tie.Need-loop-holds Inv-loop μ-loop
+loop-holds c = (zero-le, refl)
+
+-- src/lib.rt:151:34
+mul-number-at : tie.Need-mul-number-at Inv-loop μ-loop
+mul-number-at c = search needs
+
+-- src/lib.rt:151:34
+array-read-number-at : tie.Need-array-read-number-at Inv-loop μ-loop
+array-read-number-at c = search needs
+
+-- src/lib.rt:151:18
+number-at-requires : tie.Need-number-at-requires Inv-loop μ-loop
+number-at-requires c κs = search needs
+
+-- src/lib.rt:151:9
+mul-out : tie.Need-mul-out Inv-loop μ-loop
+mul-out c = search needs
+
+-- src/lib.rt:151:9
+array-write-out : tie.Need-array-write-out Inv-loop μ-loop
+array-write-out c = search needs
+
+-- src/lib.rt:152:9
+add-i : tie.Need-add-i Inv-loop μ-loop
+add-i c = search needs
+
+-- src/lib.rt:150:5
+loop-less : tie.Need-loop-less Inv-loop μ-loop
+loop-less c = search needs
+
+-- src/lib.rt:150:5
+loop-again : tie.Need-loop-again Inv-loop μ-loop
+loop-again c =
+    let l = c .before .before in
+    let s = l .before .before .before in
+    let e : length (s .args .axes .entries) ≡ 8 = search needs in
+    (omega (arith, l .before .axis-count .ensures, c .before .loop-test .taken), one-written 0 (pick 0 (take (l .before .axis-count .result) (s .args .axes .entries)) (numbersOf (s .args .list))) (l .loop .out) (l .loop .i) _ (omega (arith, length-picked 0 (s .args .axes .entries) (numbersOf (s .args .list)) (l .before .axis-count .result), l .before .axis-count .ensures, c .before .loop-test .taken)) (omega (arith, length-picked 0 (s .args .axes .entries) (numbersOf (s .args .list)) (l .before .axis-count .result), l .before .axis-count .ensures)) (l .loop .inv .1) (c .number-at .ensures ∙ picked 0 (s .args .axes .entries) (numbersOf (s .args .list)) (l .before .axis-count .result) (l .loop .i) (omega (arith, l .before .axis-count .ensures, c .before .loop-test .taken))))
+
+-- src/lib.rt:143:1
+returns : tie.Need-returns Inv-loop μ-loop
+returns c =
+    let l = c .before in
+    let s = l .before .before .before in
+    let e : length (s .args .axes .entries) ≡ 8 = search needs in
+    let t : take (l .before .axis-count .result) (s .args .axes .entries) ≡ numbersOf (s .args .axes) = take-count (l .before .axis-count .result) (s .args .axes .count) (s .args .axes .entries) (omega (arith, l .before .axis-count .ensures)) in
+    numbers-are (l .before .axis-count .result) (l .loop .out) (pick 0 (numbersOf (s .args .axes)) (numbersOf (s .args .list))) (omega (arith, length-picked 0 (s .args .axes .entries) (numbersOf (s .args .list)) (s .args .axes .count), l .before .axis-count .ensures))
+    (l .loop .inv .1 ∙ all-written 0 (pick 0 (take (l .before .axis-count .result) (s .args .axes .entries)) (numbersOf (s .args .list))) (l .loop .i) (omega (arith, length-picked 0 (s .args .axes .entries) (numbersOf (s .args .list)) (l .before .axis-count .result), l .before .axis-count .ensures)) (omega (arith, length-picked 0 (s .args .axes .entries) (numbersOf (s .args .list)) (l .before .axis-count .result), l .before .axis-count .ensures)) ∙ ap (λ (xs : List ℕ). padded rankLimit 0 (pick 0 xs (numbersOf (s .args .list)))) t)
+
+pub pick-numbers-spec : {M : Type 1} → statement M
+pick-numbers-spec =
+    tie.close
+    (tie.spec
+    Inv-loop
+    μ-loop
+    axis-count-requires
+    loop-holds
+    mul-number-at
+    array-read-number-at
+    number-at-requires
+    mul-out
+    array-write-out
+    add-i
+    loop-less
+    loop-again
+    returns)
