@@ -8,7 +8,7 @@ use native.Mathlib.Omega.{arith}
 use borrow.Author.Tests.{eq-eqb, ne-eqb, lt-ltb, le-ltb, ltb-true, ltb-false}
 use lib.Dec.{eqb, ltb}
 use lib.ListN.{length, take, drop, getD, set, replicate, length-take, length-drop, length-append, drop-of-length-le, List·getD-eq-default}
-use lib.Seq.{take-all, drop-cons, getD-take}
+use lib.Seq.{take-all, drop-cons, getD-take, take-append-seam}
 use lib.IntN.{ℤ, pos}
 use Rattle.indexing.specs.Coordinates.{has, pick, spread, othersFrom}
 use Rattle.indexing.specs.Start.{without}
@@ -222,3 +222,8 @@ pub spread-counted : {A : Type 0} (d : A) (n : ℕ) (axes : List ℕ) (l : List 
 spread-counted d n axes l a b m p q e =
     ap₂ (λ (xs : List ℕ) (ys : List _). spread d n xs ys) (sym (take-less m a axes (omega arith))) (sym (take-less m b l (omega arith)))
     ∙ spread-both d n (take a axes) (take b l) m (omega (arith, length-take a axes, length-take b l))
+
+-- a list of at most eight, read again
+pub read-back : {A : Type 0} (d : A) (l : List A) → length l ≤ rankLimit → take (length l) (padded rankLimit d l) ≡ l
+unfolding padded
+read-back d l h = rw (take-all rankLimit l h) (take-append-seam l (replicate (rankLimit - length l) d))

@@ -1,0 +1,30 @@
+use mathlib.Core.Path.{_≡_, refl, sym, ap, ap₂, _∙_}
+use mathlib.Core.Bool.{Bool, true, false, cond}
+use mathlib.Core.List.{List, [], _∷_}
+use Prim.Native.Nat.{ℕ, zero, suc, _+_, _-_, _<_, _≤_, zero-le, min}
+use native.Mathlib.Omega.{arith}
+use borrow.Author.Tests.{eq-eqb, ne-eqb, le-leb, lt-leb, ltb-true, ltb-false}
+use lib.ListN.{length, take, drop, getD, length-take}
+use Rattle.layout.specs.Layouts.{rankLimit, extentsOf, stridesOf}
+use Rattle.axis_lists.specs.Held.{numbersOf}
+use Rattle.checks.specs.Checks.{totalFits, spanFits, nestedIf, sameCount, vectorAxis, componentsOf, windowsFrom, windowsFit}
+use borrow.Author.Needs.{needs}
+use Rattle.checks.proofs.check_vector_axis.Statement.{statement}
+use Rattle.checks.proofs.check_vector_axis.Tie as tie
+use Rattle.checks.proofs.check_vector_axis.Reads as reads
+use Rattle.checks.proofs.check_vector_axis.Lts as lts
+
+-- src/lib.rt:83:37
+add-t6 : tie.Need-add-t6
+add-t6 c = search needs
+
+-- src/lib.rt:76:1
+returns : tie.Need-returns
+returns c = rw (le-leb _ _ (c .if1 .taken))
+
+-- src/lib.rt:76:1
+returns-2 : tie.Need-returns-2
+returns-2 c = rw (lt-leb _ _ (c .if1 .left))
+
+pub check-vector-axis-spec : {M : Type 1} → statement M
+check-vector-axis-spec = tie.close (tie.spec add-t6 returns returns-2)
