@@ -45,20 +45,20 @@ pub all-written : {A : Type 0} (d : A) (l : List A) (i : ℕ) → i ≡ length l
 all-written d l i e h = fill-short rankLimit d l i (omega arith) (omega arith) (omega arith)
 
 -- ---- membership, entry by entry
-module _ (xs : List ℕ) (n i a : ℕ) where
-  has-turn : i < min n (length xs) → has (drop i (take n xs)) a ≡ (eqb (getD xs i 0) a || has (drop (i + 1) (take n xs)) a)
+module _ (xs : List ℕ) (i a : ℕ) where
+  has-turn : i < length xs → has (drop i xs) a ≡ (eqb (getD xs i 0) a || has (drop (i + 1) xs) a)
   unfolding has
-  has-turn h = rw (add-one i, drop-cons (take n xs) i 0 (omega (arith, length-take n xs)), getD-take n xs i 0 (omega arith))
+  has-turn h = rw (add-one i, drop-cons xs i 0 h)
 
-  pub has-here : i < min n (length xs) → getD xs i 0 ≡ a → true ≡ has (drop i (take n xs)) a
+  pub has-here : i < length xs → getD xs i 0 ≡ a → true ≡ has (drop i xs) a
   has-here h e = rw (has-turn h, eq-eqb (getD xs i 0) a e)
 
-  pub has-next : i < min n (length xs) → (getD xs i 0 ≡ a → ⊥) → has (drop (i + 1) (take n xs)) a ≡ has (drop i (take n xs)) a
+  pub has-next : i < length xs → (getD xs i 0 ≡ a → ⊥) → has (drop (i + 1) xs) a ≡ has (drop i xs) a
   has-next h e = rw (has-turn h, ne-eqb (getD xs i 0) a e)
 
-  pub has-none : min n (length xs) ≤ i → false ≡ has (drop i (take n xs)) a
+  pub has-none : length xs ≤ i → false ≡ has (drop i xs) a
   unfolding has
-  has-none h = let k : length (take n xs) ≤ i = omega (arith, length-take n xs) in rw (drop-of-length-le (take n xs) k)
+  has-none h = rw (drop-of-length-le xs h)
 
 -- ---- an entry
 pub entry-below : {A : Type 0} (n : ℕ) (xs : List A) (i : ℕ) (d : A) → i < n → getD xs i d ≡ getD (take n xs) i d

@@ -78,14 +78,12 @@ pub fn strides_of(layout: Layout) -> Steps
 }
 
 // Whether the list has the axis.
-pub fn contains(list: Numbers, axis: u64) -> bool
-    ensures { λ r. ⌜ r ≡ has (numbersOf list) axis ⌝ }
+pub fn contains(list: &[u64], axis: u64) -> bool
+    ensures { λ r. ⌜ r ≡ has (now (list .entry)) axis ⌝ }
 {
-    let entries = list.entries;
-    let n = layout::axis_count(list.count);
     let mut i: usize = 0;
-    while i < n {
-        if entries[i] == axis {
+    while i < list.len() {
+        if list[i] == axis {
             return true;
         }
         i += 1;
@@ -94,8 +92,8 @@ pub fn contains(list: Numbers, axis: u64) -> bool
 }
 
 // The axes below n (at most eight) that the list has not, rising.
-pub fn other_axes(n: usize, list: Numbers) -> Numbers
-    ensures { λ r. ⌜ r ≡ heldNumbers (others (min n rankLimit) (numbersOf list)) ⌝ }
+pub fn other_axes(n: usize, list: &[u64]) -> Numbers
+    ensures { λ r. ⌜ r ≡ heldNumbers (others (min n rankLimit) (now (list .entry))) ⌝ }
 {
     let rank = layout::axis_count(n);
     let mut out = [0u64; RAW_FUSED_RANK_LIMIT];

@@ -98,16 +98,14 @@ pub fn component_count(index: Layout, vector: u64) -> u64
 }
 
 // 6 for the first window above its extent.
-pub fn check_windows(windows: Numbers, extents: Numbers) -> Answer
-    ensures { λ r. ⌜ r ≡ windowsFit 0 (numbersOf extents) (numbersOf windows) ⌝ }
+pub fn check_windows(windows: &[u64], extents: Numbers) -> Answer
+    ensures { λ r. ⌜ r ≡ windowsFit 0 (numbersOf extents) (now (windows .entry)) ⌝ }
 {
-    let w = windows.entries;
     let d = extents.entries;
-    let n = layout::axis_count(windows.count);
     let m = layout::axis_count(extents.count);
     let mut i: usize = 0;
-    while i < n && i < m {
-        if w[i] > d[i] {
+    while i < windows.len() && i < m {
+        if windows[i] > d[i] {
             return Answer::InvalidAxis(i as u64, m as u64);
         }
         i += 1;

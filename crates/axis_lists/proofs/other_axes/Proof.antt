@@ -13,17 +13,17 @@ use Rattle.axis_lists.proofs.other_axes.Tie as tie
 
 abbrev Inv-loop : tie.InvT-loop
 Inv-loop n list rank out₀ count₀ i₀ out count i =
-    (i ≤ rank) × (count ≤ length (others rank (numbersOf list))) × (out ≡ written 0 (others rank (numbersOf list)) count) × (drop count (others rank (numbersOf list)) ≡ othersFrom i (rank - i) (numbersOf list))
+    (i ≤ rank) × (count ≤ length (others rank list)) × (out ≡ written 0 (others rank list) count) × (drop count (others rank list) ≡ othersFrom i (rank - i) list)
 
 abbrev μ-loop : tie.MeasureT-loop
 μ-loop n list rank out₀ count₀ i₀ out count i = rank - i
 
 -- an axis that the list has not is the next of the others
-here : (c : tie.Else1 Inv-loop μ-loop) → Head 0 (others (c .before .before .before .before .axis-count .result) (numbersOf (c .before .before .before .before .before .args .list))) (c .before .before .before .loop .count) (c .before .before .before .loop .i) (othersFrom (c .before .before .before .loop .i + 1) (c .before .before .before .before .axis-count .result - (c .before .before .before .loop .i + 1)) (numbersOf (c .before .before .before .before .before .args .list)))
+here : (c : tie.Else1 Inv-loop μ-loop) → Head 0 (others (c .before .before .before .before .axis-count .result) (c .before .before .before .before .before .before .args .list .now)) (c .before .before .before .loop .count) (c .before .before .before .loop .i) (othersFrom (c .before .before .before .loop .i + 1) (c .before .before .before .before .axis-count .result - (c .before .before .before .loop .i + 1)) (c .before .before .before .before .before .before .args .list .now))
 here c =
     let l = c .before .before .before in
-    let s = l .before .before in
-    head-of 0 (others (l .before .axis-count .result) (numbersOf (s .args .list))) (l .loop .count) (l .loop .i) _ (l .loop .inv .3 ∙ others-take (numbersOf (s .args .list)) (l .loop .i) (l .before .axis-count .result) (c .before .before .loop-test .taken) (sym (c .before .contains .ensures) ∙ c .if1 .left))
+    let s = l .before .before .before in
+    head-of 0 (others (l .before .axis-count .result) (s .args .list .now)) (l .loop .count) (l .loop .i) _ (l .loop .inv .3 ∙ others-take (s .args .list .now) (l .loop .i) (l .before .axis-count .result) (c .before .before .loop-test .taken) (sym (c .before .contains .ensures) ∙ c .if1 .left))
 
 at-end : (xs : List ℕ) (k : ℕ) → k ≤ length xs → drop k xs ≡ [] → k ≡ length xs
 at-end [] k h e = omega arith
@@ -38,7 +38,7 @@ axis-count-requires c κs = search needs
 loop-holds : tie.Need-loop-holds Inv-loop μ-loop
 loop-holds c =
     let e : c .axis-count .result ≡ c .axis-count .result - 0 = omega arith in
-    (zero-le, zero-le, refl, ap (λ (n : ℕ). othersFrom 0 n (numbersOf (c .before .args .list))) e)
+    (zero-le, zero-le, refl, ap (λ (n : ℕ). othersFrom 0 n (c .before .before .args .list .now)) e)
 
 -- src/lib.rt:106:9
 add-i : tie.Need-add-i Inv-loop μ-loop
@@ -56,32 +56,32 @@ loop-less c = search needs
 loop-again : tie.Need-loop-again Inv-loop μ-loop
 loop-again c =
     let l = c .before .before .before in
-    let s = l .before .before in
-    (omega (arith, c .before .before .loop-test .taken), l .loop .inv .1, l .loop .inv .2, l .loop .inv .3 ∙ others-skip (numbersOf (s .args .list)) (l .loop .i) (l .before .axis-count .result) (c .before .before .loop-test .taken) (sym (c .before .contains .ensures) ∙ c .if1 .taken))
+    let s = l .before .before .before in
+    (omega (arith, c .before .before .loop-test .taken), l .loop .inv .1, l .loop .inv .2, l .loop .inv .3 ∙ others-skip (s .args .list .now) (l .loop .i) (l .before .axis-count .result) (c .before .before .loop-test .taken) (sym (c .before .contains .ensures) ∙ c .if1 .taken))
 
 -- src/lib.rt:110:9
 mul-out : tie.Need-mul-out Inv-loop μ-loop
 mul-out c =
     let h = here c in
     let l = c .before .before .before in
-    let s = l .before .before in
-    omega (arith, h .more, length-others 0 (l .before .axis-count .result) (numbersOf (s .args .list)), l .before .axis-count .ensures)
+    let s = l .before .before .before in
+    omega (arith, h .more, length-others 0 (l .before .axis-count .result) (s .args .list .now), l .before .axis-count .ensures)
 
 -- src/lib.rt:110:9
 array-write-out : tie.Need-array-write-out Inv-loop μ-loop
 array-write-out c =
     let h = here c in
     let l = c .before .before .before in
-    let s = l .before .before in
-    omega (arith, h .more, length-others 0 (l .before .axis-count .result) (numbersOf (s .args .list)), l .before .axis-count .ensures)
+    let s = l .before .before .before in
+    omega (arith, h .more, length-others 0 (l .before .axis-count .result) (s .args .list .now), l .before .axis-count .ensures)
 
 -- src/lib.rt:111:9
 add-count : tie.Need-add-count Inv-loop μ-loop
 add-count c =
     let h = here c in
     let l = c .before .before .before in
-    let s = l .before .before in
-    omega (arith, h .more, length-others 0 (l .before .axis-count .result) (numbersOf (s .args .list)), l .before .axis-count .ensures)
+    let s = l .before .before .before in
+    omega (arith, h .more, length-others 0 (l .before .axis-count .result) (s .args .list .now), l .before .axis-count .ensures)
 
 -- src/lib.rt:104:5
 loop-less-2 : tie.Need-loop-less-2 Inv-loop μ-loop
@@ -92,19 +92,19 @@ loop-again-2 : tie.Need-loop-again-2 Inv-loop μ-loop
 loop-again-2 c =
     let h = here c in
     let l = c .before .before .before in
-    let s = l .before .before in
-    (omega (arith, c .before .before .loop-test .taken), omega (arith, h .more), one-written 0 (others (l .before .axis-count .result) (numbersOf (s .args .list))) (l .loop .out) (l .loop .count) (l .loop .i) (h .more) (omega (arith, length-others 0 (l .before .axis-count .result) (numbersOf (s .args .list)), l .before .axis-count .ensures)) (l .loop .inv .2) (sym (h .first)), h .next)
+    let s = l .before .before .before in
+    (omega (arith, c .before .before .loop-test .taken), omega (arith, h .more), one-written 0 (others (l .before .axis-count .result) (s .args .list .now)) (l .loop .out) (l .loop .count) (l .loop .i) (h .more) (omega (arith, length-others 0 (l .before .axis-count .result) (s .args .list .now), l .before .axis-count .ensures)) (l .loop .inv .2) (sym (h .first)), h .next)
 
 -- src/lib.rt:97:1
 returns : tie.Need-returns Inv-loop μ-loop
 returns c =
     let l = c .before in
-    let s = l .before .before in
-    let e : drop (l .loop .count) (others (l .before .axis-count .result) (numbersOf (s .args .list))) ≡ [] = l .loop .inv .3 ∙ others-done (numbersOf (s .args .list)) (l .loop .i) (l .before .axis-count .result) (c .loop-test .left) in
-    let k : l .loop .count ≡ length (others (l .before .axis-count .result) (numbersOf (s .args .list))) = at-end (others (l .before .axis-count .result) (numbersOf (s .args .list))) (l .loop .count) (l .loop .inv .1) e in
+    let s = l .before .before .before in
+    let e : drop (l .loop .count) (others (l .before .axis-count .result) (s .args .list .now)) ≡ [] = l .loop .inv .3 ∙ others-done (s .args .list .now) (l .loop .i) (l .before .axis-count .result) (c .loop-test .left) in
+    let k : l .loop .count ≡ length (others (l .before .axis-count .result) (s .args .list .now)) = at-end (others (l .before .axis-count .result) (s .args .list .now)) (l .loop .count) (l .loop .inv .1) e in
     let n = l .before .axis-count .ensures in
-    numbers-are (l .loop .count) (l .loop .out) (others (min (s .args .n) rankLimit) (numbersOf (s .args .list))) (k ∙ ap (λ (m : ℕ). length (others m (numbersOf (s .args .list)))) n)
-    (l .loop .inv .2 ∙ all-written 0 (others (l .before .axis-count .result) (numbersOf (s .args .list))) (l .loop .count) k (omega (arith, length-others 0 (l .before .axis-count .result) (numbersOf (s .args .list)), n)) ∙ ap (λ (m : ℕ). padded rankLimit 0 (others m (numbersOf (s .args .list)))) n)
+    numbers-are (l .loop .count) (l .loop .out) (others (min (s .args .n) rankLimit) (s .args .list .now)) (k ∙ ap (λ (m : ℕ). length (others m (s .args .list .now))) n)
+    (l .loop .inv .2 ∙ all-written 0 (others (l .before .axis-count .result) (s .args .list .now)) (l .loop .count) k (omega (arith, length-others 0 (l .before .axis-count .result) (s .args .list .now), n)) ∙ ap (λ (m : ℕ). padded rankLimit 0 (others m (s .args .list .now))) n)
 
 pub other-axes-spec : {M : Type 1} → statement M
 other-axes-spec =

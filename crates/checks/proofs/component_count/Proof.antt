@@ -33,7 +33,7 @@ number-at-requires c κs = search needs
 
 -- src/lib.rt:88:1
 returns : tie.Need-returns
-returns c = 
+returns c =
     let s = c .before .before in
     let e : length (s .args .index .extents) ≡ 8 = search needs in
     let k : length (extentsOf (s .args .index)) ≡ min (s .args .index .rank) 8 = length-take (s .args .index .rank) (s .args .index .extents) ∙ ap (λ (m : ℕ). min (s .args .index .rank) m) e in
@@ -41,7 +41,7 @@ returns c =
 
 -- src/lib.rt:88:1
 returns-2 : tie.Need-returns-2
-returns-2 c = 
+returns-2 c =
     let s = c .before .before .before .before in
     let e : length (s .args .index .extents) ≡ 8 = search needs in
     let k : length (extentsOf (s .args .index)) ≡ min (s .args .index .rank) 8 = length-take (s .args .index .rank) (s .args .index .extents) ∙ ap (λ (m : ℕ). min (s .args .index .rank) m) e in
