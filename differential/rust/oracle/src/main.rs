@@ -6,9 +6,11 @@ mod added;
 mod calls;
 mod stubs;
 
+#[rustfmt::skip]
 #[allow(dead_code, clippy::all)]
 #[path = "../../../../../shared/docs/src/strided-basic/src/gather_plan.rs"]
 mod gather_plan;
+#[rustfmt::skip]
 #[allow(dead_code, clippy::all)]
 #[path = "../../../../../shared/docs/src/strided-basic/src/inline.rs"]
 mod inline;

@@ -291,6 +291,8 @@ pub mod raw_ops {
         None
     }
 
+    // The callers name both types.
+    #[allow(clippy::extra_unused_type_parameters)]
     pub fn pair_tiles<D, S>(_layout: &FusedPairLayout) -> Option<PairTiles> {
         None
     }

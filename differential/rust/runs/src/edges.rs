@@ -56,6 +56,24 @@ struct Walk {
     dest: Vec<i64>,
 }
 
+/// Two long axes of stride 0 that merge, past u64 or just to 2^63, with
+/// perhaps an axis after them. A 0 before holds the product at 0, and the axis
+/// of extent 1 between keeps the 0 apart from them.
+fn long_merge(random: &mut Random) -> Walk {
+    let (first, second) = random.pick(&[(1 << 62, 4), (1 << 32, 1 << 32), (1 << 62, 2)]);
+    let mut walk = Walk {
+        extents: vec![0, 1, first, second],
+        source: vec![random.pick(&STRIDES), 1, 0, 0],
+        dest: vec![random.pick(&STRIDES), random.pick(&STRIDES), 0, 0],
+    };
+    if random.percent(30) {
+        walk.extents.push(random.pick(&[1, 2]));
+        walk.source.push(random.pick(&[0, 1]));
+        walk.dest.push(random.pick(&[0, 1]));
+    }
+    walk
+}
+
 fn walk(random: &mut Random, rank: usize) -> Walk {
     let mut walk = Walk {
         extents: Vec::new(),
@@ -95,7 +113,11 @@ fn view(extents: Vec<u64>, strides: Vec<i64>, offset: i64) -> View {
 /// first or last among the update axes; the index has no components or some.
 fn batch(random: &mut Random) -> Call {
     let rank = random.size(1, 4);
-    let walk = walk(random, rank);
+    let walk = match random.percent(10) {
+        true => long_merge(random),
+        false => walk(random, rank),
+    };
+    let rank = walk.extents.len();
     let components = random.pick(&[0, 0, 0, 1, 2, 3]);
     let grid_rank = components.max(1);
     let vector = random.pick(&[0, 0, rank]);

@@ -391,12 +391,12 @@ fn axes(list: Option<&mut Vec<u64>>, rank: usize, random: &mut Random) -> bool {
         return true;
     }
     let place = random.below(list.len() as u64) as usize;
-    match random.below(7) {
-        0 | 1 => list[place] = far,
-        2 => list.push(far),
-        3 => list.push(list[place]),
-        4 if list.len() > 1 => list[place] = list[(place + 1) % list.len()],
-        5 => list.extend([list[place], far]),
+    match random.below(10) {
+        0..=3 => list[place] = far,
+        4 => list.push(far),
+        5 => list.push(list[place]),
+        6 => list.extend([list[place], far]),
+        7 | 8 if list.len() > 1 => list[place] = list[(place + 1) % list.len()],
         _ => list.extend((0..20).map(|n| n % (rank + 2))),
     }
     true
@@ -682,6 +682,10 @@ fn batch_product(call: &mut Call, random: &mut Random) -> bool {
     let (shown, batch) = (update_batch_axes(call), index_batch_axes(call));
     let vector = vector(call);
     let no_components = call.job.index().layout.extents.get(vector) == Some(&0);
+    let unequal = |l: &Layout| l.extents.len() != l.strides.len();
+    if call.job.views.iter().any(|view| unequal(&view.layout)) {
+        return false;
+    }
     if shown.len() != batch.len() || batch.len() < 2 || vector > 1 || !no_components {
         return false;
     }

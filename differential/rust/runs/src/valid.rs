@@ -38,13 +38,14 @@ struct Windowed {
     shape: Vec<u64>,
 }
 
+/// A rank: mostly small, now and then a large one.
 fn few(random: &mut Random, most: usize) -> usize {
-    let high = match random.below(10) {
-        0 => 8,
-        1..=3 => 4,
-        _ => 2,
+    let (low, high) = match random.below(10) {
+        0 => (5, 8),
+        1..=3 => (0, 4),
+        _ => (0, 2),
     };
-    random.size(0, high.min(most))
+    random.size(low.min(most), high.min(most))
 }
 
 /// Extents whose product stays small; now and then a 0.
