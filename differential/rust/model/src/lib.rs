@@ -79,20 +79,19 @@ impl Model {
         }
     }
 
-    /// True for an accepted call with more cells than a run can do.
+    /// True for an accepted call with more cells than a run can do. A gather
+    /// has no more than its destination slice has elements.
     pub fn runs_too_long(&self, call: &Call) -> bool {
-        let twisted = self.twist.is_some();
-        let most = if twisted {
-            MOST_WHEN_TWISTED
-        } else {
-            MOST_UPDATES
+        let (most, cells) = match (&call.job.spec, self.twist.is_some()) {
+            (Spec::Gather(_), false) => return false,
+            (Spec::Gather(_), true) => {
+                let extents = &call.job.dest().layout.extents;
+                (MOST_WHEN_TWISTED, arithmetic::cells(extents))
+            }
+            (Spec::Scatter(spec), false) => (MOST_UPDATES, shape::updates(&call.job, spec)),
+            (Spec::Scatter(spec), true) => (MOST_WHEN_TWISTED, shape::updates(&call.job, spec)),
         };
-        let walked = match call.job.spec {
-            Spec::Gather(_) if !twisted => return false,
-            Spec::Gather(_) => call.job.dest(),
-            Spec::Scatter(_) => call.job.source(),
-        };
-        arithmetic::cells(&walked.layout.extents) > u128::from(most)
+        cells > u128::from(most)
     }
 
     /// A refusal leaves every lent element as it was.

@@ -1,8 +1,8 @@
 //! Which axes are kept, which are batch axes, and the shapes that follow.
 
-use crate::arithmetic::at;
+use crate::arithmetic::{at, cells};
 use crate::{Model, Slip};
-use lines::{GatherSpec, Layout, ScatterSpec};
+use lines::{GatherSpec, Job, Layout, ScatterSpec};
 
 /// The axes below `rank` that are not in the list, rising.
 pub fn others(rank: usize, list: &[u64]) -> Vec<u64> {
@@ -18,6 +18,14 @@ pub fn batch_axes(index: &Layout, vector: u64) -> Vec<u64> {
 
 pub fn pick<T: Copy + Default>(list: &[T], axes: &[u64]) -> Vec<T> {
     axes.iter().map(|&axis| at(list, axis)).collect()
+}
+
+/// How many updates a scatter adds: batch coordinates times window cells.
+pub fn updates(job: &Job, spec: &ScatterSpec) -> u128 {
+    let index = &job.index().layout;
+    let batch = pick(&index.extents, &batch_axes(index, spec.index_vector_dim));
+    let window = pick(&job.source().layout.extents, &spec.update_window_dims);
+    cells(&batch).saturating_mul(cells(&window))
 }
 
 impl Model {

@@ -4,7 +4,7 @@
 
 use crate::contents::{elements, starts};
 use crate::random::Random;
-use crate::valid::element;
+use crate::valid::{self, element};
 use lines::{Call, Element, GatherSpec, Job, Layout, ScatterSpec, Spec, View};
 
 pub const EXTENTS: [u64; 12] = [
@@ -42,10 +42,53 @@ pub const STRIDES: [i64; 16] = [
 ];
 
 pub fn call(random: &mut Random) -> Call {
-    match random.below(10) {
+    match random.below(12) {
         0..=5 => batch(random),
         6..=7 => window(random),
-        _ => gather(random),
+        8..=9 => gather(random),
+        10 => long_operand(random),
+        _ => unread_index(random),
+    }
+}
+
+/// A gather of none or of one from an axis as long as an axis can be.
+fn long_operand(random: &mut Random) -> Call {
+    let extent = random.pick(&[1 << 62, (1 << 63) - 1, 1 << 63]);
+    let window = random.below(2);
+    let mut call = gather(random);
+    call.job.views = [
+        view(vec![extent], vec![0], random.between(0, 2)),
+        view(vec![1], vec![1], random.between(0, 3)),
+        view(vec![window], vec![1], random.between(0, 2)),
+    ];
+    call.job.spec = Spec::Gather(GatherSpec {
+        offset_dims: vec![0],
+        start_index_map: vec![0],
+        slice_sizes: vec![window],
+        ..GatherSpec::default()
+    });
+    call
+}
+
+/// A call without components: its index has no cells and far strides, and is
+/// not read.
+fn unread_index(random: &mut Random) -> Call {
+    loop {
+        let mut call = valid::call(random);
+        let place = call.job.index_place();
+        let index = &mut call.job.views[place].layout;
+        let vector = match &call.job.spec {
+            Spec::Gather(spec) => spec.index_vector_dim as usize,
+            Spec::Scatter(spec) => spec.index_vector_dim as usize,
+        };
+        if index.extents.get(vector) != Some(&0) {
+            continue;
+        }
+        let far = random.below(index.extents.len() as u64) as usize;
+        index.strides[far] = random.pick(&STRIDES);
+        call.job.views[place].offset = random.between(0, 3);
+        call.index = starts(random, 3, 2);
+        return call;
     }
 }
 

@@ -57,7 +57,7 @@ const GATHER: [(&str, Fault); 13] = [
     ("large-expected-rank", large_expected_rank),
 ];
 
-const SCATTER: [(&str, Fault); 14] = [
+const SCATTER: [(&str, Fault); 15] = [
     ("inserted-axes", |c, r| {
         let rank = c.job.dest().layout.extents.len();
         axes(scatter(c).map(|s| &mut s.inserted_window_dims), rank, r)
@@ -87,6 +87,7 @@ const SCATTER: [(&str, Fault); 14] = [
     ("batch-walk", batch_walk),
     ("window-walk", window_walk),
     ("component-offsets", component_offsets),
+    ("update-span", update_span),
 ];
 
 /// Faults in turn, so that each pair is met as often as any other.
@@ -762,5 +763,28 @@ fn component_offsets(call: &mut Call, random: &mut Random) -> bool {
         true => random.pick(&[high, i64::MIN, i64::MAX]),
         false => random.pick(&[high, high, -high - 1, -high, i64::MIN]),
     };
+    true
+}
+
+/// Batch and window each reach 2^62 in the updates: each walk fits, and the
+/// span of both, which does not, is not tested.
+fn update_span(call: &mut Call, random: &mut Random) -> bool {
+    let batch = update_batch_axes(call);
+    let Some(spec) = scatter(call) else {
+        return false;
+    };
+    let window = spec.update_window_dims.last().map(|&axis| axis as usize);
+    let layout = &mut call.job.views[1].layout;
+    let (Some(&batch), Some(window)) = (batch.last(), window) else {
+        return false;
+    };
+    let two = |axis: usize| layout.extents.get(axis) == Some(&2);
+    let rank = layout.strides.len();
+    if !two(batch) || !two(window) || batch.max(window) >= rank {
+        return false;
+    }
+    let high = random.pick(&[1i64 << 62, -(1 << 62) - 1]);
+    layout.strides[batch] = high;
+    layout.strides[window] = high;
     true
 }

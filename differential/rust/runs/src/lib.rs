@@ -5,6 +5,7 @@ pub mod answers;
 mod contents;
 mod edges;
 mod faults;
+pub mod jobs;
 mod random;
 pub mod small;
 mod valid;
@@ -37,9 +38,9 @@ impl Iterator for Generator {
     fn next(&mut self) -> Option<Call> {
         let random = &mut self.random;
         Some(match random.below(100) {
-            0..=61 => valid::call(random),
-            62..=73 => self.faults.one(random),
-            74..=91 => self.faults.two(random),
+            0..=56 => valid::call(random),
+            57..=66 => self.faults.one(random),
+            67..=90 => self.faults.two(random),
             _ => edges::call(random),
         })
     }

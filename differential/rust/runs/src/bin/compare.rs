@@ -59,7 +59,9 @@ impl Counts {
             Some(Case::Call(_)) => self.take_call(answered),
             Some(case) => {
                 self.count_outside("the Rust has no stored job");
-                let expected = Model::default().answer(case).to_string();
+                let expected = Model::default().answer(case);
+                self.count_number(&expected);
+                let expected = expected.to_string();
                 self.note(answered, ORACLE, answered.given[ORACLE] == "answer none");
                 self.take_port(answered, answered.given[PORT] == expected);
             }
@@ -76,9 +78,7 @@ impl Counts {
     fn take_call(&mut self, answered: &Answered) {
         let Some(call) = answered.call() else { return };
         let verdict = Model::default().judge(call);
-        if let Answer::Called(number, _) = &verdict.answer {
-            *self.numbers.entry(number.n).or_default() += 1;
-        }
+        self.count_number(&verdict.answer);
         if let Some(check) = verdict.refused_by {
             self.count_check(&call.job.spec, check);
         }
@@ -99,6 +99,14 @@ impl Counts {
             return;
         }
         self.note(answered, PORT, agrees);
+    }
+
+    fn count_number(&mut self, answer: &Answer) {
+        if let Answer::Called(number, _) | Answer::Read(number, _) | Answer::Written(number, _) =
+            answer
+        {
+            *self.numbers.entry(number.n).or_default() += 1;
+        }
     }
 
     fn count_check(&mut self, spec: &Spec, check: Check) {

@@ -1,7 +1,10 @@
-//! Prints cases: `generate COUNT SEED`, or `generate small [long]`.
+//! Prints cases: `generate COUNT SEED`, `generate small [long]`, or
+//! `generate jobs COUNT SEED`.
 
+use runs::jobs::Jobs;
 use runs::small::{self, Size};
 use runs::Generator;
+use std::fmt::Display;
 use std::io::{self, BufWriter, Write};
 
 fn main() -> io::Result<()> {
@@ -11,23 +14,35 @@ fn main() -> io::Result<()> {
     match words[..] {
         ["small"] => print_small(Size::Short, &mut output)?,
         ["small", "long"] => print_small(Size::Long, &mut output)?,
-        [count, seed] => match (count.parse(), seed.parse()) {
-            (Ok(count), Ok(seed)) => print_random(count, seed, &mut output)?,
-            _ => usage(),
-        },
+        [count, seed] => {
+            let calls = Generator::new(number(seed)).take(number(count) as usize);
+            print(&format!("r{seed}."), calls, &mut output)?;
+        }
+        ["jobs", count, seed] => {
+            let jobs = Jobs::new(number(seed)).take(number(count) as usize);
+            print(&format!("j{seed}."), jobs, &mut output)?;
+        }
         _ => usage(),
     }
     output.flush()
 }
 
+fn number(text: &str) -> u64 {
+    text.parse().unwrap_or_else(|_| usage())
+}
+
 fn usage() -> ! {
-    eprintln!("usage: generate COUNT SEED | generate small [long]");
+    eprintln!("usage: generate COUNT SEED | small [long] | jobs COUNT SEED");
     std::process::exit(2);
 }
 
-fn print_random(count: usize, seed: u64, output: &mut impl Write) -> io::Result<()> {
-    for (n, call) in Generator::new(seed).take(count).enumerate() {
-        writeln!(output, "r{seed}.{n} {call}")?;
+fn print<T: Display>(
+    prefix: &str,
+    cases: impl Iterator<Item = T>,
+    output: &mut impl Write,
+) -> io::Result<()> {
+    for (n, case) in cases.enumerate() {
+        writeln!(output, "{prefix}{n} {case}")?;
     }
     Ok(())
 }
