@@ -278,6 +278,7 @@ impl Model {
     fn window_sizes(&self, windows: &[u64], extents: &[u64]) -> Option<Number> {
         let above = |place: &usize| match windows[*place] {
             w if self.slips(Slip::WindowBelowExtent) => w >= extents[*place],
+            w if self.slips(Slip::WindowOneMore) => w > extents[*place].saturating_add(1),
             w => w > extents[*place],
         };
         let mut places = 0..windows.len().min(extents.len());
@@ -397,7 +398,8 @@ impl Model {
             ),
             Check::WindowCount => mismatch(given, count(&kept)),
             Check::WindowCountInRank => {
-                (given > update_rank).then_some(Number::new(5, given, update_rank))
+                let one_more = u64::from(self.slips(Slip::CountOneAboveRank));
+                (given > update_rank + one_more).then_some(Number::new(5, given, update_rank))
             }
             Check::BatchRank => mismatch(update_rank.wrapping_sub(given), count(&batch)),
             Check::WindowAxes => self.axis_list(&spec.update_window_dims, update_rank),

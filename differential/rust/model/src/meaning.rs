@@ -110,10 +110,7 @@ impl Model {
         let rank = operand.layout.extents.len();
         let kept = others(rank, &spec.collapsed_slice_dims);
         let batch = others(dest.layout.extents.len(), &spec.offset_dims);
-        let mut shown = spec.offset_dims.clone();
-        if self.slips(Slip::WindowAxesSorted) {
-            shown.sort();
-        }
+        let shown = self.window_axes(&spec.offset_dims);
         let starts = Starts {
             call,
             vector: spec.index_vector_dim,
@@ -123,10 +120,7 @@ impl Model {
         };
         let mut first = None;
         for k in 0..self.cells(&dest.layout.extents) {
-            let result = match self.slips(Slip::GatherLastFastest) {
-                true => unravel_last_fastest(&dest.layout.extents, k),
-                false => unravel(&dest.layout.extents, k),
-            };
+            let result = self.coordinate(&dest.layout.extents, k, Slip::GatherLastFastest);
             let start = self.full_start(&starts, &pick(&result, &batch));
             let offset = pick(&result, &shown);
             let coordinate = self.moved(&start, &kept, &offset);
@@ -164,66 +158,83 @@ impl Model {
         coordinate
     }
 
+    /// The fold of adds over the cuts, in their order.
     fn scatter(&self, call: &Call, spec: &ScatterSpec) -> (Vec<u64>, Vec<bool>) {
+        let old = words(&call.dest);
+        let mut cells = match self.slips(Slip::ScatterSumsFirst) {
+            true => vec![0; old.len()],
+            false => old.clone(),
+        };
+        let mut added = vec![false; old.len()];
+        for (place, word) in self.cuts(call, spec) {
+            let sum = self.sum(read(&cells, place), word, call.job.element);
+            write(&mut cells, place, sum);
+            if let Some(mark) = usize::try_from(place).ok().and_then(|p| added.get_mut(p)) {
+                *mark = true;
+            }
+        }
+        self.slip_scatter(&mut cells, &old, &added, call);
+        (cells, added)
+    }
+
+    /// The updates in their order: the place that each lands on, with the
+    /// element read. Batch by batch, and inside a window cell by cell.
+    fn cuts(&self, call: &Call, spec: &ScatterSpec) -> Vec<(i128, u64)> {
         let [index, updates, dest] = &call.job.views;
-        let (source, mut cells) = (words(&call.source), words(&call.dest));
-        let mut added = vec![false; cells.len()];
-        let rank = dest.layout.extents.len();
-        let kept = others(rank, &spec.inserted_window_dims);
+        let source = words(&call.source);
+        let kept = others(dest.layout.extents.len(), &spec.inserted_window_dims);
         let batch_axes = batch_axes(&index.layout, spec.index_vector_dim);
         let batch_shape = pick(&index.layout.extents, &batch_axes);
-        let mut shown = spec.update_window_dims.clone();
-        if self.slips(Slip::WindowAxesSorted) {
-            shown.sort();
-        }
-        let windows = self.scatter_windows(spec, &dest.layout, &updates.layout);
+        let shown = self.window_axes(&spec.update_window_dims);
         let window_shape = pick(&updates.layout.extents, &shown);
         let starts = Starts {
             call,
             vector: spec.index_vector_dim,
             map: &spec.scatter_dims_to_operand_dims,
             extents: &dest.layout.extents,
-            windows: &windows,
+            windows: &self.scatter_windows(spec, &dest.layout, &updates.layout),
         };
-        let old = cells.clone();
-        if self.slips(Slip::ScatterSumsFirst) {
-            cells.fill(0);
-        }
         // With no window cells there are no updates, however many batches.
         let batches = match self.cells(&window_shape) {
             0 => 0,
             _ => self.cells(&batch_shape),
         };
+        let mut cuts = Vec::new();
         for b in self.batches(batches) {
-            let batch = match self.slips(Slip::BatchLastFastest) {
-                true => unravel_last_fastest(&batch_shape, b),
-                false => unravel(&batch_shape, b),
-            };
+            let batch = self.coordinate(&batch_shape, b, Slip::BatchLastFastest);
             if self.slips(Slip::ScatterSkipsOffGrid) && self.off_grid(&starts, &batch) {
                 continue;
             }
             let start = self.full_start(&starts, &batch);
             for w in 0..self.cells(&window_shape) {
-                let window = match self.slips(Slip::WindowLastFastest) {
-                    true => unravel_last_fastest(&window_shape, w),
-                    false => unravel(&window_shape, w),
-                };
-                let update = self.update_coordinate(updates, &shown, &window, &batch);
-                let word = read(&source, self.place(updates, &update));
+                let window = self.coordinate(&window_shape, w, Slip::WindowLastFastest);
                 let landed = self.moved(&start, &kept, &window);
                 if self.drops_cells(call) && outside(&landed, starts.extents) {
                     continue;
                 }
-                let place = self.place(dest, &landed);
-                let sum = self.sum(read(&cells, place), word, call.job.element);
-                write(&mut cells, place, sum);
-                if let Some(mark) = usize::try_from(place).ok().and_then(|p| added.get_mut(p)) {
-                    *mark = true;
-                }
+                let update = self.update_coordinate(updates, &shown, &window, &batch);
+                let word = read(&source, self.place(updates, &update));
+                cuts.push((self.place(dest, &landed), word));
             }
         }
-        self.slip_scatter(&mut cells, &old, &added, call);
-        (cells, added)
+        cuts
+    }
+
+    /// The coordinate of `k`, first axis fastest but for a slip.
+    fn coordinate(&self, extents: &[u64], k: u128, last_fastest: Slip) -> Vec<i128> {
+        match self.slips(last_fastest) {
+            true => unravel_last_fastest(extents, k),
+            false => unravel(extents, k),
+        }
+    }
+
+    /// The axes that show the window, in list order.
+    fn window_axes(&self, list: &[u64]) -> Vec<u64> {
+        let mut shown = list.to_vec();
+        if self.slips(Slip::WindowAxesSorted) {
+            shown.sort();
+        }
+        shown
     }
 
     /// The order in which batches are taken.

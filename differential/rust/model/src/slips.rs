@@ -54,6 +54,7 @@ slips! {
     ComponentsInI64: "the component count is held in i64";
     ComponentsInU32: "the component count is held in u32";
     ScalarHasNoComponent: "a vector axis equal to the rank gives no component";
+    CountOneAboveRank: "a window axis count one above the update rank is taken";
     ListsToEight: "lists are cut to 8 entries";
     ListsToSixteen: "lists are cut to 16 entries";
     // Axes.
@@ -65,6 +66,7 @@ slips! {
     VectorBelowRank: "a vector axis equal to the rank is refused";
     VectorOneMore: "a vector axis one above the rank is taken";
     VectorNamesRank: "6 for the vector axis names the rank";
+    WindowOneMore: "a window one above its extent is taken";
     WindowBelowExtent: "a window equal to its extent is refused";
     WindowNamesLast: "6 names the last window above its extent";
     WindowsNeedUpdates: "scatter windows are not tested without updates";

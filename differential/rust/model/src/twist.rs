@@ -97,13 +97,15 @@ pub fn mutants() -> Vec<Mutant> {
     all
 }
 
+/// What is done to the check at this place of the order: the change, a word
+/// for it, what it does, and why it cannot be seen.
+type Row = (Change, &'static str, String, Option<&'static str>);
+
 fn mutants_of(spec: &Spec, place: usize) -> Vec<Mutant> {
-    let checks = order(spec);
-    let (check, next) = (checks[place], checks.get(place + 1));
     let kind = if is_gather(spec) { "gather" } else { "scatter" };
-    let name = check.name(spec);
-    let mutant = |change, name: String, what: String, unseen| Mutant {
-        name,
+    let name = order(spec)[place].name(spec);
+    let mutant = |(change, word, what, unseen): Row| Mutant {
+        name: format!("{kind}-{word}-{name}"),
         what,
         twist: Twist {
             slip: None,
@@ -111,42 +113,33 @@ fn mutants_of(spec: &Spec, place: usize) -> Vec<Mutant> {
         },
         unseen,
     };
-    let mut all = Vec::new();
-    if let Some(&next) = next {
-        let after = next.name(spec);
+    rows(spec, place).into_iter().map(mutant).collect()
+}
+
+fn rows(spec: &Spec, place: usize) -> Vec<Row> {
+    let checks = order(spec);
+    let check = checks[place];
+    let name = check.name(spec);
+    let mut rows: Vec<Row> = Vec::new();
+    if let Some(next) = checks.get(place + 1) {
+        let what = format!("{name} is tested after {}", next.name(spec));
         let alike = check.number() == 3 && next.number() == 3;
-        all.push(mutant(
-            Change::Moved,
-            format!("{kind}-moved-{name}"),
-            format!("{name} is tested after {after}"),
-            alike.then_some("both give 3, 0, 0"),
-        ));
+        let unseen = alike.then_some("both give 3, 0, 0");
+        rows.push((Change::Moved, "moved", what, unseen));
     }
-    all.push(mutant(
-        Change::Dropped,
-        format!("{kind}-dropped-{name}"),
-        format!("{name} is not tested"),
-        dropped_unseen(check),
-    ));
+    let what = format!("{name} is not tested");
+    rows.push((Change::Dropped, "dropped", what, dropped_unseen(check)));
     if matches!(check.number(), 2 | 5 | 6 | 7 | 9) {
-        all.push(mutant(
-            Change::Exchanged,
-            format!("{kind}-exchanged-{name}"),
-            format!("{name} gives a and b the other way round"),
-            exchanged_unseen(check, spec),
-        ));
+        let what = format!("{name} gives a and b the other way round");
+        let unseen = exchanged_unseen(check, spec);
+        rows.push((Change::Exchanged, "exchanged", what, unseen));
     }
     if check.number() == 5 && check != Check::WindowCountInRank {
-        for (change, word) in [(Change::OnlyMore, "more"), (Change::OnlyFewer, "fewer")] {
-            all.push(mutant(
-                change,
-                format!("{kind}-only-{word}-{name}"),
-                format!("{name} refuses only where there are {word}"),
-                None,
-            ));
-        }
+        let what = |word| format!("{name} refuses only where there are {word}");
+        rows.push((Change::OnlyMore, "only-more", what("more"), None));
+        rows.push((Change::OnlyFewer, "only-fewer", what("fewer"), None));
     }
-    all
+    rows
 }
 
 fn dropped_unseen(check: Check) -> Option<&'static str> {

@@ -2,6 +2,7 @@
 //! list, every small destination layout, every view near the ends of its
 //! slice, every pair of walk axes from a list of edges.
 
+use crate::valid::shape;
 use lines::{Call, Data, Element, GatherSpec, Job, Layout, ScatterSpec, Spec, View};
 
 /// How much is listed: `Short` for every check, `Long` for a long run.
@@ -129,20 +130,14 @@ fn arranged(extents: &[u64], windows: &[u64], take: &mut dyn FnMut(Arranged, usi
         if hidden.iter().any(|&axis| windows[axis as usize] != 1) {
             continue;
         }
-        let kept: Vec<usize> = (0..rank)
-            .filter(|&a| !hidden.contains(&(a as u64)))
+        let kept: Vec<u64> = (0..rank)
+            .filter(|&axis| !hidden.contains(&(axis as u64)))
+            .map(|axis| windows[axis])
             .collect();
         for map in all_arrangements(rank) {
             for batch in [&[][..], &[2], &[2, 3]] {
                 for (index_extents, vector) in indexes(batch, map.len()) {
                     for shown in arrangements(kept.len() + batch.len(), kept.len()) {
-                        let mut batches = batch.iter().copied();
-                        let shape = (0..(kept.len() + batch.len()) as u64)
-                            .map(|axis| match shown.iter().position(|&a| a == axis) {
-                                Some(place) => windows[kept[place]],
-                                None => batches.next().unwrap_or(1),
-                            })
-                            .collect();
                         turn += 1;
                         let arranged = Arranged {
                             extents,
@@ -152,7 +147,7 @@ fn arranged(extents: &[u64], windows: &[u64], take: &mut dyn FnMut(Arranged, usi
                             index_extents: index_extents.clone(),
                             vector,
                             shown: &shown,
-                            shape,
+                            shape: shape(&shown, &kept, batch),
                         };
                         take(arranged, turn);
                     }

@@ -27,8 +27,6 @@ struct Windowed {
     windows: Vec<u64>,
     /// Axes collapsed or inserted, in list order.
     hidden: Vec<u64>,
-    /// The axes that are not hidden, rising.
-    kept: Vec<u64>,
     map: Vec<u64>,
     batch: Vec<u64>,
     index_extents: Vec<u64>,
@@ -83,14 +81,7 @@ fn windowed(random: &mut Random) -> Windowed {
 fn windowed_of_any_size(random: &mut Random) -> Windowed {
     let rank = few(random, 8);
     let extents = extents(random, rank, MOST_GRID);
-    let may_hide: Vec<u64> = (0..rank as u64)
-        .filter(|&axis| extents[axis as usize] > 0)
-        .collect();
-    let mut hidden: Vec<u64> = may_hide
-        .into_iter()
-        .filter(|_| random.percent(35))
-        .collect();
-    random.shuffle(&mut hidden);
+    let hidden = hidden_axes(random, &extents);
     let kept: Vec<u64> = (0..rank as u64).filter(|a| !hidden.contains(a)).collect();
     let window = |axis: usize, random: &mut Random| match extents[axis] {
         _ if hidden.contains(&(axis as u64)) => 1,
@@ -108,21 +99,12 @@ fn windowed_of_any_size(random: &mut Random) -> Windowed {
     if random.percent(40) {
         shown.sort();
     }
-    let mut shape = vec![u64::MAX; kept.len() + batch_rank];
-    for (&axis, &operand_axis) in shown.iter().zip(&kept) {
-        shape[axis as usize] = windows[operand_axis as usize];
-    }
-    let mut batches = batch.iter();
-    for (axis, extent) in shape.iter_mut().enumerate() {
-        if !shown.contains(&(axis as u64)) {
-            *extent = *batches.next().expect("a batch axis for each axis left");
-        }
-    }
+    let kept_windows: Vec<u64> = kept.iter().map(|&axis| windows[axis as usize]).collect();
+    let shape = shape(&shown, &kept_windows, &batch);
     Windowed {
         extents,
         windows,
         hidden,
-        kept,
         map,
         batch,
         index_extents,
@@ -130,6 +112,27 @@ fn windowed_of_any_size(random: &mut Random) -> Windowed {
         shown,
         shape,
     }
+}
+
+/// Axes to be collapsed or inserted, in any order; not those without cells.
+fn hidden_axes(random: &mut Random, extents: &[u64]) -> Vec<u64> {
+    let mut hidden: Vec<u64> = (0..extents.len())
+        .filter(|&axis| extents[axis] > 0 && random.percent(35))
+        .map(|axis| axis as u64)
+        .collect();
+    random.shuffle(&mut hidden);
+    hidden
+}
+
+/// Windows on the axes that show them, batch extents on the others.
+pub fn shape(shown: &[u64], windows: &[u64], batch: &[u64]) -> Vec<u64> {
+    let mut batch = batch.iter().copied();
+    (0..(windows.len() + batch.len()) as u64)
+        .map(|axis| match shown.iter().position(|&a| a == axis) {
+            Some(place) => windows[place],
+            None => batch.next().expect("a batch axis for each axis left"),
+        })
+        .collect()
 }
 
 /// The start map, the index extents and the vector axis.
@@ -286,7 +289,6 @@ pub fn scatter(random: &mut Random) -> Call {
     let reach = w.extents.iter().copied().max().unwrap_or(0) as i64;
     let dest_strides = nested_strides(random, &w.extents);
     let (dest, dest_len) = placed(random, w.extents, dest_strides);
-    debug_assert_eq!(w.kept.len(), w.shown.len());
     let spec = ScatterSpec {
         update_window_dims: w.shown,
         inserted_window_dims: w.hidden,
