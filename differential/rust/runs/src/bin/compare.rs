@@ -40,7 +40,12 @@ fn main() -> ExitCode {
             return ExitCode::from(1);
         }
     };
-    let stem = |path: &Path| path.with_extension("").display().to_string();
+    let stem = |path: &Path| {
+        path.file_stem()
+            .unwrap_or_default()
+            .to_string_lossy()
+            .into_owned()
+    };
     let mut counts = Counts {
         names: drivers.map(stem),
         ..Counts::default()
