@@ -26,13 +26,17 @@ build_runs() {
 
 have_original() { [ -r "$original" ]; }
 
+have_tinyvec() {
+    set -- /usr/share/cargo/registry/tinyvec-[0-9]* /usr/share/cargo/registry/tinyvec_macros-[0-9]*
+    [ -e "$1" ] && [ -e "$2" ]
+}
+
 # Debian's tinyvec stands in for the registry's.
 install_tinyvec() {
-    for found in /usr/share/cargo/registry/tinyvec_macros-*; do
-        [ -e "$found" ] && return
-    done
+    have_tinyvec && return
     say "installing tinyvec from Debian"
     { apt-get update && apt-get install -y librust-tinyvec-dev 'librust-tinyvec+alloc-dev'; } >&2
+    have_tinyvec || fail "tinyvec is missing: install librust-tinyvec-dev with its alloc feature"
 }
 
 build_oracle() {
