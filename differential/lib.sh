@@ -14,7 +14,7 @@ fail() {
 }
 
 need_cargo() {
-    command -v cargo >/dev/null 2>&1 || PATH=$PATH:$HOME/.cargo/bin
+    command -v cargo >/dev/null 2>&1 || PATH=$PATH:${HOME-}/.cargo/bin
     command -v cargo >/dev/null 2>&1 || fail "cargo is missing: install Rust 1.82 or newer"
 }
 
