@@ -1,0 +1,56 @@
+# Shared by the commands of this folder: paths and builds. Sourced, not run.
+
+here=$(CDPATH='' cd -- "$(dirname -- "$0")" && pwd)
+root=$(dirname -- "$here")
+original=$(dirname -- "$root")/shared/docs/src/strided-basic/src/gather_plan.rs
+bin=$root/target/differential/release
+work=$root/target/differential/work
+
+say() { printf '%s\n' "$*" >&2; }
+
+fail() {
+    say "$*"
+    exit 1
+}
+
+need_cargo() {
+    command -v cargo >/dev/null 2>&1 || PATH=$PATH:${HOME-}/.cargo/bin
+    command -v cargo >/dev/null 2>&1 || fail "cargo is missing: install Rust 1.82 or newer"
+}
+
+# The model, the generator, the comparison: no crate from outside.
+build_runs() {
+    need_cargo
+    (cd "$here/rust" && cargo build --release --quiet --offline --locked -p model -p runs) >&2
+}
+
+have_original() { [ -r "$original" ]; }
+
+have_tinyvec() {
+    set -- /usr/share/cargo/registry/tinyvec-[0-9]* /usr/share/cargo/registry/tinyvec_macros-[0-9]*
+    [ -e "$1" ] && [ -e "$2" ]
+}
+
+# Debian's tinyvec stands in for the registry's.
+install_tinyvec() {
+    have_tinyvec && return
+    say "installing tinyvec from Debian"
+    { apt-get update && apt-get install -y librust-tinyvec-dev 'librust-tinyvec+alloc-dev'; } >&2
+    have_tinyvec || fail "tinyvec is missing: install librust-tinyvec-dev with its alloc feature"
+}
+
+build_oracle() {
+    have_original || fail "the oracle is not built: ../shared, which holds gather_plan.rs, is absent"
+    need_cargo
+    install_tinyvec
+    (cd "$here/rust/oracle" && cargo build --release --quiet --offline) >&2
+}
+
+# The static library is made where its crate exists and the archive does not.
+build_port() {
+    need_cargo
+    if [ -d "$root/crates/strided" ] && [ ! -e "$root/target/staticlib/libstrided.a" ]; then
+        (cd "$root" && rt staticlib strided) >&2
+    fi
+    (cd "$here/rust" && cargo build --release --quiet --offline --locked -p port) >&2
+}

@@ -1,0 +1,226 @@
+//! Reading lines.
+
+use crate::{
+    Answer, Call, Case, Data, Element, GatherSpec, Job, Layout, Number, ScatterSpec, Spec, View,
+};
+use std::str::{FromStr, Split};
+
+/// The tokens of a line, read in the order of the format.
+struct Tokens<'a> {
+    rest: Split<'a, char>,
+    held: Option<&'a str>,
+}
+
+impl<'a> Tokens<'a> {
+    fn new(text: &'a str) -> Self {
+        Tokens {
+            rest: text.split(' '),
+            held: None,
+        }
+    }
+
+    fn next(&mut self) -> Option<&'a str> {
+        self.held.take().or_else(|| self.rest.next())
+    }
+
+    /// The value of the next token, which must be `key=value`.
+    fn value(&mut self, key: &str) -> Option<&'a str> {
+        self.next()?.strip_prefix(key)?.strip_prefix('=')
+    }
+
+    /// As `value`, but another token is left to be read.
+    fn optional(&mut self, key: &str) -> Option<&'a str> {
+        let token = self.next()?;
+        let value = token.strip_prefix(key).and_then(|t| t.strip_prefix('='));
+        if value.is_none() {
+            self.held = Some(token);
+        }
+        value
+    }
+
+    fn end(&mut self) -> Option<()> {
+        self.next().is_none().then_some(())
+    }
+}
+
+/// A number as Rust prints it; no plus sign.
+fn number<T: FromStr>(text: &str) -> Option<T> {
+    if text.starts_with('+') {
+        return None;
+    }
+    text.parse().ok()
+}
+
+fn list<T>(text: &str, entry: impl Fn(&str) -> Option<T>) -> Option<Vec<T>> {
+    if text.is_empty() {
+        return Some(Vec::new());
+    }
+    text.split(',').map(entry).collect()
+}
+
+fn bits(text: &str) -> Option<u64> {
+    let hexadecimal = text.len() == 16 && text.bytes().all(|b| b.is_ascii_hexdigit());
+    if !hexadecimal {
+        return None;
+    }
+    u64::from_str_radix(text, 16).ok()
+}
+
+fn data(text: &str, element: Element) -> Option<Data> {
+    match element {
+        Element::I32 => list(text, number).map(Data::I32),
+        Element::F64 => list(text, bits).map(Data::F64),
+    }
+}
+
+fn layout(text: &str) -> Option<Layout> {
+    let (extents, strides) = text.split_once('|')?;
+    Some(Layout {
+        extents: list(extents, number)?,
+        strides: list(strides, number)?,
+    })
+}
+
+fn view(text: &str) -> Option<View> {
+    let (text, offset) = text.rsplit_once('|')?;
+    Some(View {
+        layout: layout(text)?,
+        offset: number(offset)?,
+    })
+}
+
+fn element(text: &str) -> Option<Element> {
+    match text {
+        "i32" => Some(Element::I32),
+        "f64" => Some(Element::F64),
+        _ => None,
+    }
+}
+
+fn axes(tokens: &mut Tokens, key: &str) -> Option<Vec<u64>> {
+    list(tokens.value(key)?, number)
+}
+
+fn views(tokens: &mut Tokens, keys: [&str; 3]) -> Option<[View; 3]> {
+    let mut one = |key| view(tokens.value(key)?);
+    Some([one(keys[0])?, one(keys[1])?, one(keys[2])?])
+}
+
+fn job(kind: &str, tokens: &mut Tokens) -> Option<Job> {
+    let element = element(tokens.next()?)?;
+    let (views, spec) = match kind {
+        "gather" => (views(tokens, ["op", "ix", "de"])?, gather_spec(tokens)?),
+        "scatter" => (views(tokens, ["ix", "up", "de"])?, scatter_spec(tokens)?),
+        _ => return None,
+    };
+    Some(Job {
+        element,
+        views,
+        spec,
+    })
+}
+
+fn gather_spec(tokens: &mut Tokens) -> Option<Spec> {
+    Some(Spec::Gather(GatherSpec {
+        offset_dims: axes(tokens, "od")?,
+        collapsed_slice_dims: axes(tokens, "cd")?,
+        start_index_map: axes(tokens, "sm")?,
+        index_vector_dim: number(tokens.value("vd")?)?,
+        slice_sizes: axes(tokens, "ss")?,
+    }))
+}
+
+fn scatter_spec(tokens: &mut Tokens) -> Option<Spec> {
+    Some(Spec::Scatter(ScatterSpec {
+        update_window_dims: axes(tokens, "uw")?,
+        inserted_window_dims: axes(tokens, "iw")?,
+        scatter_dims_to_operand_dims: axes(tokens, "sm")?,
+        index_vector_dim: number(tokens.value("vd")?)?,
+    }))
+}
+
+fn call(kind: &str, tokens: &mut Tokens) -> Option<Call> {
+    let job = job(kind, tokens)?;
+    let (source, index);
+    let keys = match job.spec {
+        Spec::Gather(_) => {
+            source = data(tokens.value("opd")?, job.element)?;
+            index = list(tokens.value("ixd")?, number)?;
+            ["cop", "cix", "cde"]
+        }
+        Spec::Scatter(_) => {
+            index = list(tokens.value("ixd")?, number)?;
+            source = data(tokens.value("upd")?, job.element)?;
+            ["cix", "cup", "cde"]
+        }
+    };
+    let dest = data(tokens.value("ded")?, job.element)?;
+    let mut layouts = [None, None, None];
+    for (slot, key) in layouts.iter_mut().zip(keys) {
+        if let Some(text) = tokens.optional(key) {
+            *slot = Some(layout(text)?);
+        }
+    }
+    tokens.end()?;
+    Some(Call {
+        job,
+        source,
+        index,
+        dest,
+        layouts,
+    })
+}
+
+fn bytes(text: &str) -> Option<Vec<u8>> {
+    if text == "-" {
+        return Some(Vec::new());
+    }
+    if text.is_empty() || !text.is_ascii() || text.len() % 2 != 0 {
+        return None;
+    }
+    let byte = |at| {
+        let pair: &str = &text[at..at + 2];
+        let good = pair.bytes().all(|b| b.is_ascii_hexdigit());
+        good.then(|| u8::from_str_radix(pair, 16).ok()).flatten()
+    };
+    (0..text.len()).step_by(2).map(byte).collect()
+}
+
+/// The case of a line without its ID; `None` where it is not in the format.
+pub fn parse_case(text: &str) -> Option<Case> {
+    let mut tokens = Tokens::new(text);
+    match tokens.next()? {
+        "read" => {
+            let bytes = bytes(tokens.next()?)?;
+            tokens.end()?;
+            Some(Case::Read(bytes))
+        }
+        "write" => {
+            let kind = tokens.next()?;
+            let job = Box::new(job(kind, &mut tokens)?);
+            (tokens.next()? == "room").then_some(())?;
+            let room = number(tokens.next()?)?;
+            tokens.end()?;
+            Some(Case::Write { job, room })
+        }
+        kind => Some(Case::Call(Box::new(call(kind, &mut tokens)?))),
+    }
+}
+
+/// The answer of a line to a case of this element, without its ID.
+pub fn parse_answer(text: &str, of: Element) -> Option<Answer> {
+    let mut tokens = Tokens::new(text);
+    (tokens.next()? == "answer").then_some(())?;
+    let n = match tokens.next()? {
+        "none" => return Some(Answer::None),
+        "malformed" => return Some(Answer::Malformed),
+        "panic" => return Some(Answer::Panic),
+        "too-many" => return Some(Answer::TooMany),
+        n => number(n)?,
+    };
+    let number = Number::new(n, number(tokens.next()?)?, number(tokens.next()?)?);
+    (tokens.next()? == "dest").then_some(())?;
+    let dest = data(tokens.next()?, of)?;
+    tokens.end()?;
+    Some(Answer::Called(number, dest))
+}

@@ -1,0 +1,27 @@
+//! The Rust original as judge. gather_plan.rs and inline.rs are compiled
+//! unchanged from beside the repository; `stubs` stands in for what they name
+//! from outside.
+
+mod added;
+mod calls;
+mod stubs;
+
+#[rustfmt::skip]
+#[allow(dead_code, clippy::all)]
+#[path = "../../../../../shared/docs/src/strided-basic/src/gather_plan.rs"]
+mod gather_plan;
+#[rustfmt::skip]
+#[allow(dead_code, clippy::all)]
+#[path = "../../../../../shared/docs/src/strided-basic/src/inline.rs"]
+mod inline;
+
+// inline.rs takes INLINE_RANK from the view crate: this crate is that one too.
+extern crate self as strided_view;
+
+use stubs::{copy_plan, cost, layout_check, raw_ops, threading};
+use stubs::{Exec, RawStridedMut, RawStridedRef, Result, StridedError};
+pub use stubs::{INLINE_RANK, RAW_FUSED_RANK_LIMIT};
+
+fn main() -> std::io::Result<()> {
+    lines::drive(calls::answer)
+}

@@ -1,0 +1,60 @@
+//! Prints cases: `generate COUNT SEED`, `generate small [long]`, or
+//! `generate jobs COUNT SEED`.
+
+use runs::jobs::Jobs;
+use runs::small::{self, Size};
+use runs::Generator;
+use std::fmt::Display;
+use std::io::{self, BufWriter, Write};
+
+fn main() -> io::Result<()> {
+    let arguments: Vec<String> = std::env::args().skip(1).collect();
+    let words: Vec<&str> = arguments.iter().map(String::as_str).collect();
+    let mut output = BufWriter::new(io::stdout().lock());
+    match words[..] {
+        ["small"] => print_small(Size::Short, &mut output)?,
+        ["small", "long"] => print_small(Size::Long, &mut output)?,
+        [count, seed] => {
+            let calls = Generator::new(number(seed)).take(number(count) as usize);
+            print(&format!("r{seed}."), calls, &mut output)?;
+        }
+        ["jobs", count, seed] => {
+            let jobs = Jobs::new(number(seed)).take(number(count) as usize);
+            print(&format!("j{seed}."), jobs, &mut output)?;
+        }
+        _ => usage(),
+    }
+    output.flush()
+}
+
+fn number(text: &str) -> u64 {
+    text.parse().unwrap_or_else(|_| usage())
+}
+
+fn usage() -> ! {
+    eprintln!("usage: generate COUNT SEED | small [long] | jobs COUNT SEED");
+    std::process::exit(2);
+}
+
+fn print<T: Display>(
+    prefix: &str,
+    cases: impl Iterator<Item = T>,
+    output: &mut impl Write,
+) -> io::Result<()> {
+    for (n, case) in cases.enumerate() {
+        writeln!(output, "{prefix}{n} {case}")?;
+    }
+    Ok(())
+}
+
+fn print_small(size: Size, output: &mut impl Write) -> io::Result<()> {
+    let mut n = 0;
+    let mut result = Ok(());
+    small::all(size, &mut |call| {
+        if result.is_ok() {
+            result = writeln!(output, "x{n} {call}");
+            n += 1;
+        }
+    });
+    result
+}

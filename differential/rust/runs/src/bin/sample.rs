@@ -1,0 +1,115 @@
+//! Chooses cases to be stored: `sample CASES ORACLE DIR` writes
+//! DIR/cases.txt and DIR/answers.txt. Every paper's case is kept, a case that
+//! sees each mutant, and some for every refusal, answer, rank, element type
+//! and place of the vector axis.
+
+use lines::{Answer, Call, Spec};
+use model::{mutants, Model};
+use runs::answers::{first_seen, load, telling, Answered};
+use std::collections::{BTreeMap, BTreeSet};
+use std::path::Path;
+use std::{fs, io};
+
+/// Longer lines than this are left out.
+const LONGEST: usize = 330;
+const MOST_BYTES: usize = 560_000;
+
+fn main() -> io::Result<()> {
+    let files: Vec<String> = std::env::args().skip(1).collect();
+    let [cases, oracle, dir] = &files[..] else {
+        eprintln!("usage: sample CASES ORACLE DIR");
+        std::process::exit(2);
+    };
+    let mut cases = load(Path::new(cases), &[Path::new(oracle)])?;
+    cases.retain(|answered| answered.text.len() <= LONGEST);
+    std::panic::set_hook(Box::new(|_| {}));
+    let chosen = chosen(&cases);
+    write(
+        Path::new(dir),
+        cases.iter().filter(|a| chosen.contains(&a.id)),
+    )
+}
+
+fn write<'a>(dir: &Path, chosen: impl Iterator<Item = &'a Answered>) -> io::Result<()> {
+    let (mut cases, mut answers) = (String::new(), String::new());
+    for answered in chosen {
+        cases += &format!("{} {}\n", answered.id, answered.text);
+        answers += &format!("{} {}\n", answered.id, answered.given[0]);
+    }
+    fs::write(dir.join("cases.txt"), cases)?;
+    fs::write(dir.join("answers.txt"), answers)
+}
+
+fn chosen(cases: &[Answered]) -> BTreeSet<String> {
+    let mut chosen: BTreeSet<String> = cases
+        .iter()
+        .filter(|answered| is_named(&answered.id))
+        .map(|answered| answered.id.clone())
+        .collect();
+    let telling = telling(cases);
+    for mutant in mutants() {
+        let by = first_seen(&Model::twisted(mutant.twist), &telling);
+        chosen.extend(by.map(|answered| answered.id.clone()));
+    }
+    let mut bytes: usize = cases
+        .iter()
+        .filter(|answered| chosen.contains(&answered.id))
+        .map(size)
+        .sum();
+    let mut counts: BTreeMap<String, usize> = BTreeMap::new();
+    for answered in cases {
+        let Some(call) = answered.call() else {
+            continue;
+        };
+        let mut wanted = chosen.contains(&answered.id);
+        for (feature, most) in features(call, &answered.given[0]) {
+            let count = counts.entry(feature).or_default();
+            wanted |= *count < most;
+            *count += 1;
+        }
+        if wanted && bytes + size(answered) <= MOST_BYTES && chosen.insert(answered.id.clone()) {
+            bytes += size(answered);
+        }
+    }
+    chosen
+}
+
+fn size(answered: &Answered) -> usize {
+    2 * answered.id.len() + answered.text.len() + answered.given[0].len() + 4
+}
+
+/// Generated cases have numbers; the papers' have names.
+fn is_named(id: &str) -> bool {
+    !id.ends_with(|c: char| c.is_ascii_digit())
+}
+
+/// What a case shows, with how many cases are wanted for each.
+fn features(call: &Call, given: &str) -> Vec<(String, usize)> {
+    let verdict = Model::default().judge(call);
+    let spec = &call.job.spec;
+    let (kind, vector) = match spec {
+        Spec::Gather(s) => ("gather", s.index_vector_dim),
+        Spec::Scatter(s) => ("scatter", s.index_vector_dim),
+    };
+    let element = call.job.element;
+    let line = match verdict.refused_by {
+        Some(check) => check.name(spec),
+        None => "done".to_string(),
+    };
+    let mut features = vec![(format!("{kind} {element} {line}"), 10)];
+    if let Answer::Called(number, _) = verdict.answer {
+        features.push((format!("{kind} {number}"), 1));
+    }
+    if verdict.refused_by.is_none() {
+        features.push((format!("{kind} {element} done"), 120));
+        let ranks = call.job.views.iter().map(|view| view.layout.extents.len());
+        for (place, rank) in ranks.enumerate() {
+            features.push((format!("{kind} {element} view {place} rank {rank}"), 9));
+        }
+        let rank = call.job.index().layout.extents.len();
+        features.push((format!("{kind} vector {vector} of {rank}"), 3));
+        let changed = !given.ends_with(&format!("dest {}", call.dest));
+        features.push((format!("{kind} {element} changed {changed}"), 60));
+    }
+    features
+}

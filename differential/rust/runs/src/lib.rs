@@ -1,0 +1,47 @@
+//! Runs over cases: the generator, the enumeration of small cases, the
+//! comparison of answers.
+
+pub mod answers;
+mod contents;
+mod edges;
+mod faults;
+pub mod jobs;
+mod random;
+pub mod small;
+mod valid;
+
+pub use faults::fault_names;
+
+use faults::Faults;
+use lines::Call;
+use random::Random;
+
+/// The random cases of a seed, in order: most are valid, the others carry one
+/// fault or two, or have layouts at the edges of u64 and i64.
+pub struct Generator {
+    random: Random,
+    faults: Faults,
+}
+
+impl Generator {
+    pub fn new(seed: u64) -> Self {
+        Generator {
+            random: Random::new(seed),
+            faults: Faults::new(seed),
+        }
+    }
+}
+
+impl Iterator for Generator {
+    type Item = Call;
+
+    fn next(&mut self) -> Option<Call> {
+        let random = &mut self.random;
+        Some(match random.below(100) {
+            0..=56 => valid::call(random),
+            57..=66 => self.faults.one(random),
+            67..=90 => self.faults.two(random),
+            _ => edges::call(random),
+        })
+    }
+}
