@@ -1,5 +1,5 @@
 use mathlib.Core.Path.{_≡_, refl, _∙_}
-use Prim.Native.Nat.{_-_, _<_, _≤_, zero-le}
+use Prim.Native.Nat.{_-_, _≤_, zero-le}
 use native.Mathlib.Omega.{arith}
 use borrow.Author.Needs.{needs}
 use lib.ListN.{length, drop}
@@ -7,8 +7,6 @@ use Rattle.indexing.specs.Coordinates.{has}
 use Rattle.axis_lists.proofs.Filling.{has-here, has-next, has-none}
 use Rattle.axis_lists.proofs.contains.Statement.{statement}
 use Rattle.axis_lists.proofs.contains.Tie as tie
-use Rattle.axis_lists.proofs.contains.Reads as reads
-use Rattle.axis_lists.proofs.contains.Lts as lts
 
 abbrev Inv-loop : tie.InvT-loop
 Inv-loop list axis i₀ i = (i ≤ length list) × (has (drop i list) axis ≡ has list axis)
@@ -30,7 +28,7 @@ shared-slice-read-if1 c = search needs
 
 -- src/lib.rt:87:13
 returns : tie.Need-returns Inv-loop μ-loop
-returns c = 
+returns c =
     let l = c .before .before .before in
     let s = l .before in
     has-here (s .args .list .now) (l .loop .i) (s .args .axis) (omega arith) (c .if1 .taken) ∙ l .loop .inv .1
@@ -45,14 +43,14 @@ loop-less c = search needs
 
 -- src/lib.rt:85:5
 loop-again : tie.Need-loop-again Inv-loop μ-loop
-loop-again c = 
+loop-again c =
     let l = c .before .before .before in
     let s = l .before in
     (omega arith, has-next (s .args .list .now) (l .loop .i) (s .args .axis) (omega arith) (c .if1 .left) ∙ l .loop .inv .1)
 
 -- src/lib.rt:81:1
 returns-2 : tie.Need-returns-2 Inv-loop μ-loop
-returns-2 c = 
+returns-2 c =
     let l = c .before in
     let s = l .before in
     has-none (s .args .list .now) (l .loop .i) (s .args .axis) (omega arith) ∙ l .loop .inv .1

@@ -6,7 +6,6 @@ use borrow.Author.Needs.{needs}
 use lib.ListN.{length, drop}
 use Rattle.indexing.specs.Coordinates.{othersFrom, others}
 use Rattle.layout.specs.Layouts.{rankLimit, padded}
-use Rattle.axis_lists.specs.Held.{numbersOf}
 use Rattle.axis_lists.proofs.Filling.{numbers-are, written, one-written, all-written, others-skip, others-take, others-done, length-others, Head, head-of}
 use Rattle.axis_lists.proofs.other_axes.Statement.{statement}
 use Rattle.axis_lists.proofs.other_axes.Tie as tie

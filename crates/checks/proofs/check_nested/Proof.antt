@@ -1,19 +1,7 @@
-use mathlib.Core.Path.{_≡_, refl, sym, ap, ap₂, _∙_}
-use mathlib.Core.Bool.{Bool, true, false, cond}
-use mathlib.Core.List.{List, [], _∷_}
-use Prim.Native.Nat.{ℕ, zero, suc, _+_, _-_, _<_, _≤_, zero-le, min}
-use native.Mathlib.Omega.{arith}
-use borrow.Author.Tests.{eq-eqb, ne-eqb, le-leb, lt-leb, ltb-true, ltb-false}
-use lib.ListN.{length, take, drop, getD, length-take}
-use Rattle.layout.specs.Layouts.{rankLimit, extentsOf, stridesOf}
-use Rattle.axis_lists.specs.Held.{numbersOf}
-use Rattle.checks.specs.Checks.{totalFits, spanFits, nestedIf, sameCount, vectorAxis, componentsOf, windowsFrom, windowsFit}
+use mathlib.Core.Path.{sym, _∙_}
 use borrow.Author.Needs.{needs}
 use Rattle.checks.proofs.check_nested.Statement.{statement}
 use Rattle.checks.proofs.check_nested.Tie as tie
-use Rattle.checks.proofs.check_nested.Reads as reads
-use Rattle.checks.proofs.check_nested.Lts as lts
-use Rattle.layout.proofs.is_nested.Reads as is-nested-reads
 
 -- src/lib.rt:54:12
 is-nested-requires : tie.Need-is-nested-requires

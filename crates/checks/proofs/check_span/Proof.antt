@@ -1,19 +1,6 @@
-use mathlib.Core.Path.{_≡_, refl, sym, ap, ap₂, _∙_}
-use mathlib.Core.Bool.{Bool, true, false, cond}
-use mathlib.Core.List.{List, [], _∷_}
-use Prim.Native.Nat.{ℕ, zero, suc, _+_, _-_, _<_, _≤_, zero-le, min}
-use native.Mathlib.Omega.{arith}
-use borrow.Author.Tests.{eq-eqb, ne-eqb, le-leb, lt-leb, ltb-true, ltb-false}
-use lib.ListN.{length, take, drop, getD, length-take}
-use Rattle.layout.specs.Layouts.{rankLimit, extentsOf, stridesOf}
-use Rattle.axis_lists.specs.Held.{numbersOf}
-use Rattle.checks.specs.Checks.{totalFits, spanFits, nestedIf, sameCount, vectorAxis, componentsOf, windowsFrom, windowsFit}
 use borrow.Author.Needs.{needs}
 use Rattle.checks.proofs.check_span.Statement.{statement}
 use Rattle.checks.proofs.check_span.Tie as tie
-use Rattle.checks.proofs.check_span.Reads as reads
-use Rattle.checks.proofs.check_span.Lts as lts
-use Rattle.layout.proofs.validate_layout_span.Reads as validate-layout-span-reads
 
 -- src/lib.rt:40:9
 validate-layout-span-requires : tie.Need-validate-layout-span-requires

@@ -1,21 +1,15 @@
-use mathlib.Core.Path.{_≡_, refl, sym, ap, ap₂, _∙_}
-use mathlib.Core.Bool.{Bool, true, false, cond}
-use mathlib.Core.List.{List, [], _∷_}
-use Prim.Native.Nat.{ℕ, zero, suc, _+_, _-_, _<_, _≤_, zero-le, min}
+use mathlib.Core.Path.{_≡_, refl, ap, _∙_}
+use mathlib.Core.List.{List}
+use Prim.Native.Nat.{ℕ, _-_, _≤_, min}
 use native.Mathlib.Omega.{arith}
 use borrow.Author.Needs.{needs}
-use borrow.Author.Tests.{eq-eqb, ne-eqb, le-leb, lt-leb, ltb-true, ltb-false}
-use lib.ListN.{length, take, drop, getD, length-take}
-use Rattle.layout.specs.Layouts.{rankLimit, extentsOf, stridesOf}
-use Rattle.axis_lists.specs.Held.{numbersOf}
+use borrow.Author.Tests.{ltb-true, ltb-false}
+use lib.ListN.{length, take, length-take}
 use Rattle.axis_lists.proofs.Filling.{take-count}
 use Rattle.checks.proofs.Windows.{left, windows-no, windows-next, windows-end, windows-short}
-use Rattle.checks.specs.Checks.{totalFits, spanFits, nestedIf, sameCount, vectorAxis, componentsOf, windowsFrom, windowsFit}
+use Rattle.checks.specs.Checks.{windowsFrom, windowsFit}
 use Rattle.checks.proofs.check_windows.Statement.{statement}
 use Rattle.checks.proofs.check_windows.Tie as tie
-use Rattle.checks.proofs.check_windows.Reads as reads
-use Rattle.checks.proofs.check_windows.Lts as lts
-use Rattle.layout.proofs.axis_count.Reads as axis-count-reads
 
 abbrev Inv-loop : tie.InvT-loop
 Inv-loop windows d m i₀ i = (i ≤ 8) × (left m windows d m i ≡ left m windows d m 0)
@@ -55,7 +49,7 @@ array-read-if2 c = omega (arith, ltb-true, c .before .before .before .before .ax
 
 -- src/lib.rt:109:13
 returns : tie.Need-returns Inv-loop μ-loop
-returns c = 
+returns c =
     let l = c .before .before .before .before in
     let s = l .before .before .before .before in
     let g : length (s .args .extents .entries) ≡ 8 = search needs in
@@ -72,7 +66,7 @@ loop-less c = omega (arith, ltb-true, c .before .before .before .before .before 
 
 -- src/lib.rt:107:5
 loop-again : tie.Need-loop-again Inv-loop μ-loop
-loop-again c = 
+loop-again c =
     let l = c .before .before .before .before in
     let s = l .before .before .before .before in
     let g : length (s .args .extents .entries) ≡ 8 = search needs in
@@ -81,7 +75,7 @@ loop-again c =
 
 -- src/lib.rt:101:1
 returns-2 : tie.Need-returns-2 Inv-loop μ-loop
-returns-2 c = 
+returns-2 c =
     let l = c .before .before in
     let s = l .before .before .before .before in
     let g : length (s .args .extents .entries) ≡ 8 = search needs in
@@ -90,7 +84,7 @@ returns-2 c =
 
 -- src/lib.rt:101:1
 returns-3 : tie.Need-returns-3 Inv-loop μ-loop
-returns-3 c = 
+returns-3 c =
     let l = c .before in
     let s = l .before .before .before .before in
     let g : length (s .args .extents .entries) ≡ 8 = search needs in

@@ -1,23 +1,16 @@
-use mathlib.Core.Path.{_≡_, refl, sym, ap, ap₂, _∙_}
-use mathlib.Core.Bool.{Bool, true, false, cond}
-use mathlib.Core.List.{List, [], _∷_}
-use Prim.Native.Nat.{ℕ, zero, suc, _+_, _-_, _<_, _≤_, zero-le, min}
+use mathlib.Core.Path.{_≡_, sym, ap, _∙_}
+use mathlib.Core.List.{List}
+use Prim.Native.Nat.{ℕ, min}
 use native.Mathlib.Omega.{arith}
-use borrow.Author.Tests.{eq-eqb, ne-eqb, le-leb, lt-leb, ltb-true, ltb-false}
-use lib.ListN.{length, take, drop, getD, length-take}
-use Rattle.layout.specs.Layouts.{rankLimit, extentsOf, stridesOf}
+use borrow.Author.Tests.{eq-eqb, ne-eqb}
+use lib.ListN.{length, getD, length-take}
+use Rattle.layout.specs.Layouts.{extentsOf}
 use Rattle.axis_lists.specs.Held.{numbersOf}
 use Rattle.axis_lists.specs.declared.Numbers.{Numbers}
 use Rattle.axis_lists.proofs.Filling.{read-back}
-use Rattle.checks.specs.Checks.{totalFits, spanFits, nestedIf, sameCount, vectorAxis, componentsOf, windowsFrom, windowsFit}
 use borrow.Author.Needs.{needs}
 use Rattle.checks.proofs.component_count.Statement.{statement}
 use Rattle.checks.proofs.component_count.Tie as tie
-use Rattle.checks.proofs.component_count.Reads as reads
-use Rattle.checks.proofs.component_count.Lts as lts
-use Rattle.axis_lists.proofs.extents_of.Reads as extents-of-reads
-use Rattle.axis_lists.proofs.number_at.Reads as number-at-reads
-use Rattle.layout.proofs.axis_count.Reads as axis-count-reads
 
 -- src/lib.rt:91:9
 axis-count-requires : tie.Need-axis-count-requires
