@@ -1,11 +1,11 @@
 -- Lists written into an array of eight, entry by entry. Assumes nothing.
 use mathlib.Core.Path.{_≡_, refl, sym, ap, ap₂, _∙_}
-use mathlib.Core.Bool.{Bool, true, false, cond, _||_}
+use mathlib.Core.Bool.{Bool, true, false, cond, _||_, _&&_}
 use mathlib.Core.List.{List, [], _∷_, _++_}
 use Prim.Native.Nat.{ℕ, zero, suc, _+_, _-_, _<_, _≤_, min}
 use native.Mathlib.Numerals.{add-one}
 use native.Mathlib.Omega.{arith}
-use borrow.Author.Tests.{eq-eqb, ne-eqb, lt-ltb, le-ltb, ltb-true, ltb-false}
+use borrow.Author.Tests.{eq-eqb, ne-eqb, lt-ltb, le-ltb, ltb-true, ltb-false, eqb-true}
 use lib.Dec.{eqb, ltb}
 use lib.ListN.{length, take, drop, getD, set, replicate, length-take, length-drop, length-append, drop-of-length-le, List·getD-eq-default}
 use lib.Seq.{take-all, drop-cons, getD-take, take-append-seam}
@@ -15,7 +15,7 @@ use Rattle.indexing.specs.Start.{without}
 use Rattle.indexing.specs.Axes.{length-pick, getD-pick, length-spread}
 use Rattle.layout.specs.Layouts.{rankLimit, padded}
 use Rattle.layout.proofs.Fill.{fill-one, fill-short}
-use Rattle.axis_lists.specs.Held.{heldNumbers, heldSteps}
+use Rattle.axis_lists.specs.Held.{heldNumbers, heldSteps, sameList, Decides}
 
 -- the count as the code bounds it
 pub take-count : {A : Type 0} (n k : ℕ) (xs : List A) → n ≡ min k (length xs) → take n xs ≡ take k xs
@@ -227,3 +227,28 @@ spread-counted d n axes l a b m p q e =
 pub read-back : {A : Type 0} (d : A) (l : List A) → length l ≤ rankLimit → take (length l) (padded rankLimit d l) ≡ l
 unfolding padded
 read-back d l h = rw (take-all rankLimit l h) (take-append-seam l (replicate (rankLimit - length l) d))
+
+-- ---- a flag that decides whether two lists are the same is the test
+same-true : (xs ys : List ℕ) → sameList xs ys ≡ true → xs ≡ ys
+unfolding sameList
+same-true [] [] e = refl
+same-true [] (b ∷ ys) e = let z : _≡_ {A = ℕ} 0 1 = cc in absurd (omega arith)
+same-true (a ∷ xs) [] e = let z : _≡_ {A = ℕ} 0 1 = cc in absurd (omega arith)
+same-true (a ∷ xs) (b ∷ ys) e = go (eqb a b) refl e (same-true xs ys)
+  where
+    go : (t : Bool) → eqb a b ≡ t → (t && sameList xs ys) ≡ true → (sameList xs ys ≡ true → xs ≡ ys) → a ∷ xs ≡ b ∷ ys
+    go true f h ih = ap₂ _∷_ (eqb-true a b f) (ih h)
+    go false f h ih = let z : _≡_ {A = ℕ} 0 1 = cc in absurd (omega arith)
+
+same-refl : (xs : List ℕ) → sameList xs xs ≡ true
+unfolding sameList
+same-refl [] = refl
+same-refl (a ∷ xs) = rw (eq-eqb a a refl) (same-refl xs)
+
+pub decides-same : (r : Bool) (xs ys : List ℕ) → Decides r xs ys → r ≡ sameList xs ys
+decides-same r xs ys d = go r (sameList xs ys) refl refl
+  where
+    go : (x y : Bool) → r ≡ x → sameList xs ys ≡ y → r ≡ sameList xs ys
+    go true y e f = e ∙ sym (ap (sameList xs) (sym (d .yes e)) ∙ same-refl xs)
+    go false true e f = d .no (same-true xs ys f) ∙ sym f
+    go false false e f = e ∙ sym f

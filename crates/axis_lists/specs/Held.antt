@@ -1,9 +1,9 @@
 -- Lists as they are held by value. Definitions only.
 use mathlib.Core.Path.{_≡_}
-use mathlib.Core.Bool.{Bool, true, cond}
-use mathlib.Core.List.{List}
+use mathlib.Core.Bool.{Bool, true, false, cond, _&&_}
+use mathlib.Core.List.{List, [], _∷_}
 use Prim.Native.Nat.{ℕ, min}
-use lib.Dec.{ltb}
+use lib.Dec.{eqb, ltb}
 use lib.ListN.{length, take, set}
 use lib.IntN.{ℤ, pos}
 use Rattle.layout.specs.Layouts.{rankLimit, padded}
@@ -35,3 +35,10 @@ putStep l place x = record { count = l .count; entries = cond (ltb place (min (l
 pub record Decides {A : Type 0} (r : Bool) (a b : A) : Type 0 where
   pub yes : r ≡ true → a ≡ b
   pub no : a ≡ b → r ≡ true
+
+-- whether two lists are the same
+unfoldable pub sameList : List ℕ → List ℕ → Bool
+sameList [] [] = true
+sameList [] (b ∷ ys) = false
+sameList (a ∷ xs) [] = false
+sameList (a ∷ xs) (b ∷ ys) = eqb a b && sameList xs ys

@@ -339,3 +339,33 @@ pub fn same_numbers(a: Numbers, b: Numbers) -> bool
     }
     true
 }
+
+// Entry `axis` of a lent list, and 0 past its end.
+pub fn entry_at(list: &[u64], axis: u64) -> u64
+    ensures { λ r. ⌜ r ≡ getD (now (list .entry)) axis 0 ⌝ }
+{
+    if axis < list.len() as u64 {
+        let i = axis as usize;
+        list[i]
+    } else {
+        0
+    }
+}
+
+// The entries of a lent list on the axes, in the axes' order.
+pub fn pick_entries(axes: Numbers, list: &[u64]) -> Numbers
+    ensures { λ r. ⌜ r ≡ heldNumbers (pick 0 (numbersOf axes) (now (list .entry))) ⌝ }
+{
+    let entries = axes.entries;
+    let n = layout::axis_count(axes.count);
+    let mut out = [0u64; RAW_FUSED_RANK_LIMIT];
+    let mut i: usize = 0;
+    while i < n {
+        out[i] = entry_at(list, entries[i]);
+        i += 1;
+    }
+    Numbers {
+        count: n,
+        entries: out,
+    }
+}

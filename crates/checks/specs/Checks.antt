@@ -1,7 +1,7 @@
 -- The checks that gather's compile and scatter's share, in document 01's words. Definitions only.
 use mathlib.Core.Bool.{Bool, cond}
 use mathlib.Core.List.{List, [], _∷_}
-use Prim.Native.Nat.{ℕ, suc, _+_}
+use Prim.Native.Nat.{ℕ, zero, suc, _+_}
 use lib.Dec.{eqb, leb}
 use lib.ListN.{length, getD}
 use lib.IntN.{ℤ}
@@ -14,10 +14,10 @@ use Rattle.layout.specs.declared.OffsetSpan.the-variants as S
 use Rattle.layout.specs.Answers.{orElse}
 use Rattle.layout.specs.Nested.{nested}
 
--- "first hit counts"
-unfoldable pub first : List Answer → Answer
-first [] = A.Done
-first (x ∷ xs) = orElse x (first xs)
+-- "first hit counts": of f i, f (i + 1), .., so many of them, the first that refuses
+unfoldable pub firstOf : (ℕ → Answer) → ℕ → ℕ → Answer
+firstOf f zero i = A.Done
+firstOf f (suc n) i = orElse (f i) (firstOf f n (suc i))
 
 -- 3: "a product, span .. does not fit"
 abbrev pub totalFits : CheckedU → Answer

@@ -1,13 +1,24 @@
 -- "Gather, first hit counts": document 01's refusals of a gather, in its order. Definitions only.
-use mathlib.Core.Bool.{Bool}
-use mathlib.Core.List.{List}
-use Prim.Native.Nat.{ℕ}
-use lib.IntN.{ℤ}
+use mathlib.Core.Bool.{Bool, cond, _&&_}
+use mathlib.Core.List.{List, [], _∷_}
+use Prim.Native.Nat.{ℕ, _+_}
+use lib.Dec.{eqb}
+use lib.ListN.{length, getD}
+use lib.IntN.{ℤ, pos}
+use Rattle.integer.specs.declared.Checked.{Checked}
+use Rattle.integer.specs.declared.Checked.the-variants as C
+use Rattle.indexing.specs.Coordinates.{rank, pick, others}
+use Rattle.indexing.specs.Start.{without}
+use Rattle.indexing.specs.Gather.{Gather, batchDims, shownDims}
+use Rattle.indexing.specs.Steps.{vectorStride, windowSteps, batchSteps}
 use Rattle.layout.specs.declared.Answer.{Answer}
+use Rattle.layout.specs.declared.Answer.the-variants as A
 use Rattle.layout.specs.Answers.{orElse}
 use Rattle.layout.specs.Layouts.{strideLength, rankAtMost}
-use Rattle.layout.specs.Spans.{totalOf, spanned}
-use Rattle.checks.specs.Checks.{totalFits, spanFits, nestedIf}
+use Rattle.layout.specs.Lists.{uniqueAxes}
+use Rattle.layout.specs.Spans.{totalOf, spanned, resetOf, offsetAdd}
+use Rattle.axis_lists.specs.Held.{sameList}
+use Rattle.checks.specs.Checks.{firstOf, totalFits, spanFits, nestedIf, sameCount, vectorAxis, componentsOf, windowsFit}
 
 -- "1; 2": for the operand, the index and the destination, given the counts of extents and of strides
 abbrev pub layoutsRefusal : ℕ → ℕ → ℕ → ℕ → ℕ → ℕ → Answer
@@ -20,3 +31,69 @@ abbrev pub numbersRefusal : Bool → List ℕ → List ℤ → List ℕ → List
 numbersRefusal nested oe os ie is de ds =
     orElse (totalFits (totalOf oe)) (orElse (totalFits (totalOf ie)) (orElse (totalFits (totalOf de))
     (orElse (spanFits (spanned oe os)) (orElse (spanFits (spanned ie is)) (orElse (spanFits (spanned de ds)) (nestedIf nested de ds))))))
+
+-- "first collapsed axis with window not 1 (6)", in list order
+unfoldable pub collapsedOne : ℕ → List ℕ → List ℕ → Answer
+collapsedOne rank sizes [] = A.Done
+collapsedOne rank sizes (a ∷ rest) = cond (eqb (getD sizes a 0) 1) (collapsedOne rank sizes rest) (A.InvalidAxis a rank)
+
+-- the extents of the batch axes: those of the index view, the vector axis left out
+abbrev pub batchExtents : Gather → List ℕ
+batchExtents g = without (g .spec .index-vector-dim) (g .indices .extents)
+
+-- "batch axes plus window axes"
+abbrev pub outRank : Gather → ℕ
+outRank g = length (batchExtents g) + length (g .spec .offset-dims)
+
+-- "slice sizes against operand rank (5); collapsed axes, then start map, in range and unrepeated (6); vector axis above index rank (6, b = rank + 1);
+-- first window above its extent (6); first collapsed axis with window not 1 (6); component count against map length (5);
+-- `offset_dims` count against kept axes (5); `offset_dims` in range and unrepeated (6, b = batch axes plus window axes)"
+unfoldable pub specRefusal : Gather → Answer
+specRefusal g =
+    orElse (sameCount (length (g .spec .slice-sizes)) (rank (g .operand)))
+    (orElse (uniqueAxes (rank (g .operand)) [] (g .spec .collapsed-slice-dims))
+    (orElse (uniqueAxes (rank (g .operand)) [] (g .spec .start-index-map))
+    (orElse (vectorAxis (g .spec .index-vector-dim) (rank (g .indices)))
+    (orElse (windowsFit 0 (g .operand .extents) (g .spec .slice-sizes))
+    (orElse (collapsedOne (rank (g .operand)) (g .spec .slice-sizes) (g .spec .collapsed-slice-dims))
+    (orElse (sameCount (componentsOf (g .indices .extents) (g .spec .index-vector-dim)) (length (g .spec .start-index-map)))
+    (orElse (sameCount (length (g .spec .offset-dims)) (length (shownDims g)))
+    (uniqueAxes (outRank g) [] (g .spec .offset-dims)))))))))
+
+-- "shape (7)": the result has the window extents on `offset_dims`, in list order, and the batch extents on the other axes
+abbrev pub shapeFits : Gather → Bool
+shapeFits g =
+    eqb (rank (g .result)) (outRank g)
+    && (sameList (pick 0 (g .spec .offset-dims) (g .result .extents)) (pick 0 (shownDims g) (g .spec .slice-sizes))
+    && sameList (pick 0 (batchDims g) (g .result .extents)) (batchExtents g))
+
+unfoldable pub shapeRefusal : Gather → Answer
+shapeRefusal g = cond (shapeFits g) A.Done (A.ShapeMismatch (rank (g .result)) (outRank g))
+
+-- 3 where a number does not fit
+abbrev pub numberFits : Checked → Answer
+numberFits (C.Fits z) = A.Done
+numberFits C.Overflow = A.OffsetOverflow
+
+-- "resets (3)": on each axis of the result those of its own step, of the window's and of the batch's
+abbrev pub axisResets : ℕ → ℤ → ℤ → ℤ → Answer
+axisResets d s w b = orElse (numberFits (resetOf d s)) (orElse (numberFits (resetOf d w)) (numberFits (resetOf d b)))
+
+abbrev pub resetsAt : List ℕ → List ℤ → List ℤ → List ℤ → ℕ → Answer
+resetsAt ds ss ws bs i = axisResets (getD ds i 0) (getD ss i (pos 0)) (getD ws i (pos 0)) (getD bs i (pos 0))
+
+-- and the offsets of the components, the vector axis's stride times c
+abbrev pub offsetFits : ℤ → ℕ → Answer
+offsetFits stride c = numberFits (offsetAdd (pos 0) stride c)
+
+unfoldable pub resetsRefusal : Gather → Answer
+resetsRefusal g =
+    orElse (firstOf (resetsAt (g .result .extents) (g .result .strides) (windowSteps g) (batchSteps g)) (rank (g .result)) 0)
+    (firstOf (offsetFits (vectorStride (g .indices) (g .spec .index-vector-dim))) (length (g .spec .start-index-map)) 0)
+
+-- THE REFUSAL of a gather; 4 is tried where `nested` says so
+unfoldable pub refusalOf : Bool → Gather → Answer
+refusalOf nested g =
+    orElse (layoutsRefusal (rank (g .operand)) (length (g .operand .strides)) (rank (g .indices)) (length (g .indices .strides)) (rank (g .result)) (length (g .result .strides)))
+    (orElse (numbersRefusal nested (g .operand .extents) (g .operand .strides) (g .indices .extents) (g .indices .strides) (g .result .extents) (g .result .strides))
+    (orElse (specRefusal g) (orElse (shapeRefusal g) (resetsRefusal g))))

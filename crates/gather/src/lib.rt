@@ -1,7 +1,14 @@
 // Gather: a plan from layouts and a spec, by the checks of document 01 in its order.
 ghost use mathlib.Core.Path.{_≡_};
-ghost use Rattle.layout.specs.Layouts.{extentsOf, stridesOf};
-ghost use Rattle.gather.specs.Refusals.{layoutsRefusal, numbersRefusal};
+ghost use Prim.Native.Nat.{min};
+ghost use Rattle.layout.specs.Layouts.{rankLimit, extentsOf, stridesOf};
+ghost use Rattle.layout.specs.Spans.{resetOf};
+ghost use Rattle.axis_lists.specs.Held.{numbersOf, stepsOf};
+ghost use Rattle.checks.specs.Checks.{firstOf};
+ghost use Rattle.gather.specs.Refusals.{layoutsRefusal, numbersRefusal, collapsedOne, numberFits, axisResets, resetsAt, offsetFits};
+use axis_lists::Numbers;
+use axis_lists::Steps;
+use integer::Checked;
 use layout::Answer;
 use layout::Layout;
 
@@ -39,4 +46,84 @@ pub fn check_numbers(operand: Layout, index: Layout, dest: Layout, nested: bool)
     let g = checks::check_nested(dest, nested);
     let spans = checks::or_else(d, checks::or_else(e, checks::or_else(f, g)));
     checks::or_else(a, checks::or_else(b, checks::or_else(c, spans)))
+}
+
+// 6 for the first collapsed axis, in list order, whose window is not 1.
+fn check_collapsed(rank: u64, sizes: &[u64], collapsed: &[u64]) -> Answer
+    ensures { λ r. ⌜ r ≡ collapsedOne rank (now (sizes .entry)) (now (collapsed .entry)) ⌝ }
+{
+    let mut i: usize = 0;
+    while i < collapsed.len() {
+        let axis = collapsed[i];
+        if axis_lists::entry_at(sizes, axis) != 1 {
+            return Answer::InvalidAxis(axis, rank);
+        }
+        i += 1;
+    }
+    Answer::Done
+}
+
+fn check_reset(extent: u64, step: i64) -> Answer
+    ensures { λ r. ⌜ r ≡ numberFits (resetOf extent step) ⌝ }
+{
+    let reset = layout::checked_replay_reset(extent, step);
+    match reset {
+        Checked::Fits(_) => Answer::Done,
+        Checked::Overflow => Answer::OffsetOverflow,
+    }
+}
+
+fn check_offset(stride: i64, component: u64) -> Answer
+    ensures { λ r. ⌜ r ≡ offsetFits stride component ⌝ }
+{
+    let offset = layout::checked_offset_add(0, stride, component);
+    match offset {
+        Checked::Fits(_) => Answer::Done,
+        Checked::Overflow => Answer::OffsetOverflow,
+    }
+}
+
+fn check_axis(extent: u64, dest: i64, window: i64, batch: i64) -> Answer
+    ensures { λ r. ⌜ r ≡ axisResets extent dest window batch ⌝ }
+{
+    let a = check_reset(extent, dest);
+    let b = check_reset(extent, window);
+    let c = check_reset(extent, batch);
+    checks::or_else(a, checks::or_else(b, c))
+}
+
+// 3 for the resets of each axis.
+fn check_axes(extents: Numbers, dest: Steps, window: Steps, batch: Steps) -> Answer
+    ensures { λ r. ⌜ r ≡ firstOf (resetsAt (numbersOf extents) (stepsOf dest) (stepsOf window) (stepsOf batch)) (min (extents .count) rankLimit) 0 ⌝ }
+{
+    let n = layout::axis_count(extents.count);
+    let mut i: usize = 0;
+    while i < n {
+        let k = i as u64;
+        let d = axis_lists::number_at(extents, k);
+        let s = axis_lists::step_at(dest, k);
+        let w = axis_lists::step_at(window, k);
+        let b = axis_lists::step_at(batch, k);
+        let answer = check_axis(d, s, w, b);
+        if !layout::is_done(answer) {
+            return answer;
+        }
+        i += 1;
+    }
+    Answer::Done
+}
+
+// 3 for the offsets of the components.
+fn check_components(stride: i64, count: u64) -> Answer
+    ensures { λ r. ⌜ r ≡ firstOf (offsetFits stride) count 0 ⌝ }
+{
+    let mut i: u64 = 0;
+    while i < count {
+        let answer = check_offset(stride, i);
+        if !layout::is_done(answer) {
+            return answer;
+        }
+        i += 1;
+    }
+    Answer::Done
 }

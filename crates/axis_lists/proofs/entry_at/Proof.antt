@@ -1,0 +1,27 @@
+use mathlib.Core.Path.{sym}
+use native.Mathlib.Omega.{arith}
+use lib.ListN.{List·getD-eq-default}
+use borrow.Author.Needs.{needs}
+use Rattle.axis_lists.proofs.entry_at.Statement.{statement}
+use Rattle.axis_lists.proofs.entry_at.Tie as tie
+use Rattle.axis_lists.proofs.entry_at.Reads as reads
+use Rattle.axis_lists.proofs.entry_at.Lts as lts
+
+-- src/lib.rt:349:9
+mul-result : tie.Need-mul-result
+mul-result c = search needs
+
+-- src/lib.rt:349:9
+shared-slice-read-result : tie.Need-shared-slice-read-result
+shared-slice-read-result c = search needs
+
+-- src/lib.rt:344:1
+returns : tie.Need-returns
+returns c = search needs
+
+-- src/lib.rt:344:1
+returns-2 : tie.Need-returns-2
+returns-2 c = sym (List·getD-eq-default (c .before .args .list .now) 0 {n = c .before .args .axis} (c .if1 .left))
+
+pub entry-at-spec : {M : Type 1} → statement M
+entry-at-spec = tie.close (tie.spec mul-result shared-slice-read-result returns returns-2)

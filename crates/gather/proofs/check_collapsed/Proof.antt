@@ -1,0 +1,90 @@
+use mathlib.Core.Path.{_≡_, refl, sym, ap, ap₂, _∙_}
+use mathlib.Core.List.{List}
+use Prim.Native.Nat.{ℕ, _+_, _-_, _<_, _≤_, zero-le, min}
+use native.Mathlib.Omega.{arith}
+use borrow.Author.Needs.{needs}
+use borrow.Author.Tests.{not-true, not-false}
+use lib.ListN.{length, drop, getD}
+use lib.IntN.{ℤ, pos}
+use mir.Syntax.{w64}
+use mir.Val.{SFits, toZ, ofZ}
+use Rattle.integer.specs.Z.{back}
+use Rattle.layout.specs.declared.Answer.{Answer}
+use Rattle.layout.specs.Spans.{resetOf, offsetAdd}
+use Rattle.axis_lists.specs.Held.{numbersOf, stepsOf}
+use Rattle.checks.specs.Checks.{firstOf}
+use Rattle.checks.proofs.FirstOf.{first-stops, first-goes, first-ends, first-starts}
+use Rattle.gather.specs.Refusals.{collapsedOne, numberFits, axisResets, resetsAt, offsetFits}
+use Rattle.gather.proofs.Collapsed.{collapsed-no, collapsed-next, collapsed-end}
+use Rattle.gather.proofs.check_collapsed.Statement.{statement}
+use Rattle.gather.proofs.check_collapsed.Tie as tie
+use Rattle.gather.proofs.check_collapsed.Reads as reads
+use Rattle.gather.proofs.check_collapsed.Lts as lts
+use Rattle.axis_lists.proofs.entry_at.Reads as entry-at-reads
+
+abbrev Inv-loop : tie.InvT-loop
+Inv-loop rank sizes collapsed i₀ i = (i ≤ length collapsed) × (collapsedOne rank sizes (drop i collapsed) ≡ collapsedOne rank sizes collapsed)
+
+abbrev μ-loop : tie.MeasureT-loop
+μ-loop rank sizes collapsed i₀ i = length collapsed - i
+
+-- src/lib.rt:56:5
+loop-holds : tie.Need-loop-holds Inv-loop μ-loop
+loop-holds c = (zero-le, refl)
+
+-- src/lib.rt:57:20
+mul-axis : tie.Need-mul-axis Inv-loop μ-loop
+mul-axis c = search needs
+
+-- src/lib.rt:57:20
+shared-slice-read-axis : tie.Need-shared-slice-read-axis Inv-loop μ-loop
+shared-slice-read-axis c = search needs
+
+-- src/lib.rt:58:12
+entry-at-requires : tie.Need-entry-at-requires Inv-loop μ-loop
+entry-at-requires c κs = search needs
+
+-- src/lib.rt:59:13
+returns : tie.Need-returns Inv-loop μ-loop
+returns c = 
+    let l = c .before .before .before .before in
+    let s = l .before .before .before in
+    collapsed-no (s .args .rank) (s .args .sizes .now) (s .args .collapsed .now) (l .loop .i) (omega arith) (λ e. c .if1 .taken (c .before .entry-at .ensures ∙ e)) ∙ l .loop .inv .1
+
+-- src/lib.rt:61:9
+add-i : tie.Need-add-i Inv-loop μ-loop
+add-i c = search needs
+
+-- src/lib.rt:56:5
+loop-less : tie.Need-loop-less Inv-loop μ-loop
+loop-less c = search needs
+
+-- src/lib.rt:56:5
+loop-again : tie.Need-loop-again Inv-loop μ-loop
+loop-again c = 
+    let l = c .before .before .before .before in
+    let s = l .before .before .before in
+    (omega arith, collapsed-next (s .args .rank) (s .args .sizes .now) (s .args .collapsed .now) (l .loop .i) (omega arith) (sym (c .before .entry-at .ensures) ∙ c .if1 .left) ∙ l .loop .inv .1)
+
+-- src/lib.rt:52:1
+returns-2 : tie.Need-returns-2 Inv-loop μ-loop
+returns-2 c = 
+    let l = c .before in
+    let s = l .before .before .before in
+    collapsed-end (s .args .rank) (s .args .sizes .now) (s .args .collapsed .now) (l .loop .i) (omega arith) ∙ l .loop .inv .1
+
+pub check-collapsed-spec : {M : Type 1} → statement M
+check-collapsed-spec =
+    tie.close
+    (tie.spec
+    Inv-loop
+    μ-loop
+    loop-holds
+    mul-axis
+    shared-slice-read-axis
+    entry-at-requires
+    returns
+    add-i
+    loop-less
+    loop-again
+    returns-2)
