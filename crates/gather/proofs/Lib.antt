@@ -1,1 +1,2 @@
 pub mod Collapsed
+pub mod Read

@@ -37,28 +37,27 @@ unfoldable pub collapsedOne : ℕ → List ℕ → List ℕ → Answer
 collapsedOne rank sizes [] = A.Done
 collapsedOne rank sizes (a ∷ rest) = cond (eqb (getD sizes a 0) 1) (collapsedOne rank sizes rest) (A.InvalidAxis a rank)
 
+-- "slice sizes against operand rank (5); collapsed axes, then start map, in range and unrepeated (6); vector axis above index rank (6, b = rank + 1);
+-- first window above its extent (6); first collapsed axis with window not 1 (6)"
+abbrev pub listsRefusal : List ℕ → List ℕ → List ℕ → List ℕ → ℕ → List ℕ → Answer
+listsRefusal oe ie collapsed map vector sizes =
+    orElse (sameCount (length sizes) (length oe)) (orElse (uniqueAxes (length oe) [] collapsed) (orElse (uniqueAxes (length oe) [] map)
+    (orElse (vectorAxis vector (length ie)) (orElse (windowsFit 0 oe sizes) (collapsedOne (length oe) sizes collapsed)))))
+
+-- "component count against map length (5); `offset_dims` count against kept axes (5);
+-- `offset_dims` in range and unrepeated (6, b = batch axes plus window axes)"
+abbrev pub countsRefusal : List ℕ → List ℕ → List ℕ → List ℕ → List ℕ → ℕ → Answer
+countsRefusal oe ie offsets collapsed map vector =
+    orElse (sameCount (componentsOf ie vector) (length map)) (orElse (sameCount (length offsets) (length (others (length oe) collapsed)))
+    (uniqueAxes (length (without vector ie) + length offsets) [] offsets))
+
 -- the extents of the batch axes: those of the index view, the vector axis left out
 abbrev pub batchExtents : Gather → List ℕ
 batchExtents g = without (g .spec .index-vector-dim) (g .indices .extents)
 
--- "batch axes plus window axes"
+-- batch axes plus window axes
 abbrev pub outRank : Gather → ℕ
 outRank g = length (batchExtents g) + length (g .spec .offset-dims)
-
--- "slice sizes against operand rank (5); collapsed axes, then start map, in range and unrepeated (6); vector axis above index rank (6, b = rank + 1);
--- first window above its extent (6); first collapsed axis with window not 1 (6); component count against map length (5);
--- `offset_dims` count against kept axes (5); `offset_dims` in range and unrepeated (6, b = batch axes plus window axes)"
-unfoldable pub specRefusal : Gather → Answer
-specRefusal g =
-    orElse (sameCount (length (g .spec .slice-sizes)) (rank (g .operand)))
-    (orElse (uniqueAxes (rank (g .operand)) [] (g .spec .collapsed-slice-dims))
-    (orElse (uniqueAxes (rank (g .operand)) [] (g .spec .start-index-map))
-    (orElse (vectorAxis (g .spec .index-vector-dim) (rank (g .indices)))
-    (orElse (windowsFit 0 (g .operand .extents) (g .spec .slice-sizes))
-    (orElse (collapsedOne (rank (g .operand)) (g .spec .slice-sizes) (g .spec .collapsed-slice-dims))
-    (orElse (sameCount (componentsOf (g .indices .extents) (g .spec .index-vector-dim)) (length (g .spec .start-index-map)))
-    (orElse (sameCount (length (g .spec .offset-dims)) (length (shownDims g)))
-    (uniqueAxes (outRank g) [] (g .spec .offset-dims)))))))))
 
 -- "shape (7)": the result has the window extents on `offset_dims`, in list order, and the batch extents on the other axes
 abbrev pub shapeFits : Gather → Bool
@@ -96,4 +95,6 @@ unfoldable pub refusalOf : Bool → Gather → Answer
 refusalOf nested g =
     orElse (layoutsRefusal (rank (g .operand)) (length (g .operand .strides)) (rank (g .indices)) (length (g .indices .strides)) (rank (g .result)) (length (g .result .strides)))
     (orElse (numbersRefusal nested (g .operand .extents) (g .operand .strides) (g .indices .extents) (g .indices .strides) (g .result .extents) (g .result .strides))
-    (orElse (specRefusal g) (orElse (shapeRefusal g) (resetsRefusal g))))
+    (orElse (listsRefusal (g .operand .extents) (g .indices .extents) (g .spec .collapsed-slice-dims) (g .spec .start-index-map) (g .spec .index-vector-dim) (g .spec .slice-sizes))
+    (orElse (countsRefusal (g .operand .extents) (g .indices .extents) (g .spec .offset-dims) (g .spec .collapsed-slice-dims) (g .spec .start-index-map) (g .spec .index-vector-dim))
+    (orElse (shapeRefusal g) (resetsRefusal g)))))

@@ -1,11 +1,13 @@
 // Gather: a plan from layouts and a spec, by the checks of document 01 in its order.
 ghost use mathlib.Core.Path.{_≡_};
-ghost use Prim.Native.Nat.{min};
+ghost use Prim.Native.Nat.{_+_, min};
+ghost use lib.ListN.{length};
+ghost use Rattle.indexing.specs.Start.{without};
 ghost use Rattle.layout.specs.Layouts.{rankLimit, extentsOf, stridesOf};
 ghost use Rattle.layout.specs.Spans.{resetOf};
 ghost use Rattle.axis_lists.specs.Held.{numbersOf, stepsOf};
 ghost use Rattle.checks.specs.Checks.{firstOf};
-ghost use Rattle.gather.specs.Refusals.{layoutsRefusal, numbersRefusal, collapsedOne, numberFits, axisResets, resetsAt, offsetFits};
+ghost use Rattle.gather.specs.Refusals.{layoutsRefusal, numbersRefusal, listsRefusal, countsRefusal, collapsedOne, numberFits, axisResets, resetsAt, offsetFits};
 use axis_lists::Numbers;
 use axis_lists::Steps;
 use integer::Checked;
@@ -126,4 +128,56 @@ fn check_components(stride: i64, count: u64) -> Answer
         i += 1;
     }
     Answer::Done
+}
+
+// Batch axes plus window axes.
+fn out_rank(index: Layout, vector: u64, offset_dims: &[u64]) -> u64
+    ensures { λ r. ⌜ r ≡ length (without vector (extentsOf index)) + length (now («offset_dims» .entry)) ⌝ }
+{
+    let extents = axis_lists::extents_of(index);
+    let batch = axis_lists::without_number(vector, extents);
+    batch.count as u64 + offset_dims.len() as u64
+}
+
+// The counts, lists and windows of a spec.
+fn check_lists(
+    operand: Layout,
+    index: Layout,
+    collapsed: &[u64],
+    map: &[u64],
+    vector: u64,
+    sizes: &[u64],
+) -> Answer
+    ensures { λ r. ⌜ r ≡ listsRefusal (extentsOf operand) (extentsOf index) (now (collapsed .entry)) (now (map .entry)) vector (now (sizes .entry)) ⌝ }
+{
+    let rank = layout::axis_count(operand.rank) as u64;
+    let extents = axis_lists::extents_of(operand);
+    let a = checks::check_same_count(sizes.len() as u64, rank);
+    let b = layout::validate_unique_axes(collapsed, rank);
+    let c = layout::validate_unique_axes(map, rank);
+    let d = checks::check_vector_axis(vector, layout::axis_count(index.rank));
+    let e = checks::check_windows(sizes, extents);
+    let f = check_collapsed(rank, sizes, collapsed);
+    let axes = checks::or_else(d, checks::or_else(e, f));
+    checks::or_else(a, checks::or_else(b, checks::or_else(c, axes)))
+}
+
+// The counts of components and of window axes, and the window axes.
+fn check_counts(
+    operand: Layout,
+    index: Layout,
+    offset_dims: &[u64],
+    collapsed: &[u64],
+    map: &[u64],
+    vector: u64,
+) -> Answer
+    ensures { λ r. ⌜ r ≡ countsRefusal (extentsOf operand) (extentsOf index) (now («offset_dims» .entry)) (now (collapsed .entry)) (now (map .entry)) vector ⌝ }
+{
+    let kept = axis_lists::other_axes(operand.rank, collapsed);
+    let components = checks::component_count(index, vector);
+    let rank = out_rank(index, vector, offset_dims);
+    let a = checks::check_same_count(components, map.len() as u64);
+    let b = checks::check_same_count(offset_dims.len() as u64, kept.count as u64);
+    let c = layout::validate_unique_axes(offset_dims, rank);
+    checks::or_else(a, checks::or_else(b, c))
 }

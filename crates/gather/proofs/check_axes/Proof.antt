@@ -74,7 +74,7 @@ is-done-requires c κs = search needs
 
 -- src/lib.rt:109:13
 returns : tie.Need-returns Inv-loop μ-loop
-returns c = 
+returns c =
     let l = c .before .before .before .before .before .before .before .before in
     let s = l .before .before in
     first-stops (resetsAt (numbersOf (s .args .extents)) (stepsOf (s .args .dest)) (stepsOf (s .args .window)) (stepsOf (s .args .batch))) (l .before .axis-count .result) (l .loop .i) (c .before .before .check-axis .result) (c .before .is-done .result) (c .before .before .before .before .before .before .before .loop-test .taken) (at (c .before .before)) (c .before .is-done .ensures) (not-true _ (c .if1 .taken))
@@ -90,14 +90,14 @@ loop-less c = omega (arith, c .before .before .before .before .before .before .b
 
 -- src/lib.rt:101:5
 loop-again : tie.Need-loop-again Inv-loop μ-loop
-loop-again c = 
+loop-again c =
     let l = c .before .before .before .before .before .before .before .before in
     let s = l .before .before in
     (omega (arith, c .before .before .before .before .before .before .before .loop-test .taken), first-goes (resetsAt (numbersOf (s .args .extents)) (stepsOf (s .args .dest)) (stepsOf (s .args .window)) (stepsOf (s .args .batch))) (l .before .axis-count .result) (l .loop .i) (c .before .before .check-axis .result) (c .before .is-done .result) (c .before .before .before .before .before .before .before .loop-test .taken) (at (c .before .before)) (c .before .is-done .ensures) (not-false _ (c .if1 .left)) ∙ l .loop .inv .1)
 
 -- src/lib.rt:96:1
 returns-2 : tie.Need-returns-2 Inv-loop μ-loop
-returns-2 c = 
+returns-2 c =
     let l = c .before in
     let s = l .before .before in
     first-ends (resetsAt (numbersOf (s .args .extents)) (stepsOf (s .args .dest)) (stepsOf (s .args .window)) (stepsOf (s .args .batch))) (l .before .axis-count .result) (l .loop .i) (c .loop-test .left)

@@ -45,7 +45,7 @@ or-else-requires-2 c κs = search needs
 
 -- src/lib.rt:86:1
 returns : tie.Need-returns
-returns c = 
+returns c =
     let s = c .before .before .before .before .before in
     rw (c .or-else2 .ensures, c .before .or-else .ensures, c .before .before .check-reset3 .ensures, c .before .before .before .check-reset2 .ensures, c .before .before .before .before .check-reset .ensures, back (s .fits .dest), back (s .fits .window), back (s .fits .batch))
 

@@ -46,7 +46,7 @@ entry-at-requires c κs = search needs
 
 -- src/lib.rt:59:13
 returns : tie.Need-returns Inv-loop μ-loop
-returns c = 
+returns c =
     let l = c .before .before .before .before in
     let s = l .before .before .before in
     collapsed-no (s .args .rank) (s .args .sizes .now) (s .args .collapsed .now) (l .loop .i) (omega arith) (λ e. c .if1 .taken (c .before .entry-at .ensures ∙ e)) ∙ l .loop .inv .1
@@ -61,14 +61,14 @@ loop-less c = search needs
 
 -- src/lib.rt:56:5
 loop-again : tie.Need-loop-again Inv-loop μ-loop
-loop-again c = 
+loop-again c =
     let l = c .before .before .before .before in
     let s = l .before .before .before in
     (omega arith, collapsed-next (s .args .rank) (s .args .sizes .now) (s .args .collapsed .now) (l .loop .i) (omega arith) (sym (c .before .entry-at .ensures) ∙ c .if1 .left) ∙ l .loop .inv .1)
 
 -- src/lib.rt:52:1
 returns-2 : tie.Need-returns-2 Inv-loop μ-loop
-returns-2 c = 
+returns-2 c =
     let l = c .before in
     let s = l .before .before .before in
     collapsed-end (s .args .rank) (s .args .sizes .now) (s .args .collapsed .now) (l .loop .i) (omega arith) ∙ l .loop .inv .1

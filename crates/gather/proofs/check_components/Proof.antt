@@ -43,7 +43,7 @@ is-done-requires c κs = search needs
 
 -- src/lib.rt:124:13
 returns : tie.Need-returns Inv-loop μ-loop
-returns c = 
+returns c =
     let l = c .before .before .before .before in
     let s = l .before in
     first-stops (offsetFits (toZ w64 (ofZ w64 (s .args .stride)))) (s .args .count) (l .loop .i) (c .before .before .check-offset .result) (c .before .is-done .result) (c .before .before .before .loop-test .taken) (c .before .before .check-offset .ensures) (c .before .is-done .ensures) (not-true _ (c .if1 .taken)) ∙ l .loop .inv .1 ∙ ap (λ (z : ℤ). firstOf (offsetFits z) (s .args .count) 0) (back (s .fits .stride))
@@ -58,14 +58,14 @@ loop-less c = search needs
 
 -- src/lib.rt:121:5
 loop-again : tie.Need-loop-again Inv-loop μ-loop
-loop-again c = 
+loop-again c =
     let l = c .before .before .before .before in
     let s = l .before in
     (omega (arith, c .before .before .before .loop-test .taken), first-goes (offsetFits (toZ w64 (ofZ w64 (s .args .stride)))) (s .args .count) (l .loop .i) (c .before .before .check-offset .result) (c .before .is-done .result) (c .before .before .before .loop-test .taken) (c .before .before .check-offset .ensures) (c .before .is-done .ensures) (not-false _ (c .if1 .left)) ∙ l .loop .inv .1)
 
 -- src/lib.rt:117:1
 returns-2 : tie.Need-returns-2 Inv-loop μ-loop
-returns-2 c = 
+returns-2 c =
     let l = c .before in
     let s = l .before in
     first-ends (offsetFits (toZ w64 (ofZ w64 (s .args .stride)))) (s .args .count) (l .loop .i) (c .loop-test .left) ∙ l .loop .inv .1 ∙ ap (λ (z : ℤ). firstOf (offsetFits z) (s .args .count) 0) (back (s .fits .stride))

@@ -36,13 +36,13 @@ enum-told-2 c = search needs
 
 -- src/lib.rt:66:1
 returns : tie.Need-returns
-returns c = 
+returns c =
     let s = c .before .before .before in
     ap numberFits (sym (c .enum-told .given .1) ∙ c .before .before .checked-replay-reset .ensures ∙ ap (resetOf (s .args .extent)) (back (s .fits .step)))
 
 -- src/lib.rt:66:1
 returns-2 : tie.Need-returns-2
-returns-2 c = 
+returns-2 c =
     let s = c .before .before .before in
     ap numberFits (sym (c .enum-told2 .given .1) ∙ c .before .before .checked-replay-reset .ensures ∙ ap (resetOf (s .args .extent)) (back (s .fits .step)))
 

@@ -1,0 +1,90 @@
+use mathlib.Core.Path.{_≡_, refl, sym, ap, ap₂, _∙_}
+use mathlib.Core.List.{List}
+use Prim.Native.Nat.{ℕ, _+_, _-_, _<_, _≤_, zero-le, min}
+use native.Mathlib.Omega.{arith}
+use borrow.Author.Tests.{not-true, not-false}
+use lib.ListN.{length, drop, getD}
+use lib.IntN.{ℤ, pos}
+use mir.Syntax.{w64}
+use mir.Val.{SFits, toZ, ofZ}
+use Rattle.integer.specs.Z.{back}
+use Rattle.layout.specs.declared.Answer.{Answer}
+use Rattle.layout.specs.Spans.{resetOf, offsetAdd}
+use Rattle.axis_lists.specs.Held.{numbersOf, stepsOf}
+use Rattle.checks.specs.Checks.{firstOf}
+use Rattle.checks.proofs.FirstOf.{first-stops, first-goes, first-ends, first-starts}
+use Rattle.gather.specs.Refusals.{collapsedOne, numberFits, axisResets, resetsAt, offsetFits}
+use Rattle.gather.proofs.Collapsed.{collapsed-no, collapsed-next, collapsed-end}
+use lib.ListN.{length-take}
+use Rattle.indexing.specs.Coordinates.{others}
+use Rattle.indexing.specs.Start.{without}
+use Rattle.layout.specs.Layouts.{extentsOf, stridesOf}
+use Rattle.axis_lists.specs.Held.{heldNumbers}
+use Rattle.axis_lists.specs.declared.Numbers.{Numbers}
+use Rattle.axis_lists.proofs.Filling.{length-without}
+use Rattle.gather.proofs.Read.{extents-length, extents-read, strides-length, strides-read}
+use borrow.Author.Needs.{needs}
+use Rattle.gather.proofs.check_counts.Statement.{statement}
+use Rattle.gather.proofs.check_counts.Tie as tie
+use Rattle.gather.proofs.check_counts.Reads as reads
+use Rattle.gather.proofs.check_counts.Lts as lts
+use Rattle.axis_lists.proofs.other_axes.Reads as other-axes-reads
+use Rattle.checks.proofs.check_same_count.Reads as check-same-count-reads
+use Rattle.checks.proofs.component_count.Reads as component-count-reads
+use Rattle.checks.proofs.or_else.Reads as or-else-reads
+use Rattle.gather.proofs.out_rank.Reads as out-rank-reads
+use Rattle.layout.proofs.validate_unique_axes.Reads as validate-unique-axes-reads
+
+-- src/lib.rt:176:9
+other-axes-requires : tie.Need-other-axes-requires
+other-axes-requires c κs = search needs
+
+-- src/lib.rt:177:9
+component-count-requires : tie.Need-component-count-requires
+component-count-requires c κs = search needs
+
+-- src/lib.rt:178:9
+out-rank-requires : tie.Need-out-rank-requires
+out-rank-requires c κs = search needs
+
+-- src/lib.rt:179:9
+check-same-count-requires : tie.Need-check-same-count-requires
+check-same-count-requires c κs = search needs
+
+-- src/lib.rt:180:9
+check-same-count-requires-2 : tie.Need-check-same-count-requires-2
+check-same-count-requires-2 c κs = search needs
+
+-- src/lib.rt:181:9
+validate-unique-axes-requires : tie.Need-validate-unique-axes-requires
+validate-unique-axes-requires c κs = search needs
+
+-- src/lib.rt:182:24
+or-else-requires : tie.Need-or-else-requires
+or-else-requires c κs = search needs
+
+-- src/lib.rt:182:5
+or-else-requires-2 : tie.Need-or-else-requires-2
+or-else-requires-2 c κs = search needs
+
+-- src/lib.rt:166:1
+returns : tie.Need-returns
+returns c = 
+    let s = c .before .before .before .before .before .before .before .before .before .before .before in
+    let e : length (s .args .operand .extents) ≡ 8 = search needs in
+    let g : length (s .args .index .extents) ≡ 8 = search needs in
+    rw (c .or-else2 .ensures, c .before .or-else .ensures, c .before .before .validate-unique-axes .ensures, c .before .before .before .check-same-count2 .ensures, c .before .before .before .before .check-same-count .ensures, c .before .before .before .before .before .out-rank .ensures, c .before .before .before .before .before .before .component-count .ensures, c .before .before .before .before .before .before .before .other-axes .ensures, extents-length (s .args .operand) e)
+
+pub check-counts-spec : {M : Type 1} → statement M
+check-counts-spec =
+    tie.close
+    (tie.spec
+    other-axes-requires
+    component-count-requires
+    out-rank-requires
+    check-same-count-requires
+    check-same-count-requires-2
+    validate-unique-axes-requires
+    or-else-requires
+    or-else-requires-2
+    returns)
