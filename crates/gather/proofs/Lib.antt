@@ -1,2 +1,3 @@
 pub mod Collapsed
 pub mod Read
+pub mod Shape

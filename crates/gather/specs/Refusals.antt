@@ -51,23 +51,17 @@ countsRefusal oe ie offsets collapsed map vector =
     orElse (sameCount (componentsOf ie vector) (length map)) (orElse (sameCount (length offsets) (length (others (length oe) collapsed)))
     (uniqueAxes (length (without vector ie) + length offsets) [] offsets))
 
--- the extents of the batch axes: those of the index view, the vector axis left out
-abbrev pub batchExtents : Gather → List ℕ
-batchExtents g = without (g .spec .index-vector-dim) (g .indices .extents)
+-- "shape (7)": the destination has as many axes as batch and window together, the window extents on `offset_dims`, in list order,
+-- and the batch extents, those of the index view without the vector axis, on its other axes
+unfoldable pub shapeFits : List ℕ → List ℕ → List ℕ → List ℕ → List ℕ → ℕ → List ℕ → Bool
+shapeFits oe ie de offsets collapsed vector sizes =
+    eqb (length de) (length (without vector ie) + length offsets)
+    && (sameList (pick 0 offsets de) (pick 0 (others (length oe) collapsed) sizes)
+    && sameList (pick 0 (others (length de) offsets) de) (without vector ie))
 
--- batch axes plus window axes
-abbrev pub outRank : Gather → ℕ
-outRank g = length (batchExtents g) + length (g .spec .offset-dims)
-
--- "shape (7)": the result has the window extents on `offset_dims`, in list order, and the batch extents on the other axes
-abbrev pub shapeFits : Gather → Bool
-shapeFits g =
-    eqb (rank (g .result)) (outRank g)
-    && (sameList (pick 0 (g .spec .offset-dims) (g .result .extents)) (pick 0 (shownDims g) (g .spec .slice-sizes))
-    && sameList (pick 0 (batchDims g) (g .result .extents)) (batchExtents g))
-
-unfoldable pub shapeRefusal : Gather → Answer
-shapeRefusal g = cond (shapeFits g) A.Done (A.ShapeMismatch (rank (g .result)) (outRank g))
+abbrev pub shapeRefusal : List ℕ → List ℕ → List ℕ → List ℕ → List ℕ → ℕ → List ℕ → Answer
+shapeRefusal oe ie de offsets collapsed vector sizes =
+    cond (shapeFits oe ie de offsets collapsed vector sizes) A.Done (A.ShapeMismatch (length de) (length (without vector ie) + length offsets))
 
 -- 3 where a number does not fit
 abbrev pub numberFits : Checked → Answer
@@ -97,4 +91,5 @@ refusalOf nested g =
     (orElse (numbersRefusal nested (g .operand .extents) (g .operand .strides) (g .indices .extents) (g .indices .strides) (g .result .extents) (g .result .strides))
     (orElse (listsRefusal (g .operand .extents) (g .indices .extents) (g .spec .collapsed-slice-dims) (g .spec .start-index-map) (g .spec .index-vector-dim) (g .spec .slice-sizes))
     (orElse (countsRefusal (g .operand .extents) (g .indices .extents) (g .spec .offset-dims) (g .spec .collapsed-slice-dims) (g .spec .start-index-map) (g .spec .index-vector-dim))
-    (orElse (shapeRefusal g) (resetsRefusal g)))))
+    (orElse (shapeRefusal (g .operand .extents) (g .indices .extents) (g .result .extents) (g .spec .offset-dims) (g .spec .collapsed-slice-dims) (g .spec .index-vector-dim) (g .spec .slice-sizes))
+    (resetsRefusal g)))))

@@ -1,5 +1,6 @@
 // Gather: a plan from layouts and a spec, by the checks of document 01 in its order.
 ghost use mathlib.Core.Path.{_≡_};
+ghost use mathlib.Core.Bool.{_&&_};
 ghost use Prim.Native.Nat.{_+_, min};
 ghost use lib.ListN.{length};
 ghost use Rattle.indexing.specs.Start.{without};
@@ -7,7 +8,7 @@ ghost use Rattle.layout.specs.Layouts.{rankLimit, extentsOf, stridesOf};
 ghost use Rattle.layout.specs.Spans.{resetOf};
 ghost use Rattle.axis_lists.specs.Held.{numbersOf, stepsOf};
 ghost use Rattle.checks.specs.Checks.{firstOf};
-ghost use Rattle.gather.specs.Refusals.{layoutsRefusal, numbersRefusal, listsRefusal, countsRefusal, collapsedOne, numberFits, axisResets, resetsAt, offsetFits};
+ghost use Rattle.gather.specs.Refusals.{layoutsRefusal, numbersRefusal, listsRefusal, countsRefusal, shapeFits, shapeRefusal, collapsedOne, numberFits, axisResets, resetsAt, offsetFits};
 use axis_lists::Numbers;
 use axis_lists::Steps;
 use integer::Checked;
@@ -180,4 +181,60 @@ fn check_counts(
     let b = checks::check_same_count(offset_dims.len() as u64, kept.count as u64);
     let c = layout::validate_unique_axes(offset_dims, rank);
     checks::or_else(a, checks::or_else(b, c))
+}
+
+fn both(a: bool, b: bool) -> bool
+    ensures { λ r. ⌜ r ≡ (a && b) ⌝ }
+{
+    if a { b } else { false }
+}
+
+// Whether the destination has the window extents on `offset_dims` and the batch extents on its other axes.
+fn shape_fits(
+    operand: Layout,
+    index: Layout,
+    dest: Layout,
+    offset_dims: &[u64],
+    collapsed: &[u64],
+    vector: u64,
+    sizes: &[u64],
+) -> bool
+    ensures { λ r. ⌜ r ≡ shapeFits (extentsOf operand) (extentsOf index) (extentsOf dest) (now («offset_dims» .entry)) (now (collapsed .entry)) vector (now (sizes .entry)) ⌝ }
+{
+    if offset_dims.len() > layout::RAW_FUSED_RANK_LIMIT {
+        return false;
+    }
+    let extents = axis_lists::extents_of(dest);
+    let kept = axis_lists::other_axes(operand.rank, collapsed);
+    let starts = axis_lists::extents_of(index);
+    let batch = axis_lists::without_number(vector, starts);
+    let axes = axis_lists::other_axes(dest.rank, offset_dims);
+    let rank = out_rank(index, vector, offset_dims);
+    let window_axes = axis_lists::numbers_from(offset_dims);
+    let shown = axis_lists::pick_numbers(window_axes, extents);
+    let windows = axis_lists::pick_entries(kept, sizes);
+    let others = axis_lists::pick_numbers(axes, extents);
+    let same_windows = axis_lists::same_numbers(shown, windows);
+    let same_batch = axis_lists::same_numbers(others, batch);
+    both(extents.count as u64 == rank, both(same_windows, same_batch))
+}
+
+// 7 where the destination's shape is not the expected one.
+fn check_shape(
+    operand: Layout,
+    index: Layout,
+    dest: Layout,
+    offset_dims: &[u64],
+    collapsed: &[u64],
+    vector: u64,
+    sizes: &[u64],
+) -> Answer
+    ensures { λ r. ⌜ r ≡ shapeRefusal (extentsOf operand) (extentsOf index) (extentsOf dest) (now («offset_dims» .entry)) (now (collapsed .entry)) vector (now (sizes .entry)) ⌝ }
+{
+    if shape_fits(operand, index, dest, offset_dims, collapsed, vector, sizes) {
+        return Answer::Done;
+    }
+    let given = layout::axis_count(dest.rank) as u64;
+    let expected = out_rank(index, vector, offset_dims);
+    Answer::ShapeMismatch(given, expected)
 }

@@ -95,7 +95,7 @@ or-else-requires-5 c κs = search needs
 
 -- src/lib.rt:143:1
 returns : tie.Need-returns
-returns c = 
+returns c =
     let s = c .before .before .before .before .before .before .before .before .before .before .before .before .before .before .before .before .before in
     let e : length (s .args .operand .extents) ≡ 8 = search needs in
     let g : length (s .args .index .extents) ≡ 8 = search needs in
