@@ -1,3 +1,5 @@
 pub mod Collapsed
 pub mod Read
 pub mod Shape
+pub mod Made
+pub mod Rest

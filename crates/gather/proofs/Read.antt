@@ -1,11 +1,10 @@
 -- A layout's lists, as they are read and held. Assumes nothing.
-use mathlib.Core.Path.{_≡_, sym, ap, _∙_}
-use mathlib.Core.List.{List}
-use Prim.Native.Nat.{ℕ, _≤_, min}
+use mathlib.Core.Path.{_≡_, ap, _∙_}
+use Prim.Native.Nat.{min}
 use native.Mathlib.Omega.{arith}
-use lib.ListN.{length, take, length-take}
-use lib.IntN.{ℤ, pos}
-use Rattle.layout.specs.Layouts.{rankLimit, extentsOf, stridesOf}
+use lib.ListN.{length, length-take}
+use lib.IntN.{pos}
+use Rattle.layout.specs.Layouts.{extentsOf, stridesOf}
 use Rattle.layout.specs.declared.Layout.{Layout}
 use Rattle.axis_lists.specs.Held.{numbersOf, stepsOf, heldNumbers, heldSteps}
 use Rattle.axis_lists.proofs.Filling.{read-back}

@@ -7,9 +7,9 @@ use lib.ListN.{length, getD}
 use lib.IntN.{ℤ, pos}
 use Rattle.integer.specs.declared.Checked.{Checked}
 use Rattle.integer.specs.declared.Checked.the-variants as C
-use Rattle.indexing.specs.Coordinates.{rank, pick, others}
+use Rattle.indexing.specs.Coordinates.{View, rank, pick, others}
 use Rattle.indexing.specs.Start.{without}
-use Rattle.indexing.specs.Gather.{Gather, batchDims, shownDims}
+use Rattle.indexing.specs.Gather.{Gather}
 use Rattle.indexing.specs.Steps.{vectorStride, windowSteps, batchSteps}
 use Rattle.layout.specs.declared.Answer.{Answer}
 use Rattle.layout.specs.declared.Answer.the-variants as A
@@ -19,6 +19,19 @@ use Rattle.layout.specs.Lists.{uniqueAxes}
 use Rattle.layout.specs.Spans.{totalOf, spanned, resetOf, offsetAdd}
 use Rattle.axis_lists.specs.Held.{sameList}
 use Rattle.checks.specs.Checks.{firstOf, totalFits, spanFits, nestedIf, sameCount, vectorAxis, componentsOf, windowsFit}
+
+-- a gather from its layouts and its spec's lists; where its views begin does not matter to a plan
+abbrev pub viewFrom : List ℕ → List ℤ → View
+viewFrom es ss = record { extents = es; strides = ss; offset = pos 0 }
+
+abbrev pub gatherFrom : List ℕ → List ℤ → List ℕ → List ℤ → List ℕ → List ℤ → List ℕ → List ℕ → List ℕ → ℕ → List ℕ → Gather
+gatherFrom oe os ie is de ds offsets collapsed map vector sizes =
+    record {
+      spec = record { offset-dims = offsets; collapsed-slice-dims = collapsed; start-index-map = map; index-vector-dim = vector; slice-sizes = sizes };
+      operand = viewFrom oe os;
+      indices = viewFrom ie is;
+      result = viewFrom de ds;
+    }
 
 -- "1; 2": for the operand, the index and the destination, given the counts of extents and of strides
 abbrev pub layoutsRefusal : ℕ → ℕ → ℕ → ℕ → ℕ → ℕ → Answer
@@ -79,10 +92,8 @@ resetsAt ds ss ws bs i = axisResets (getD ds i 0) (getD ss i (pos 0)) (getD ws i
 abbrev pub offsetFits : ℤ → ℕ → Answer
 offsetFits stride c = numberFits (offsetAdd (pos 0) stride c)
 
-unfoldable pub resetsRefusal : Gather → Answer
-resetsRefusal g =
-    orElse (firstOf (resetsAt (g .result .extents) (g .result .strides) (windowSteps g) (batchSteps g)) (rank (g .result)) 0)
-    (firstOf (offsetFits (vectorStride (g .indices) (g .spec .index-vector-dim))) (length (g .spec .start-index-map)) 0)
+abbrev pub resetsRefusal : List ℕ → List ℤ → List ℤ → List ℤ → ℤ → ℕ → Answer
+resetsRefusal de ds window batch stride components = orElse (firstOf (resetsAt de ds window batch) (length de) 0) (firstOf (offsetFits stride) components 0)
 
 -- THE REFUSAL of a gather; 4 is tried where `nested` says so
 unfoldable pub refusalOf : Bool → Gather → Answer
@@ -92,4 +103,4 @@ refusalOf nested g =
     (orElse (listsRefusal (g .operand .extents) (g .indices .extents) (g .spec .collapsed-slice-dims) (g .spec .start-index-map) (g .spec .index-vector-dim) (g .spec .slice-sizes))
     (orElse (countsRefusal (g .operand .extents) (g .indices .extents) (g .spec .offset-dims) (g .spec .collapsed-slice-dims) (g .spec .start-index-map) (g .spec .index-vector-dim))
     (orElse (shapeRefusal (g .operand .extents) (g .indices .extents) (g .result .extents) (g .spec .offset-dims) (g .spec .collapsed-slice-dims) (g .spec .index-vector-dim) (g .spec .slice-sizes))
-    (resetsRefusal g)))))
+    (resetsRefusal (g .result .extents) (g .result .strides) (windowSteps g) (batchSteps g) (vectorStride (g .indices) (g .spec .index-vector-dim)) (length (g .spec .start-index-map)))))))

@@ -2,13 +2,15 @@
 ghost use mathlib.Core.Path.{_≡_};
 ghost use mathlib.Core.Bool.{_&&_};
 ghost use Prim.Native.Nat.{_+_, min};
-ghost use lib.ListN.{length};
+ghost use lib.ListN.{length, getD};
+ghost use lib.IntN.{pos};
+ghost use Rattle.indexing.specs.Coordinates.{pick, spread, others};
 ghost use Rattle.indexing.specs.Start.{without};
 ghost use Rattle.layout.specs.Layouts.{rankLimit, extentsOf, stridesOf};
 ghost use Rattle.layout.specs.Spans.{resetOf};
-ghost use Rattle.axis_lists.specs.Held.{numbersOf, stepsOf};
+ghost use Rattle.axis_lists.specs.Held.{numbersOf, stepsOf, heldSteps};
 ghost use Rattle.checks.specs.Checks.{firstOf};
-ghost use Rattle.gather.specs.Refusals.{layoutsRefusal, numbersRefusal, listsRefusal, countsRefusal, shapeFits, shapeRefusal, collapsedOne, numberFits, axisResets, resetsAt, offsetFits};
+ghost use Rattle.gather.specs.Refusals.{gatherFrom, refusalOf, layoutsRefusal, numbersRefusal, listsRefusal, countsRefusal, shapeFits, shapeRefusal, resetsRefusal, collapsedOne, numberFits, axisResets, resetsAt, offsetFits};
 use axis_lists::Numbers;
 use axis_lists::Steps;
 use integer::Checked;
@@ -237,4 +239,123 @@ fn check_shape(
     let given = layout::axis_count(dest.rank) as u64;
     let expected = out_rank(index, vector, offset_dims);
     Answer::ShapeMismatch(given, expected)
+}
+
+// What each axis of the destination adds to the place in the operand: the stride of the axis that it shows, or 0.
+fn window_steps(operand: Layout, dest: Layout, offset_dims: &[u64], collapsed: &[u64]) -> Steps
+    ensures { λ r. ⌜ r ≡ heldSteps (spread (pos 0) (length (extentsOf dest)) (now («offset_dims» .entry)) (pick (pos 0) (others (length (extentsOf operand)) (now (collapsed .entry))) (stridesOf operand))) ⌝ }
+{
+    let kept = axis_lists::other_axes(operand.rank, collapsed);
+    let strides = axis_lists::strides_of(operand);
+    let shown = axis_lists::pick_steps(kept, strides);
+    let axes = axis_lists::numbers_from(offset_dims);
+    axis_lists::spread_steps(dest.rank, axes, shown)
+}
+
+// What each axis of the destination adds to the place in the index view: the stride of its batch axis, or 0.
+fn batch_steps(index: Layout, dest: Layout, offset_dims: &[u64], vector: u64) -> Steps
+    ensures { λ r. ⌜ r ≡ heldSteps (spread (pos 0) (length (extentsOf dest)) (others (length (extentsOf dest)) (now («offset_dims» .entry))) (without vector (stridesOf index))) ⌝ }
+{
+    let axes = axis_lists::other_axes(dest.rank, offset_dims);
+    let strides = axis_lists::strides_of(index);
+    let batch = axis_lists::without_step(vector, strides);
+    axis_lists::spread_steps(dest.rank, axes, batch)
+}
+
+// 3 for resets and component offsets.
+fn check_resets(
+    operand: Layout,
+    index: Layout,
+    dest: Layout,
+    offset_dims: &[u64],
+    collapsed: &[u64],
+    map: &[u64],
+    vector: u64,
+) -> Answer
+    ensures { λ r. ⌜ r ≡ resetsRefusal (extentsOf dest) (stridesOf dest) (spread (pos 0) (length (extentsOf dest)) (now («offset_dims» .entry)) (pick (pos 0) (others (length (extentsOf operand)) (now (collapsed .entry))) (stridesOf operand))) (spread (pos 0) (length (extentsOf dest)) (others (length (extentsOf dest)) (now («offset_dims» .entry))) (without vector (stridesOf index))) (getD (stridesOf index) vector (pos 0)) (length (now (map .entry))) ⌝ }
+{
+    let window = window_steps(operand, dest, offset_dims, collapsed);
+    let batch = batch_steps(index, dest, offset_dims, vector);
+    let extents = axis_lists::extents_of(dest);
+    let strides = axis_lists::strides_of(dest);
+    let axes = check_axes(extents, strides, window, batch);
+    let starts = axis_lists::strides_of(index);
+    let stride = axis_lists::step_at(starts, vector);
+    let components = check_components(stride, map.len() as u64);
+    checks::or_else(axes, components)
+}
+
+// The first refusal of a gather in document 01's order, or Done; 4 is tried where `nested` says so.
+pub fn gather_refusal(
+    operand_extents: &[u64],
+    operand_strides: &[i64],
+    index_extents: &[u64],
+    index_strides: &[i64],
+    dest_extents: &[u64],
+    dest_strides: &[i64],
+    offset_dims: &[u64],
+    collapsed_slice_dims: &[u64],
+    start_index_map: &[u64],
+    index_vector_dim: u64,
+    slice_sizes: &[u64],
+    nested: bool,
+) -> Answer
+    ensures { λ r. ⌜ r ≡ refusalOf nested (gatherFrom (now («operand_extents» .entry)) (now («operand_strides» .entry)) (now («index_extents» .entry)) (now («index_strides» .entry)) (now («dest_extents» .entry)) (now («dest_strides» .entry)) (now («offset_dims» .entry)) (now («collapsed_slice_dims» .entry)) (now («start_index_map» .entry)) «index_vector_dim» (now («slice_sizes» .entry))) ⌝ }
+{
+    let lengths = check_layouts(
+        operand_extents.len(),
+        operand_strides.len(),
+        index_extents.len(),
+        index_strides.len(),
+        dest_extents.len(),
+        dest_strides.len(),
+    );
+    if !layout::is_done(lengths) {
+        return lengths;
+    }
+    let first = layout::make_layout(operand_extents, operand_strides);
+    let second = layout::make_layout(index_extents, index_strides);
+    let third = layout::make_layout(dest_extents, dest_strides);
+    let operand = first.layout;
+    let index = second.layout;
+    let dest = third.layout;
+    let a = check_numbers(operand, index, dest, nested);
+    let b = check_lists(
+        operand,
+        index,
+        collapsed_slice_dims,
+        start_index_map,
+        index_vector_dim,
+        slice_sizes,
+    );
+    let c = check_counts(
+        operand,
+        index,
+        offset_dims,
+        collapsed_slice_dims,
+        start_index_map,
+        index_vector_dim,
+    );
+    let d = check_shape(
+        operand,
+        index,
+        dest,
+        offset_dims,
+        collapsed_slice_dims,
+        index_vector_dim,
+        slice_sizes,
+    );
+    let e = check_resets(
+        operand,
+        index,
+        dest,
+        offset_dims,
+        collapsed_slice_dims,
+        start_index_map,
+        index_vector_dim,
+    );
+    checks::or_else(
+        a,
+        checks::or_else(b, checks::or_else(c, checks::or_else(d, e))),
+    )
 }

@@ -1,11 +1,8 @@
 use mathlib.Core.Path.{sym}
-use native.Mathlib.Omega.{arith}
 use lib.ListN.{List·getD-eq-default}
 use borrow.Author.Needs.{needs}
 use Rattle.axis_lists.proofs.entry_at.Statement.{statement}
 use Rattle.axis_lists.proofs.entry_at.Tie as tie
-use Rattle.axis_lists.proofs.entry_at.Reads as reads
-use Rattle.axis_lists.proofs.entry_at.Lts as lts
 
 -- src/lib.rt:349:9
 mul-result : tie.Need-mul-result

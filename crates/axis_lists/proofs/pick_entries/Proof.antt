@@ -1,25 +1,15 @@
-use mathlib.Core.Path.{_≡_, refl, sym, ap, ap₂, _∙_}
+use mathlib.Core.Path.{_≡_, refl, ap, _∙_}
 use mathlib.Core.List.{List}
-use Prim.Native.Nat.{ℕ, zero, suc, _+_, _-_, _<_, _≤_, zero-le, min}
+use Prim.Native.Nat.{ℕ, _-_, _≤_, zero-le}
 use native.Mathlib.Omega.{arith}
 use borrow.Author.Needs.{needs}
-use borrow.Author.Tests.{ltb-true, ltb-false}
-use lib.ListN.{length, take, drop, getD, set, replicate, length-take}
-use lib.IntN.{ℤ, pos}
-use mir.Syntax.{w64}
-use mir.Val.{SFits, toZ, ofZ}
-use Rattle.integer.specs.Z.{back}
-use Rattle.indexing.specs.Coordinates.{has, pick}
+use lib.ListN.{length, take}
+use Rattle.indexing.specs.Coordinates.{pick}
 use Rattle.layout.specs.Layouts.{rankLimit, padded}
-use Rattle.layout.proofs.Fill.{fill-full}
-use Rattle.axis_lists.specs.Held.{numbersOf, stepsOf, heldNumbers, heldSteps}
-use Rattle.axis_lists.proofs.Filling.{take-count, numbers-are, steps-are, written, none-written, one-written, all-written, entry-below, entry-past, picked, length-picked}
+use Rattle.axis_lists.specs.Held.{numbersOf}
+use Rattle.axis_lists.proofs.Filling.{take-count, numbers-are, written, one-written, all-written, picked, length-picked}
 use Rattle.axis_lists.proofs.pick_entries.Statement.{statement}
 use Rattle.axis_lists.proofs.pick_entries.Tie as tie
-use Rattle.axis_lists.proofs.pick_entries.Reads as reads
-use Rattle.axis_lists.proofs.pick_entries.Lts as lts
-use Rattle.axis_lists.proofs.entry_at.Reads as entry-at-reads
-use Rattle.layout.proofs.axis_count.Reads as axis-count-reads
 
 abbrev Inv-loop : tie.InvT-loop
 Inv-loop list entries n out₀ i₀ out i = (i ≤ n) × (out ≡ written 0 (pick 0 (take n entries) list) i)

@@ -1,30 +1,17 @@
-use mathlib.Core.Path.{_≡_, refl, sym, ap, ap₂, _∙_}
-use mathlib.Core.List.{List}
-use Prim.Native.Nat.{ℕ, _+_, _-_, _<_, _≤_, zero-le, min}
+use mathlib.Core.Path.{_≡_, ap, _∙_}
+use Prim.Native.Nat.{ℕ, _-_, _≤_, zero-le}
 use native.Mathlib.Omega.{arith}
 use borrow.Author.Needs.{needs}
 use borrow.Author.Tests.{not-true, not-false}
-use lib.ListN.{length, drop, getD}
-use lib.IntN.{ℤ, pos}
 use mir.Syntax.{w64}
-use mir.Val.{SFits, toZ, ofZ}
+use mir.Val.{SFits}
 use Rattle.integer.specs.Z.{back}
-use Rattle.layout.specs.declared.Answer.{Answer}
-use Rattle.layout.specs.Spans.{resetOf, offsetAdd}
 use Rattle.axis_lists.specs.Held.{numbersOf, stepsOf}
 use Rattle.checks.specs.Checks.{firstOf}
 use Rattle.checks.proofs.FirstOf.{first-stops, first-goes, first-ends, first-starts}
-use Rattle.gather.specs.Refusals.{collapsedOne, numberFits, axisResets, resetsAt, offsetFits}
-use Rattle.gather.proofs.Collapsed.{collapsed-no, collapsed-next, collapsed-end}
+use Rattle.gather.specs.Refusals.{resetsAt}
 use Rattle.gather.proofs.check_axes.Statement.{statement}
 use Rattle.gather.proofs.check_axes.Tie as tie
-use Rattle.gather.proofs.check_axes.Reads as reads
-use Rattle.gather.proofs.check_axes.Lts as lts
-use Rattle.axis_lists.proofs.number_at.Reads as number-at-reads
-use Rattle.axis_lists.proofs.step_at.Reads as step-at-reads
-use Rattle.gather.proofs.check_axis.Reads as check-axis-reads
-use Rattle.layout.proofs.axis_count.Reads as axis-count-reads
-use Rattle.layout.proofs.is_done.Reads as is-done-reads
 
 abbrev Inv-loop : tie.InvT-loop
 Inv-loop extents dest window batch n i₀ i = (i ≤ n) × (firstOf (resetsAt (numbersOf extents) (stepsOf dest) (stepsOf window) (stepsOf batch)) (n - i) i ≡ firstOf (resetsAt (numbersOf extents) (stepsOf dest) (stepsOf window) (stepsOf batch)) n 0)

@@ -1,27 +1,7 @@
-use mathlib.Core.Path.{_≡_, refl, sym, ap, ap₂, _∙_}
-use mathlib.Core.List.{List}
-use Prim.Native.Nat.{ℕ, _+_, _-_, _<_, _≤_, zero-le, min}
-use native.Mathlib.Omega.{arith}
-use borrow.Author.Tests.{not-true, not-false}
-use lib.ListN.{length, drop, getD}
-use lib.IntN.{ℤ, pos}
-use mir.Syntax.{w64}
-use mir.Val.{SFits, toZ, ofZ}
 use Rattle.integer.specs.Z.{back}
-use Rattle.layout.specs.declared.Answer.{Answer}
-use Rattle.layout.specs.Spans.{resetOf, offsetAdd}
-use Rattle.axis_lists.specs.Held.{numbersOf, stepsOf}
-use Rattle.checks.specs.Checks.{firstOf}
-use Rattle.checks.proofs.FirstOf.{first-stops, first-goes, first-ends, first-starts}
-use Rattle.gather.specs.Refusals.{collapsedOne, numberFits, axisResets, resetsAt, offsetFits}
-use Rattle.gather.proofs.Collapsed.{collapsed-no, collapsed-next, collapsed-end}
 use borrow.Author.Needs.{needs}
 use Rattle.gather.proofs.check_axis.Statement.{statement}
 use Rattle.gather.proofs.check_axis.Tie as tie
-use Rattle.gather.proofs.check_axis.Reads as reads
-use Rattle.gather.proofs.check_axis.Lts as lts
-use Rattle.checks.proofs.or_else.Reads as or-else-reads
-use Rattle.gather.proofs.check_reset.Reads as check-reset-reads
 
 -- src/lib.rt:89:9
 check-reset-requires : tie.Need-check-reset-requires

@@ -1,26 +1,12 @@
-use mathlib.Core.Path.{_≡_, refl, sym, ap, ap₂, _∙_}
-use mathlib.Core.List.{List}
-use Prim.Native.Nat.{ℕ, _+_, _-_, _<_, _≤_, zero-le, min}
+use mathlib.Core.Path.{_≡_, refl, sym, _∙_}
+use Prim.Native.Nat.{_-_, _≤_, zero-le}
 use native.Mathlib.Omega.{arith}
 use borrow.Author.Needs.{needs}
-use borrow.Author.Tests.{not-true, not-false}
-use lib.ListN.{length, drop, getD}
-use lib.IntN.{ℤ, pos}
-use mir.Syntax.{w64}
-use mir.Val.{SFits, toZ, ofZ}
-use Rattle.integer.specs.Z.{back}
-use Rattle.layout.specs.declared.Answer.{Answer}
-use Rattle.layout.specs.Spans.{resetOf, offsetAdd}
-use Rattle.axis_lists.specs.Held.{numbersOf, stepsOf}
-use Rattle.checks.specs.Checks.{firstOf}
-use Rattle.checks.proofs.FirstOf.{first-stops, first-goes, first-ends, first-starts}
-use Rattle.gather.specs.Refusals.{collapsedOne, numberFits, axisResets, resetsAt, offsetFits}
+use lib.ListN.{length, drop}
+use Rattle.gather.specs.Refusals.{collapsedOne}
 use Rattle.gather.proofs.Collapsed.{collapsed-no, collapsed-next, collapsed-end}
 use Rattle.gather.proofs.check_collapsed.Statement.{statement}
 use Rattle.gather.proofs.check_collapsed.Tie as tie
-use Rattle.gather.proofs.check_collapsed.Reads as reads
-use Rattle.gather.proofs.check_collapsed.Lts as lts
-use Rattle.axis_lists.proofs.entry_at.Reads as entry-at-reads
 
 abbrev Inv-loop : tie.InvT-loop
 Inv-loop rank sizes collapsed i₀ i = (i ≤ length collapsed) × (collapsedOne rank sizes (drop i collapsed) ≡ collapsedOne rank sizes collapsed)

@@ -1,27 +1,17 @@
-use mathlib.Core.Path.{_≡_, refl, sym, ap, ap₂, _∙_}
-use mathlib.Core.List.{List}
-use Prim.Native.Nat.{ℕ, _+_, _-_, _<_, _≤_, zero-le, min}
+use mathlib.Core.Path.{_≡_, ap, _∙_}
+use Prim.Native.Nat.{_-_, _≤_, zero-le}
 use native.Mathlib.Omega.{arith}
 use borrow.Author.Needs.{needs}
 use borrow.Author.Tests.{not-true, not-false}
-use lib.ListN.{length, drop, getD}
-use lib.IntN.{ℤ, pos}
+use lib.IntN.{ℤ}
 use mir.Syntax.{w64}
-use mir.Val.{SFits, toZ, ofZ}
+use mir.Val.{toZ, ofZ}
 use Rattle.integer.specs.Z.{back}
-use Rattle.layout.specs.declared.Answer.{Answer}
-use Rattle.layout.specs.Spans.{resetOf, offsetAdd}
-use Rattle.axis_lists.specs.Held.{numbersOf, stepsOf}
 use Rattle.checks.specs.Checks.{firstOf}
 use Rattle.checks.proofs.FirstOf.{first-stops, first-goes, first-ends, first-starts}
-use Rattle.gather.specs.Refusals.{collapsedOne, numberFits, axisResets, resetsAt, offsetFits}
-use Rattle.gather.proofs.Collapsed.{collapsed-no, collapsed-next, collapsed-end}
+use Rattle.gather.specs.Refusals.{offsetFits}
 use Rattle.gather.proofs.check_components.Statement.{statement}
 use Rattle.gather.proofs.check_components.Tie as tie
-use Rattle.gather.proofs.check_components.Reads as reads
-use Rattle.gather.proofs.check_components.Lts as lts
-use Rattle.gather.proofs.check_offset.Reads as check-offset-reads
-use Rattle.layout.proofs.is_done.Reads as is-done-reads
 
 abbrev Inv-loop : tie.InvT-loop
 Inv-loop stride count i₀ i = (i ≤ count) × (firstOf (offsetFits (toZ w64 stride)) (count - i) i ≡ firstOf (offsetFits (toZ w64 stride)) count 0)

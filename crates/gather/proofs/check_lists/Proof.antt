@@ -1,41 +1,9 @@
-use mathlib.Core.Path.{_≡_, refl, sym, ap, ap₂, _∙_}
-use mathlib.Core.List.{List}
-use Prim.Native.Nat.{ℕ, _+_, _-_, _<_, _≤_, zero-le, min}
-use native.Mathlib.Omega.{arith}
-use borrow.Author.Tests.{not-true, not-false}
-use lib.ListN.{length, drop, getD}
-use lib.IntN.{ℤ, pos}
-use mir.Syntax.{w64}
-use mir.Val.{SFits, toZ, ofZ}
-use Rattle.integer.specs.Z.{back}
-use Rattle.layout.specs.declared.Answer.{Answer}
-use Rattle.layout.specs.Spans.{resetOf, offsetAdd}
-use Rattle.axis_lists.specs.Held.{numbersOf, stepsOf}
-use Rattle.checks.specs.Checks.{firstOf}
-use Rattle.checks.proofs.FirstOf.{first-stops, first-goes, first-ends, first-starts}
-use Rattle.gather.specs.Refusals.{collapsedOne, numberFits, axisResets, resetsAt, offsetFits}
-use Rattle.gather.proofs.Collapsed.{collapsed-no, collapsed-next, collapsed-end}
-use lib.ListN.{length-take}
-use Rattle.indexing.specs.Coordinates.{others}
-use Rattle.indexing.specs.Start.{without}
-use Rattle.layout.specs.Layouts.{extentsOf, stridesOf}
-use Rattle.axis_lists.specs.Held.{heldNumbers}
-use Rattle.axis_lists.specs.declared.Numbers.{Numbers}
-use Rattle.axis_lists.proofs.Filling.{length-without}
-use Rattle.gather.proofs.Read.{extents-length, extents-read, strides-length, strides-read}
+use mathlib.Core.Path.{_≡_}
+use lib.ListN.{length}
+use Rattle.gather.proofs.Read.{extents-length, extents-read}
 use borrow.Author.Needs.{needs}
 use Rattle.gather.proofs.check_lists.Statement.{statement}
 use Rattle.gather.proofs.check_lists.Tie as tie
-use Rattle.gather.proofs.check_lists.Reads as reads
-use Rattle.gather.proofs.check_lists.Lts as lts
-use Rattle.axis_lists.proofs.extents_of.Reads as extents-of-reads
-use Rattle.checks.proofs.check_same_count.Reads as check-same-count-reads
-use Rattle.checks.proofs.check_vector_axis.Reads as check-vector-axis-reads
-use Rattle.checks.proofs.check_windows.Reads as check-windows-reads
-use Rattle.checks.proofs.or_else.Reads as or-else-reads
-use Rattle.gather.proofs.check_collapsed.Reads as check-collapsed-reads
-use Rattle.layout.proofs.axis_count.Reads as axis-count-reads
-use Rattle.layout.proofs.validate_unique_axes.Reads as validate-unique-axes-reads
 
 -- src/lib.rt:153:16
 axis-count-requires : tie.Need-axis-count-requires

@@ -1,26 +1,10 @@
-use mathlib.Core.Path.{_≡_, refl, sym, ap, ap₂, _∙_}
-use mathlib.Core.List.{List}
-use Prim.Native.Nat.{ℕ, _+_, _-_, _<_, _≤_, zero-le, min}
-use native.Mathlib.Omega.{arith}
-use borrow.Author.Tests.{not-true, not-false}
-use lib.ListN.{length, drop, getD}
-use lib.IntN.{ℤ, pos}
-use mir.Syntax.{w64}
-use mir.Val.{SFits, toZ, ofZ}
+use mathlib.Core.Path.{sym, ap, _∙_}
 use Rattle.integer.specs.Z.{back}
-use Rattle.layout.specs.declared.Answer.{Answer}
-use Rattle.layout.specs.Spans.{resetOf, offsetAdd}
-use Rattle.axis_lists.specs.Held.{numbersOf, stepsOf}
-use Rattle.checks.specs.Checks.{firstOf}
-use Rattle.checks.proofs.FirstOf.{first-stops, first-goes, first-ends, first-starts}
-use Rattle.gather.specs.Refusals.{collapsedOne, numberFits, axisResets, resetsAt, offsetFits}
-use Rattle.gather.proofs.Collapsed.{collapsed-no, collapsed-next, collapsed-end}
+use Rattle.layout.specs.Spans.{resetOf}
+use Rattle.gather.specs.Refusals.{numberFits}
 use borrow.Author.Needs.{needs}
 use Rattle.gather.proofs.check_reset.Statement.{statement}
 use Rattle.gather.proofs.check_reset.Tie as tie
-use Rattle.gather.proofs.check_reset.Reads as reads
-use Rattle.gather.proofs.check_reset.Lts as lts
-use Rattle.layout.proofs.checked_replay_reset.Reads as checked-replay-reset-reads
 
 -- src/lib.rt:69:9
 checked-replay-reset-requires : tie.Need-checked-replay-reset-requires

@@ -1,44 +1,18 @@
-use mathlib.Core.Bool.{Bool, true, false, cond}
-use lib.Dec.{ltb}
-use mathlib.Core.Path.{_≡_, refl, sym, ap, ap₂, _∙_}
+use mathlib.Core.Path.{_≡_, ap, _∙_}
 use mathlib.Core.List.{List}
-use Prim.Native.Nat.{ℕ, _+_, _-_, _<_, _≤_, zero-le, min}
+use Prim.Native.Nat.{ℕ, _+_}
 use native.Mathlib.Omega.{arith}
-use borrow.Author.Tests.{not-true, not-false}
-use lib.ListN.{length, drop, getD}
-use lib.IntN.{ℤ, pos}
-use mir.Syntax.{w64}
-use mir.Val.{SFits, toZ, ofZ}
-use Rattle.integer.specs.Z.{back}
-use Rattle.layout.specs.declared.Answer.{Answer}
-use Rattle.layout.specs.Spans.{resetOf, offsetAdd}
-use Rattle.axis_lists.specs.Held.{numbersOf, stepsOf}
-use Rattle.checks.specs.Checks.{firstOf}
-use Rattle.checks.proofs.FirstOf.{first-stops, first-goes, first-ends, first-starts}
-use Rattle.gather.specs.Refusals.{collapsedOne, numberFits, axisResets, resetsAt, offsetFits}
-use Rattle.gather.proofs.Collapsed.{collapsed-no, collapsed-next, collapsed-end}
-use lib.ListN.{length-take}
-use Rattle.indexing.specs.Coordinates.{others}
+use lib.ListN.{length}
+use Rattle.axis_lists.specs.Held.{numbersOf}
 use Rattle.indexing.specs.Start.{without}
-use Rattle.layout.specs.Layouts.{extentsOf, stridesOf}
+use Rattle.layout.specs.Layouts.{extentsOf}
 use Rattle.axis_lists.specs.Held.{heldNumbers}
 use Rattle.axis_lists.specs.declared.Numbers.{Numbers}
-use Rattle.axis_lists.proofs.Filling.{length-without}
-use Rattle.gather.proofs.Read.{extents-length, extents-read, strides-length, strides-read}
+use Rattle.gather.proofs.Shape.{without-most}
+use Rattle.gather.proofs.Read.{extents-length, extents-read}
 use borrow.Author.Needs.{needs}
 use Rattle.gather.proofs.out_rank.Statement.{statement}
 use Rattle.gather.proofs.out_rank.Tie as tie
-use Rattle.gather.proofs.out_rank.Reads as reads
-use Rattle.gather.proofs.out_rank.Lts as lts
-use Rattle.axis_lists.proofs.extents_of.Reads as extents-of-reads
-use Rattle.axis_lists.proofs.without_number.Reads as without-number-reads
-
-without-most : (axis : ℕ) (l : List ℕ) → length (without axis l) ≤ length l
-without-most axis l = go (ltb axis (length l)) (length-without axis l)
-  where
-    go : (t : Bool) → length (without axis l) ≡ cond t (length l - 1) (length l) → length (without axis l) ≤ length l
-    go true e = omega arith
-    go false e = omega arith
 
 -- the batch axes
 counted : (c : tie.After-without-number) → c .without-number .result .count ≡ length (without (c .before .before .before .args .vector) (extentsOf (c .before .before .before .args .index)))

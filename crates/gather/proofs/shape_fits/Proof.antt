@@ -1,63 +1,31 @@
-use mathlib.Core.Path.{_≡_, refl, sym, ap, ap₂, _∙_}
+use mathlib.Core.Path.{_≡_, sym, ap, ap₂, _∙_}
 use mathlib.Core.List.{List}
-use Prim.Native.Nat.{ℕ, _+_, _-_, _<_, _≤_, zero-le, min}
+use Prim.Native.Nat.{ℕ}
 use native.Mathlib.Omega.{arith}
-use borrow.Author.Tests.{not-true, not-false}
-use lib.ListN.{length, drop, getD}
-use lib.IntN.{ℤ, pos}
-use mir.Syntax.{w64}
-use mir.Val.{SFits, toZ, ofZ}
-use Rattle.integer.specs.Z.{back}
-use Rattle.layout.specs.declared.Answer.{Answer}
-use Rattle.layout.specs.Spans.{resetOf, offsetAdd}
-use Rattle.axis_lists.specs.Held.{numbersOf, stepsOf}
-use Rattle.checks.specs.Checks.{firstOf}
-use Rattle.checks.proofs.FirstOf.{first-stops, first-goes, first-ends, first-starts}
-use Rattle.gather.specs.Refusals.{collapsedOne, numberFits, axisResets, resetsAt, offsetFits}
-use Rattle.gather.proofs.Collapsed.{collapsed-no, collapsed-next, collapsed-end}
-use lib.ListN.{length-take}
+use lib.ListN.{length}
+use Rattle.axis_lists.specs.Held.{numbersOf}
 use Rattle.indexing.specs.Coordinates.{others}
 use Rattle.indexing.specs.Start.{without}
-use Rattle.layout.specs.Layouts.{extentsOf, stridesOf}
+use Rattle.layout.specs.Layouts.{extentsOf}
 use Rattle.axis_lists.specs.Held.{heldNumbers}
 use Rattle.axis_lists.specs.declared.Numbers.{Numbers}
-use Rattle.axis_lists.proofs.Filling.{length-without}
-use Rattle.gather.proofs.Read.{extents-length, extents-read, strides-length, strides-read}
-use mathlib.Core.Bool.{Bool, true, false, cond, _&&_}
-use lib.Dec.{eqb, ltb}
-use Rattle.indexing.specs.Coordinates.{pick}
+use Rattle.gather.proofs.Read.{extents-length}
+use mathlib.Core.Bool.{_&&_}
+use lib.Dec.{eqb}
 use Rattle.axis_lists.specs.Held.{sameList}
-use Rattle.axis_lists.proofs.Filling.{length-others, decides-same, length-without}
-use Rattle.gather.specs.Refusals.{shapeFits, shapeRefusal}
-use Rattle.gather.proofs.Shape.{held-read, pick-read, entries-read, shape-long}
+use Rattle.axis_lists.proofs.Filling.{length-others, decides-same}
+use Rattle.gather.specs.Refusals.{shapeFits}
+use Rattle.gather.proofs.Shape.{without-most, held-read, pick-read, entries-read, shape-long}
 use borrow.Author.Needs.{needs}
 use Rattle.gather.proofs.shape_fits.Statement.{statement}
 use Rattle.gather.proofs.shape_fits.Tie as tie
-use Rattle.gather.proofs.shape_fits.Reads as reads
-use Rattle.gather.proofs.shape_fits.Lts as lts
-use Rattle.axis_lists.proofs.extents_of.Reads as extents-of-reads
-use Rattle.axis_lists.proofs.numbers_from.Reads as numbers-from-reads
-use Rattle.axis_lists.proofs.other_axes.Reads as other-axes-reads
-use Rattle.axis_lists.proofs.pick_entries.Reads as pick-entries-reads
-use Rattle.axis_lists.proofs.pick_numbers.Reads as pick-numbers-reads
-use Rattle.axis_lists.proofs.same_numbers.Reads as same-numbers-reads
-use Rattle.axis_lists.proofs.without_number.Reads as without-number-reads
-use Rattle.gather.proofs.both.Reads as both-reads
-use Rattle.gather.proofs.out_rank.Reads as out-rank-reads
 
 eights : (s : tie.Start) → (length (s .args .operand .extents) ≡ 8) × (length (s .args .index .extents) ≡ 8) × (length (s .args .dest .extents) ≡ 8)
 eights s = (search needs, search needs, search needs)
 
-without-most : (axis : ℕ) (l : List ℕ) → length (without axis l) ≤ length l
-without-most axis l = go (ltb axis (length l)) (length-without axis l)
-  where
-    go : (t : Bool) → length (without axis l) ≡ cond t (length l - 1) (length l) → length (without axis l) ≤ length l
-    go true e = omega arith
-    go false e = omega arith
-
 -- src/lib.rt:205:9
 returns : tie.Need-returns
-returns c = 
+returns c =
     let s = c .before .before .before .before in
     let e : length (s .args .operand .extents) ≡ 8 = search needs in
     shape-long (extentsOf (s .args .operand)) (extentsOf (s .args .index)) (extentsOf (s .args .dest)) (s .args .offset-dims .now) (s .args .collapsed .now) (s .args .vector) (s .args .sizes .now) (omega (arith, extents-length (s .args .operand) e)) (c .if1 .taken)
@@ -121,7 +89,7 @@ both-requires-2 c κs = search needs
 -- src/lib.rt:193:1
 returns-2 : tie.Need-returns-2
 unfolding shapeFits
-returns-2 c = 
+returns-2 c =
     let s = c .before .before .before .before .before .before .before .before .before .before .before .before .before .before .before .before .before .before in
     let short = c .before .before .before .before .before .before .before .before .before .before .before .before .before .before .if1 .left in
     let eo = eights s .0 in

@@ -1,0 +1,51 @@
+-- A layout that neither 1 nor 2 refuses is read as it was given. Assumes nothing.
+use mathlib.Core.Path.{_≡_, refl, sym, ap, _∙_}
+use mathlib.Core.Bool.{Bool, true, false, cond}
+use mathlib.Core.List.{List}
+use Prim.Native.Nat.{ℕ, _≤_}
+use native.Mathlib.Omega.{arith}
+use borrow.Author.Tests.{eqb-true, leb-true}
+use lib.Dec.{eqb, leb}
+use lib.ListN.{length, take}
+use lib.IntN.{ℤ, pos}
+use Rattle.layout.specs.declared.Answer.{Answer}
+use Rattle.layout.specs.declared.Answer.the-variants as A
+use Rattle.layout.specs.declared.MadeLayout.{MadeLayout}
+use Rattle.layout.specs.Answers.{isDone, orElse}
+use Rattle.layout.specs.Layouts.{rankLimit, padded, extentsOf, stridesOf, layoutOf, strideLength, rankAtMost, layoutFrom}
+use Rattle.axis_lists.proofs.Filling.{read-back}
+
+pub or-done : (x y : Answer) → isDone (orElse x y) ≡ true → (isDone x ≡ true) × (isDone y ≡ true)
+or-done x y e = go (isDone x) refl e
+  where
+    go : (t : Bool) → isDone x ≡ t → isDone (cond t y x) ≡ true → (isDone x ≡ true) × (isDone y ≡ true)
+    go true f h = (f, h)
+    go false f h = let z : _≡_ {A = ℕ} 0 1 = cc in absurd (omega arith)
+
+same-length : (n m : ℕ) → isDone (strideLength n m) ≡ true → m ≡ n
+same-length n m e = go (eqb m n) refl e
+  where
+    go : (t : Bool) → eqb m n ≡ t → isDone (cond t A.Done A.StrideLengthMismatch) ≡ true → m ≡ n
+    go true f h = eqb-true m n f
+    go false f h = let z : _≡_ {A = ℕ} 0 1 = cc in absurd (omega arith)
+
+few-axes : (n : ℕ) → isDone (rankAtMost n) ≡ true → n ≤ rankLimit
+few-axes n e = go (leb n rankLimit) refl e
+  where
+    go : (t : Bool) → leb n rankLimit ≡ t → isDone (cond t A.Done (A.RankTooLarge n rankLimit)) ≡ true → n ≤ rankLimit
+    go true f h = leb-true n rankLimit f
+    go false f h = let z : _≡_ {A = ℕ} 0 1 = cc in absurd (omega arith)
+
+module _ (es : List ℕ) (ss : List ℤ) (m : MadeLayout) (e : m ≡ layoutFrom es ss) (p : isDone (strideLength (length es) (length ss)) ≡ true) (q : isDone (rankAtMost (length es)) ≡ true) where
+  made : m .layout ≡ layoutOf es ss
+  unfolding layoutFrom
+  made = ap (λ (r : MadeLayout). r .layout) e ∙ rw (p, q)
+
+  pub made-extents : extentsOf (m .layout) ≡ es
+  made-extents = ap extentsOf made ∙ read-back 1 es (few-axes (length es) q)
+
+  pub made-strides : stridesOf (m .layout) ≡ ss
+  made-strides =
+      let l : length ss ≡ length es = same-length (length es) (length ss) p in
+      let f : length es ≤ rankLimit = few-axes (length es) q in
+      ap stridesOf made ∙ ap (λ (n : ℕ). take n (padded rankLimit (pos 0) ss)) (sym l) ∙ read-back (pos 0) ss (omega arith)
