@@ -7,10 +7,11 @@ use native.Mathlib.Omega.{arith}
 use borrow.Author.Tests.{le-leb}
 use lib.ListN.{length}
 use lib.IntN.{ℤ, pos, negsuc, _+ℤ_, _*ℤ_}
-use lib.Signed.{leZ, ltZ, _≤ℤ_}
-use Rattle.integer.specs.Z.{up, zfacts, ≤-from}
+use lib.Signed.{leZ, ltZ, _≤ℤ_, _<ℤ_}
+use Rattle.integer.specs.Z.{up, zfacts, ≤-from, <-from}
 use Rattle.integer.specs.Laws.{≤ℤ-trans, +ℤ-mono, +ℤ-mono-r}
-use Rattle.indexing.specs.Coordinates.{dot, Within}
+use Rattle.indexing.specs.Coordinates.{View, dot, Within}
+use Rattle.indexing.specs.Valid.{Covered}
 use Rattle.indexing.specs.Reach.{belowZero, aboveZero, lowest, highest, dot-low, dot-high}
 use Rattle.layout.specs.declared.Reach.the-variants as R
 use Rattle.layout.specs.Nested.{hasZero}
@@ -90,3 +91,11 @@ module _ (ds : List ℕ) (ss : List ℤ) (offset : ℤ) (len low high : ℕ) whe
     subst (λ (z : ℤ). z ≤ℤ (offset +ℤ dot ss cs)) (sym (i .low-is)) (+ℤ-mono-r offset (dot-low ss ds cs (omega arith) w)),
     subst (λ (z : ℤ). (offset +ℤ dot ss cs) ≤ℤ z) (sym (i .high-is)) (+ℤ-mono-r offset (dot-high ss ds cs (omega arith) w)),
   )
+
+  -- and so the slice covers the view
+  pub reach-covers : Inside ds ss offset len low high → Covered (record { extents = ds; strides = ss; offset = offset }) len
+  reach-covers i =
+      record {
+        low = subst (λ (z : ℤ). pos 0 ≤ℤ z) (i .low-is) (≤-from (pos 0) (pos low) (omega arith));
+        high = subst (λ (z : ℤ). z <ℤ pos len) (i .high-is) (<-from (pos high) (pos len) (omega (arith, i .fits)));
+      }
