@@ -1,3 +1,6 @@
+use mathlib.Core.Path.{_≡_, refl, sym, ap, ap₂, subst, _∙_}
+use Rattle.integer.specs.Z.{back}
+use Rattle.replay.specs.Replays.{axisOf, asApart}
 use borrow.Author.Needs.{needs}
 use Rattle.replay.proofs.apart.Statement.{statement}
 use Rattle.replay.proofs.apart.Tie as tie
@@ -6,17 +9,16 @@ use Rattle.replay.proofs.apart.Lts as lts
 use Rattle.replay.proofs.as_apart.Reads as as-apart-reads
 use Rattle.replay.proofs.make_axis.Reads as make-axis-reads
 
--- src/lib.rt:139:9
 make-axis-requires : tie.Need-make-axis-requires
 make-axis-requires c κs = search needs
 
--- src/lib.rt:140:5
 as-apart-requires : tie.Need-as-apart-requires
 as-apart-requires c κs = search needs
 
--- src/lib.rt:136:1
 returns : tie.Need-returns
-returns c = ?
+returns c =
+    let s = c .before .before in
+    c .as-apart .ensures ∙ ap asApart (c .before .make-axis .ensures ∙ ap₂ (axisOf (s .args .extent)) (back (s .fits .source)) (back (s .fits .dest)))
 
 pub apart-spec : {M : Type 1} → statement M
 apart-spec = tie.close (tie.spec make-axis-requires as-apart-requires returns)

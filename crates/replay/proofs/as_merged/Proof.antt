@@ -1,22 +1,19 @@
+use mathlib.Core.Path.{_≡_, refl, sym, ap, ap₂, subst, _∙_}
 use borrow.Author.Needs.{needs}
 use Rattle.replay.proofs.as_merged.Statement.{statement}
 use Rattle.replay.proofs.as_merged.Tie as tie
 use Rattle.replay.proofs.as_merged.Reads as reads
 use Rattle.replay.proofs.as_merged.Lts as lts
 
--- src/lib.rt:100:27
 enum-known-a : tie.Need-enum-known-a
 enum-known-a c = search needs
 
--- src/lib.rt:101:34
 enum-told : tie.Need-enum-told
 enum-told c = search needs
 
--- src/lib.rt:96:1
 returns : tie.Need-returns
-returns c = ?
+returns c = rw (c .before .a .given .1)
 
--- src/lib.rt:96:1
 returns-2 : tie.Need-returns-2
 returns-2 c = search needs
 

@@ -1,3 +1,16 @@
+use mathlib.Core.Path.{_≡_, refl, sym, ap, ap₂, subst, _∙_}
+use Prim.Native.Nat.{_-_, _<_, _≤_, min}
+use native.Mathlib.Omega.{arith}
+use lib.ListN.{length, getD, replicate}
+use lib.IntN.{pos}
+use mir.Syntax.{w64}
+use mir.Val.{SFits}
+use borrow.Author.Needs.{needs}
+use Rattle.integer.specs.Z.{back}
+use Rattle.layout.specs.Layouts.{rankLimit}
+use Rattle.replay.specs.declared.WindowReplayAxis.{WindowReplayAxis}
+use Rattle.replay.specs.Replays.{Merged, joinOf, compiledBy}
+use Rattle.replay.proofs.Turns.{Fusing, fusing-first, fusing-over, fusing-merged, fusing-apart, fusing-done}
 use Rattle.replay.proofs.fuse_rest.Statement.{statement}
 use Rattle.replay.proofs.fuse_rest.Tie as tie
 use Rattle.replay.proofs.fuse_rest.Reads as reads
@@ -8,118 +21,136 @@ use Rattle.replay.proofs.no_axis.Reads as no-axis-reads
 use Rattle.replay.proofs.refused_replay.Reads as refused-replay-reads
 
 abbrev Inv-loop : tie.InvT-loop
-Inv-loop rank spans shape source-strides dest-strides count axes₀ last₀ n₀ i₀ axes last n i = ?
+Inv-loop rank spans shape source-strides dest-strides count axes₀ last₀ n₀ i₀ axes last n i = Fusing shape source-strides dest-strides rank last₀ axes last n i
 
 abbrev μ-loop : tie.MeasureT-loop
-μ-loop rank spans shape source-strides dest-strides count axes₀ last₀ n₀ i₀ axes last n i = ?
+μ-loop rank spans shape source-strides dest-strides count axes₀ last₀ n₀ i₀ axes last n i = count - i
 
--- src/lib.rt:200:9
+abbrev start : (l : tie.At-loop Inv-loop μ-loop) → tie.Start Inv-loop μ-loop
+start l = l .before .before .before
+
+-- how many axes count
+counted : (l : tie.At-loop Inv-loop μ-loop) → l .before .before .axis-count .result ≡ min (start l .args .rank) rankLimit
+counted l = l .before .before .axis-count .ensures
+
+full : (s : tie.Start Inv-loop μ-loop) → (length (s .args .t2) ≡ rankLimit) × (length (s .args .t3) ≡ rankLimit) × (length (s .args .t4) ≡ rankLimit)
+full s =
+    let a : length (s .args .t2) ≡ rankLimit = search needs in
+    let b : length (s .args .t3) ≡ rankLimit = search needs in
+    let d : length (s .args .t4) ≡ rankLimit = search needs in
+    (a, b, d)
+
+-- what the call of `join` returned, of the numbers themselves
+joined : (j : tie.After-join Inv-loop μ-loop) → j .join .result ≡ joinOf (j .before .before .before .before .loop .last) (getD (start (j .before .before .before .before) .args .t2) (j .before .before .before .before .loop .i) 0) (getD (start (j .before .before .before .before) .args .t3) (j .before .before .before .before .loop .i) (pos 0)) (getD (start (j .before .before .before .before) .args .t4) (j .before .before .before .before .loop .i) (pos 0))
+joined j =
+    let l = j .before .before .before .before in
+    let s = start l in
+    let i = l .loop .i in
+    let f : SFits w64 (getD (s .args .t3) i (pos 0)) = search needs in
+    let g : SFits w64 (getD (s .args .t4) i (pos 0)) = search needs in
+    j .join .ensures ∙ ap₂ (joinOf (l .loop .last) (getD (s .args .t2) i 0)) (back f) (back g)
+
+here : (j : tie.After-join Inv-loop μ-loop) → j .before .before .before .before .loop .i < min (start (j .before .before .before .before) .args .rank) rankLimit
+here j = omega (arith, counted (j .before .before .before .before), j .before .before .before .loop-test .taken)
+
 axis-count-requires : tie.Need-axis-count-requires Inv-loop μ-loop
-axis-count-requires c κs = ?
+axis-count-requires c κs = search needs
 
--- src/lib.rt:201:9
 no-axis-requires : tie.Need-no-axis-requires Inv-loop μ-loop
-no-axis-requires c κs = ?
+no-axis-requires c κs = search needs
 
--- src/lib.rt:206:5
 loop-holds : tie.Need-loop-holds Inv-loop μ-loop
-loop-holds c = ?
+loop-holds c =
+    let s = c .before .before in
+    subst (λ (z : WindowReplayAxis). Fusing (s .args .t2) (s .args .t3) (s .args .t4) (s .args .rank) (s .args .first) (replicate rankLimit z) (s .args .first) 0 1) (sym (c .no-axis .ensures))
+    (fusing-first (s .args .t2) (s .args .t3) (s .args .t4) (s .args .rank) (s .args .first))
 
--- src/lib.rt:207:33
 mul-join : tie.Need-mul-join Inv-loop μ-loop
-mul-join c = ?
+mul-join c = search needs
 
--- src/lib.rt:207:33
 array-read-join : tie.Need-array-read-join Inv-loop μ-loop
-array-read-join c = ?
+array-read-join c = search needs
 
--- src/lib.rt:207:43
 mul-join-2 : tie.Need-mul-join-2 Inv-loop μ-loop
-mul-join-2 c = ?
+mul-join-2 c = search needs
 
--- src/lib.rt:207:43
 array-copy-out-join : tie.Need-array-copy-out-join Inv-loop μ-loop
-array-copy-out-join c = ?
+array-copy-out-join c = search needs
 
--- src/lib.rt:207:62
 mul-join-3 : tie.Need-mul-join-3 Inv-loop μ-loop
-mul-join-3 c = ?
+mul-join-3 c = search needs
 
--- src/lib.rt:207:62
 array-copy-out-join-2 : tie.Need-array-copy-out-join-2 Inv-loop μ-loop
-array-copy-out-join-2 c = ?
+array-copy-out-join-2 c = search needs
 
--- src/lib.rt:207:13
 join-requires : tie.Need-join-requires Inv-loop μ-loop
-join-requires c κs = ?
+join-requires c κs = search needs
 
--- src/lib.rt:208:9
 add-i : tie.Need-add-i Inv-loop μ-loop
-add-i c = ?
+add-i c = search needs
 
--- src/lib.rt:210:32
 enum-known-joined : tie.Need-enum-known-joined Inv-loop μ-loop
-enum-known-joined c = ?
+enum-known-joined c = search needs
 
--- src/lib.rt:206:5
 loop-less : tie.Need-loop-less Inv-loop μ-loop
-loop-less c = ?
+loop-less c = search needs
 
--- src/lib.rt:206:5
 loop-again : tie.Need-loop-again Inv-loop μ-loop
-loop-again c = ?
+loop-again c =
+    let j = c .before .before .before in
+    let l = j .before .before .before .before in
+    let s = start l in
+    fusing-merged (s .args .t2) (s .args .t3) (s .args .t4) (s .args .rank) (full s .0) (full s .1) (full s .2) (s .args .first) (l .loop .axes) (l .loop .last) (l .loop .n) (l .loop .i) (l .loop .inv) (here j) (j .join .result) (joined j) (c .before .joined .given .0 .0) (c .before .joined .given .1)
 
--- src/lib.rt:214:31
 enum-known-joined-2 : tie.Need-enum-known-joined-2 Inv-loop μ-loop
-enum-known-joined-2 c = ?
+enum-known-joined-2 c = search needs
 
--- src/lib.rt:215:17
 mul-axes : tie.Need-mul-axes Inv-loop μ-loop
-mul-axes c = ?
+mul-axes c = search needs
 
--- src/lib.rt:215:17
 array-set-from-axes : tie.Need-array-set-from-axes Inv-loop μ-loop
-array-set-from-axes c = ?
+array-set-from-axes c = search needs
 
--- src/lib.rt:216:17
 add-n : tie.Need-add-n Inv-loop μ-loop
-add-n c = ?
+add-n c = search needs
 
--- src/lib.rt:206:5
 loop-less-2 : tie.Need-loop-less-2 Inv-loop μ-loop
-loop-less-2 c = ?
+loop-less-2 c = search needs
 
--- src/lib.rt:206:5
 loop-again-2 : tie.Need-loop-again-2 Inv-loop μ-loop
-loop-again-2 c = ?
+loop-again-2 c =
+    let j = c .before .before .before in
+    let l = j .before .before .before .before in
+    let s = start l in
+    fusing-apart (s .args .t2) (s .args .t3) (s .args .t4) (s .args .rank) (full s .0) (full s .1) (full s .2) (s .args .first) (l .loop .axes) (l .loop .last) (l .loop .n) (l .loop .i) (l .loop .inv) (here j) (j .join .result) (joined j) (c .before .joined2 .given .0 .0) (c .before .joined2 .given .1)
 
--- src/lib.rt:221:17
 enum-told : tie.Need-enum-told Inv-loop μ-loop
-enum-told c = ?
+enum-told c = search needs
 
--- src/lib.rt:221:17
 refused-replay-requires : tie.Need-refused-replay-requires Inv-loop μ-loop
-refused-replay-requires c κs = ?
+refused-replay-requires c κs = search needs
 
--- src/lib.rt:221:17
 returns : tie.Need-returns Inv-loop μ-loop
-returns c = ?
+returns c =
+    let j = c .before .before .before in
+    let l = j .before .before .before .before in
+    let s = start l in
+    c .refused-replay .ensures ∙ ap (λ (m : Merged). compiledBy m (s .args .spans)) (fusing-over (s .args .t2) (s .args .t3) (s .args .t4) (s .args .rank) (full s .0) (full s .1) (full s .2) (s .args .first) (l .loop .axes) (l .loop .last) (l .loop .n) (l .loop .i) (l .loop .inv) (here j) (j .join .result) (joined j) (c .before .enum-told .given .1))
 
--- src/lib.rt:225:5
 mul-axes-2 : tie.Need-mul-axes-2 Inv-loop μ-loop
-mul-axes-2 c = ?
+mul-axes-2 c = search needs
 
--- src/lib.rt:225:5
 array-set-from-axes-2 : tie.Need-array-set-from-axes-2 Inv-loop μ-loop
-array-set-from-axes-2 c = ?
+array-set-from-axes-2 c = search needs
 
--- src/lib.rt:229:19
 add-t35 : tie.Need-add-t35 Inv-loop μ-loop
-add-t35 c = ?
+add-t35 c = search needs
 
--- src/lib.rt:190:1
 returns-2 : tie.Need-returns-2 Inv-loop μ-loop
-returns-2 c = ?
+returns-2 c =
+    let l = c .before in
+    let s = start l in
+    fusing-done (s .args .t2) (s .args .t3) (s .args .t4) (s .args .rank) (full s .0) (full s .1) (full s .2) (s .args .first) (l .loop .axes) (l .loop .last) (l .loop .n) (l .loop .i) (l .loop .inv) (s .args .spans) (omega (arith, counted l, c .loop-test .left))
 
 pub fuse-rest-spec : {M : Type 1} → statement M
 fuse-rest-spec =

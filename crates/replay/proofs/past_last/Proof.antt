@@ -1,3 +1,11 @@
+use mathlib.Core.Path.{_≡_, refl, sym, ap, ap₂, subst, _∙_}
+use lib.IntN.{ℤ, pos, _*ℤ_}
+use Rattle.integer.specs.Z.{back}
+use Rattle.integer.specs.Defs.{checked, checkedU}
+use Rattle.integer.specs.declared.Checked.{Checked}
+use Rattle.integer.specs.declared.Checked.the-variants as C
+use Rattle.layout.specs.Spans.{andThen}
+use Rattle.replay.specs.Replays.{past}
 use borrow.Author.Needs.{needs}
 use Rattle.replay.proofs.past_last.Statement.{statement}
 use Rattle.replay.proofs.past_last.Tie as tie
@@ -6,17 +14,17 @@ use Rattle.replay.proofs.past_last.Lts as lts
 use Rattle.integer.proofs.u64_to_i64.Reads as u64-to-i64-reads
 use Rattle.layout.proofs.scaled.Reads as scaled-reads
 
--- src/lib.rt:118:9
 u64-to-i64-requires : tie.Need-u64-to-i64-requires
 u64-to-i64-requires c κs = search needs
 
--- src/lib.rt:119:5
 scaled-requires : tie.Need-scaled-requires
 scaled-requires c κs = search needs
 
--- src/lib.rt:115:1
 returns : tie.Need-returns
-returns c = ?
+unfolding past
+returns c =
+    let s = c .before .before in
+    c .scaled .ensures ∙ ap₂ (λ (x : Checked) (t : ℤ). andThen x (λ m. checked (t *ℤ m))) (c .before .u64-to-i64 .ensures) (back (s .fits .step))
 
 pub past-last-spec : {M : Type 1} → statement M
 past-last-spec = tie.close (tie.spec u64-to-i64-requires scaled-requires returns)

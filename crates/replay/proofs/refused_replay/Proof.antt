@@ -1,3 +1,9 @@
+use mathlib.Core.Path.{_≡_, refl, sym, ap, ap₂, subst, _∙_}
+use lib.ListN.{replicate}
+use lib.IntN.{pos}
+use Rattle.layout.specs.Layouts.{rankLimit}
+use Rattle.layout.specs.declared.Answer.the-variants as N
+use Rattle.replay.specs.Replays.{theSpans}
 use borrow.Author.Needs.{needs}
 use Rattle.replay.proofs.refused_replay.Statement.{statement}
 use Rattle.replay.proofs.refused_replay.Tie as tie
@@ -5,13 +11,11 @@ use Rattle.replay.proofs.refused_replay.Reads as reads
 use Rattle.replay.proofs.refused_replay.Lts as lts
 use Rattle.replay.proofs.no_axis.Reads as no-axis-reads
 
--- src/lib.rt:172:9
 no-axis-requires : tie.Need-no-axis-requires
 no-axis-requires c κs = search needs
 
--- src/lib.rt:169:1
 returns : tie.Need-returns
-returns c = ?
+returns c = λ ι. record { answer = N.OffsetOverflow; replay = record { rank = 0; axes = replicate rankLimit (c .no-axis .ensures ι); spans = theSpans (pos 0) (pos 0) (pos 0) (pos 0) } }
 
 pub refused-replay-spec : {M : Type 1} → statement M
 refused-replay-spec = tie.close (tie.spec no-axis-requires returns)
