@@ -257,7 +257,14 @@ fn fuse(
     }
     let first = make_axis(shape[0], source_strides[0], dest_strides[0]);
     match first {
-        CheckedAxis::Fits(axis) => fuse_rest(axis, shape, source_strides, dest_strides, rank, spans),
+        CheckedAxis::Fits(axis) => fuse_rest(
+            axis,
+            shape,
+            source_strides,
+            dest_strides,
+            rank,
+            spans,
+        ),
         CheckedAxis::Overflow => refused_replay(),
     }
 }
