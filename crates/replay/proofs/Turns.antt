@@ -8,7 +8,6 @@ use lib.ListN.{length, take, drop, getD, set, replicate, length-set, length-appe
 use lib.Seq.{drop-cons, take-suc-set, drop-set-lt, set-split, length-take-le, take-all}
 use lib.IntN.{ℤ, pos}
 use Rattle.layout.specs.Layouts.{rankLimit, padded}
-use Rattle.layout.specs.declared.Answer.the-variants as N
 use Rattle.layout.proofs.Turns.{drop-take, drop-done}
 use Rattle.replay.specs.declared.WindowReplayAxis.{WindowReplayAxis}
 use Rattle.replay.specs.declared.CheckedAxis.{CheckedAxis}
@@ -16,8 +15,7 @@ use Rattle.replay.specs.declared.CheckedAxis.the-variants as A
 use Rattle.replay.specs.declared.JoinedAxis.{JoinedAxis}
 use Rattle.replay.specs.declared.JoinedAxis.the-variants as J
 use Rattle.replay.specs.declared.ReplaySpans.{ReplaySpans}
-use Rattle.replay.specs.declared.CompiledReplay.{CompiledReplay}
-use Rattle.replay.specs.Replays.{axisOf, joinOf, Merged, refused, merged, follow, mergedBy, firstBy, fuseFrom, fused, noAxis, replayOf, compiledBy}
+use Rattle.replay.specs.Replays.{axisOf, joinOf, Merged, refused, merged, follow, mergedBy, firstBy, fuseFrom, fused, noAxis, doneReplay, compiledBy}
 
 abbrev pub prepend : List WindowReplayAxis → Merged → Merged
 prepend l refused = refused
@@ -47,7 +45,7 @@ module _ (ds : List ℕ) (ss ts : List ℤ) (rank : ℕ) where
   pub fusing-first : (first : WindowReplayAxis) → Fusing first (replicate rankLimit noAxis) first 0 1
   fusing-first first = record { at = omega arith; count = omega arith; full = refl; rest = refl; same = prepend-none (left first 1) }
 
-  pub fuse-none : rank ≡ 0 → (spans : ReplaySpans) → _≡_ {A = CompiledReplay} (record { answer = N.Done; replay = record { rank = 0; axes = replicate rankLimit noAxis; spans = spans } }) (compiledBy (fused (take rank ds) (take rank ss) (take rank ts)) spans)
+  pub fuse-none : rank ≡ 0 → (spans : ReplaySpans) → doneReplay 0 (replicate rankLimit noAxis) spans ≡ compiledBy (fused (take rank ds) (take rank ss) (take rank ts)) spans
   unfolding fused padded
   fuse-none e spans = rw e
 
@@ -87,7 +85,7 @@ module _ (ds : List ℕ) (ss ts : List ℤ) (rank : ℕ) where
           ap (λ (m : ℕ). drop m axes) (add-one n) ∙ d
 
       -- past the last axis
-      pub fusing-done : (spans : ReplaySpans) → min rank rankLimit ≤ i → _≡_ {A = CompiledReplay} (record { answer = N.Done; replay = record { rank = n + 1; axes = set axes n p; spans = spans } }) (compiledBy (left first 1) spans)
+      pub fusing-done : (spans : ReplaySpans) → min rank rankLimit ≤ i → doneReplay (n + 1) (set axes n p) spans ≡ compiledBy (left first 1) spans
       unfolding fuseFrom padded
       fusing-done spans h =
           let l : List WindowReplayAxis = take n axes ++ p ∷ [] in
@@ -96,7 +94,7 @@ module _ (ds : List ℕ) (ss ts : List ℤ) (rank : ℕ) where
           let a : set axes n p ≡ padded rankLimit noAxis l =
           set-split axes n p stored ∙ ap (λ (m : List WindowReplayAxis). take n axes ++ p ∷ m) (ap (λ (m : ℕ). drop m axes) (sym (add-one n)) ∙ rest-tail) ∙ sym (append-assoc (take n axes) (p ∷ []) (replicate (rankLimit - (n + 1)) noAxis)) ∙ ap (λ (m : ℕ). l ++ replicate (rankLimit - m) noAxis) (sym k) ∙ ap (λ (m : List WindowReplayAxis). m ++ replicate (rankLimit - length l) noAxis) (sym (take-all rankLimit l (omega (arith, f .at, f .count, k))))
           in
-          (λ ι. record { answer = N.Done; replay = record { rank = sym k ι; axes = a ι; spans = spans } })
+          (λ ι. doneReplay (sym k ι) (a ι) spans)
           ∙ ap (λ (m : Merged). compiledBy m spans) (sym (ap (prepend (take n axes)) e) ∙ f .same)
 
       module _ (h : i < min rank rankLimit) (j : JoinedAxis) (e : j ≡ joinOf p (getD ds i 0) (getD ss i (pos 0)) (getD ts i (pos 0))) where

@@ -24,6 +24,7 @@ use Rattle.indexing.specs.Fusion.{dot-fuse, product-fuse}
 use Rattle.layout.specs.declared.Answer.the-variants as N
 use Rattle.layout.specs.declared.OffsetSpan.{OffsetSpan}
 use Rattle.layout.specs.declared.OffsetSpan.the-variants as S
+use Rattle.layout.specs.Layouts.{rankLimit, padded}
 use Rattle.layout.specs.Spans.{resetOf, spanned}
 use Rattle.layout.specs.Laws.{then-inv, reset-is, reset-size}
 use Rattle.replay.specs.declared.WindowReplayAxis.{WindowReplayAxis}
@@ -32,7 +33,7 @@ use Rattle.replay.specs.declared.CheckedAxis.the-variants as A
 use Rattle.replay.specs.declared.JoinedAxis.{JoinedAxis}
 use Rattle.replay.specs.declared.JoinedAxis.the-variants as J
 use Rattle.replay.specs.declared.CompiledReplay.{CompiledReplay}
-use Rattle.replay.specs.Replays.{sameZ, axisAfter, theAxis, axisOf, joinAfter, joinAfterU, asMerged, asApart, past, joinOf, Merged, refused, merged, follow, mergedBy, firstBy, fuseFrom, fused, theSpans, replayOf, afterSpans, compiledBy, compiledReplay, extents, sources, dests}
+use Rattle.replay.specs.Replays.{sameZ, axisAfter, theAxis, axisOf, joinAfter, joinAfterU, asMerged, asApart, past, joinOf, Merged, refused, merged, follow, mergedBy, firstBy, fuseFrom, fused, noAxis, theSpans, doneReplay, afterSpans, compiledBy, compiledReplay, extents, sources, dests}
 
 -- ---- one side: the offsets and the spans of steps zs over extents es are those of strides ss over extents ds
 pub record Side (ds : List ℕ) (ss : List ℤ) (es : List ℕ) (zs : List ℤ) : Type 0 where
@@ -325,7 +326,7 @@ pub record IsDone (ds : List ℕ) (ss ts : List ℤ) : Type 0 where
   pub dest-low : ℤ
   pub dest-high : ℤ
   pub dest-span : spanned ds ts ≡ S.Fits dest-low dest-high
-  pub is : compiledReplay ds ss ts ≡ record { answer = N.Done; replay = replayOf axes (theSpans source-low source-high dest-low dest-high) }
+  pub is : compiledReplay ds ss ts ≡ doneReplay (length axes) (padded rankLimit noAxis axes) (theSpans source-low source-high dest-low dest-high)
 
 pub compiled-done : (ds : List ℕ) (ss ts : List ℤ) → length ss ≡ length ds → length ts ≡ length ds → compiledReplay ds ss ts .answer ≡ N.Done → IsDone ds ss ts
 unfolding compiledReplay

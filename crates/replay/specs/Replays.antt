@@ -21,7 +21,6 @@ use Rattle.replay.specs.declared.CheckedAxis.the-variants as A
 use Rattle.replay.specs.declared.JoinedAxis.{JoinedAxis}
 use Rattle.replay.specs.declared.JoinedAxis.the-variants as J
 use Rattle.replay.specs.declared.ReplaySpans.{ReplaySpans}
-use Rattle.replay.specs.declared.WindowReplay.{WindowReplay}
 use Rattle.replay.specs.declared.CompiledReplay.{CompiledReplay}
 
 -- two numbers are the same
@@ -113,8 +112,8 @@ noAxis = theAxis 1 (pos 0) (pos 0) (pos 0) (pos 0)
 abbrev pub theSpans : ℤ → ℤ → ℤ → ℤ → ReplaySpans
 theSpans a b c d = record { «source_low» = a; «source_high» = b; «dest_low» = c; «dest_high» = d }
 
-abbrev pub replayOf : List WindowReplayAxis → ReplaySpans → WindowReplay
-replayOf l spans = record { rank = length l; axes = padded rankLimit noAxis l; spans = spans }
+abbrev pub doneReplay : ℕ → List WindowReplayAxis → ReplaySpans → CompiledReplay
+doneReplay n axes spans = record { answer = N.Done; replay = record { rank = n; axes = axes; spans = spans } }
 
 -- where it is refused, by 3, the walk of no axes stands in its place
 abbrev pub refusedReplay : CompiledReplay
@@ -122,7 +121,7 @@ refusedReplay = record { answer = N.OffsetOverflow; replay = record { rank = 0; 
 
 abbrev pub compiledBy : Merged → ReplaySpans → CompiledReplay
 compiledBy refused spans = refusedReplay
-compiledBy (merged l) spans = record { answer = N.Done; replay = replayOf l spans }
+compiledBy (merged l) spans = doneReplay (length l) (padded rankLimit noAxis l) spans
 
 -- "spans of both sides"
 abbrev pub afterSpans : OffsetSpan → OffsetSpan → (ReplaySpans → CompiledReplay) → CompiledReplay

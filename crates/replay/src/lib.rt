@@ -4,7 +4,7 @@ ghost use mathlib.Core.Path.{_≡_};
 ghost use lib.ListN.{take, drop};
 ghost use Prim.Native.Nat.{_*_};
 ghost use Rattle.integer.specs.Defs.{checkedU};
-ghost use Rattle.replay.specs.Replays.{sameZ, noAxis, axisOf, joinAfterU, asMerged, asApart, past, joinOf, fuseFrom, fused, refusedReplay, compiledBy, compiledReplay, extents, rowsOf};
+ghost use Rattle.replay.specs.Replays.{sameZ, noAxis, axisOf, joinAfterU, asMerged, asApart, past, joinOf, fuseFrom, fused, doneReplay, refusedReplay, compiledBy, compiledReplay, extents, rowsOf};
 use integer::Checked;
 use integer::CheckedU;
 use layout::Answer;
@@ -186,6 +186,19 @@ fn refused_replay() -> CompiledReplay
     }
 }
 
+fn done_replay(
+    rank: usize,
+    axes: [WindowReplayAxis; RAW_FUSED_RANK_LIMIT],
+    spans: ReplaySpans,
+) -> CompiledReplay
+    ensures { λ r. ⌜ r ≡ doneReplay rank axes spans ⌝ }
+{
+    CompiledReplay {
+        answer: Answer::Done,
+        replay: WindowReplay { rank, axes, spans },
+    }
+}
+
 // The axes after the first, each joined to the merged axis before it where it can be.
 fn fuse_rest(
     first: WindowReplayAxis,
@@ -223,14 +236,7 @@ fn fuse_rest(
         }
     }
     axes[n] = last;
-    CompiledReplay {
-        answer: Answer::Done,
-        replay: WindowReplay {
-            rank: n + 1,
-            axes,
-            spans,
-        },
-    }
+    done_replay(n + 1, axes, spans)
 }
 
 // The axes from the front.
@@ -246,14 +252,7 @@ fn fuse(
     if rank == 0 {
         let empty = no_axis();
         let axes = [empty; RAW_FUSED_RANK_LIMIT];
-        return CompiledReplay {
-            answer: Answer::Done,
-            replay: WindowReplay {
-                rank: 0,
-                axes,
-                spans,
-            },
-        };
+        return done_replay(0, axes, spans);
     }
     let first = make_axis(shape[0], source_strides[0], dest_strides[0]);
     match first {

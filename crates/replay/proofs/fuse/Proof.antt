@@ -7,14 +7,15 @@ use mir.Syntax.{w64}
 use mir.Val.{SFits}
 use Rattle.integer.specs.Z.{back}
 use Rattle.layout.specs.Layouts.{rankLimit}
-use Rattle.layout.specs.declared.Answer.the-variants as N
-use Rattle.replay.specs.Replays.{Merged, axisOf, compiledBy}
+use Rattle.replay.specs.declared.WindowReplayAxis.{WindowReplayAxis}
+use Rattle.replay.specs.Replays.{Merged, axisOf, doneReplay, compiledBy}
 use Rattle.replay.proofs.Turns.{fuse-none, first-over, first-fits}
 use borrow.Author.Needs.{needs}
 use Rattle.replay.proofs.fuse.Statement.{statement}
 use Rattle.replay.proofs.fuse.Tie as tie
 use Rattle.replay.proofs.fuse.Reads as reads
 use Rattle.replay.proofs.fuse.Lts as lts
+use Rattle.replay.proofs.done_replay.Reads as done-replay-reads
 use Rattle.replay.proofs.fuse_rest.Reads as fuse-rest-reads
 use Rattle.replay.proofs.make_axis.Reads as make-axis-reads
 use Rattle.replay.proofs.no_axis.Reads as no-axis-reads
@@ -41,11 +42,15 @@ first-axis m =
 no-axis-requires : tie.Need-no-axis-requires
 no-axis-requires c κs = search needs
 
+done-replay-requires : tie.Need-done-replay-requires
+done-replay-requires c κs = search needs
+
 returns : tie.Need-returns
 returns c =
-    let s = c .before .before in
-    (λ ι. record { answer = N.Done; replay = record { rank = 0; axes = replicate rankLimit (c .no-axis .ensures ι); spans = s .args .spans } })
-    ∙ fuse-none (s .args .t1) (s .args .t2) (s .args .t3) (s .args .rank) (c .before .if1 .taken) (s .args .spans)
+    let s = c .before .before .before in
+    c .done-replay .ensures
+    ∙ ap (λ (x : WindowReplayAxis). doneReplay 0 (replicate rankLimit x) (s .args .spans)) (c .before .no-axis .ensures)
+    ∙ fuse-none (s .args .t1) (s .args .t2) (s .args .t3) (s .args .rank) (c .before .before .if1 .taken) (s .args .spans)
 
 array-read-make-axis : tie.Need-array-read-make-axis
 array-read-make-axis c = search needs
@@ -89,6 +94,7 @@ fuse-spec =
     tie.close
     (tie.spec
     no-axis-requires
+    done-replay-requires
     returns
     array-read-make-axis
     array-copy-out-make-axis

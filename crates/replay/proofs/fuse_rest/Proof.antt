@@ -16,6 +16,7 @@ use Rattle.replay.proofs.fuse_rest.Tie as tie
 use Rattle.replay.proofs.fuse_rest.Reads as reads
 use Rattle.replay.proofs.fuse_rest.Lts as lts
 use Rattle.layout.proofs.axis_count.Reads as axis-count-reads
+use Rattle.replay.proofs.done_replay.Reads as done-replay-reads
 use Rattle.replay.proofs.join.Reads as join-reads
 use Rattle.replay.proofs.no_axis.Reads as no-axis-reads
 use Rattle.replay.proofs.refused_replay.Reads as refused-replay-reads
@@ -143,14 +144,17 @@ mul-axes-2 c = search needs
 array-set-from-axes-2 : tie.Need-array-set-from-axes-2 Inv-loop μ-loop
 array-set-from-axes-2 c = search needs
 
-add-t35 : tie.Need-add-t35 Inv-loop μ-loop
-add-t35 c = search needs
+add-done-replay : tie.Need-add-done-replay Inv-loop μ-loop
+add-done-replay c = search needs
+
+done-replay-requires : tie.Need-done-replay-requires Inv-loop μ-loop
+done-replay-requires c κs = search needs
 
 returns-2 : tie.Need-returns-2 Inv-loop μ-loop
 returns-2 c =
-    let l = c .before in
+    let l = c .before .before in
     let s = start l in
-    fusing-done (s .args .t2) (s .args .t3) (s .args .t4) (s .args .rank) (full s .0) (full s .1) (full s .2) (s .args .first) (l .loop .axes) (l .loop .last) (l .loop .n) (l .loop .i) (l .loop .inv) (s .args .spans) (omega (arith, counted l, c .loop-test .left))
+    c .done-replay .ensures ∙ fusing-done (s .args .t2) (s .args .t3) (s .args .t4) (s .args .rank) (full s .0) (full s .1) (full s .2) (s .args .first) (l .loop .axes) (l .loop .last) (l .loop .n) (l .loop .i) (l .loop .inv) (s .args .spans) (omega (arith, counted l, c .before .loop-test .left))
 
 pub fuse-rest-spec : {M : Type 1} → statement M
 fuse-rest-spec =
@@ -183,5 +187,6 @@ fuse-rest-spec =
     returns
     mul-axes-2
     array-set-from-axes-2
-    add-t35
+    add-done-replay
+    done-replay-requires
     returns-2)
