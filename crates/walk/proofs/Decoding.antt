@@ -18,7 +18,8 @@ use Rattle.indexing.specs.Odometer.{offsetAt, dot-set}
 use Rattle.layout.specs.Layouts.{rankLimit}
 use Rattle.walk.specs.Walks.{column, entry, Walk, startState, stateAt, Sized, Moves}
 use Rattle.walk.specs.declared.WalkState.{WalkState}
-use Rattle.walk.proofs.Going.{within-set, axes, strides, column-at, fits-at, coords-within, start-offset, dot-zeros, zeros-are}
+use Rattle.walk.specs.Walking.{dot-zeros, zeros-are}
+use Rattle.walk.proofs.Going.{within-set, axes, strides, column-at, fits-at, coords-within, start-offset}
 
 pub record Decoding (sb db : ℤ) (shape : List ℕ) (rows : List (List ℤ)) (rank k : ℕ) (s : WalkState) (left i : ℕ) : Type 0 where
   pub at : i ≤ rank
@@ -52,7 +53,7 @@ module _ (sb db : ℤ) (shape : List ℕ) (rows : List (List ℤ)) (rank : ℕ) 
     digits = refl;
     source-is = sym (+ℤ-idr sb) ∙ ap (λ (x : ℤ). sb +ℤ x) (sym (dot-zeros (column 0 (take rank rows)) rankLimit));
     dest-is = sym (+ℤ-idr db) ∙ ap (λ (x : ℤ). db +ℤ x) (sym (dot-zeros (column 2 (take rank rows)) rankLimit));
-    within = subst (λ (l : List ℕ). Within (take rank shape) (take rank l)) (sym (zeros-are sb db shape rows rank walk ls lr)) (coords-within sb db shape rows rank walk ls lr 0);
+    within = subst (λ (l : List ℕ). Within (take rank shape) (take rank l)) (sym (zeros-are sb db shape rows rank (walk .small) ls)) (coords-within sb db shape rows rank walk ls lr 0);
   })
 
   module _ (k : ℕ) (s : WalkState) (left i : ℕ) (g : Decoding sb db shape rows rank k s left i) where

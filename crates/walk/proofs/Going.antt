@@ -6,19 +6,19 @@ use Prim.Native.Nat.{ℕ, zero, suc, _+_, _-_, _<_, _≤_}
 use native.Mathlib.Numerals.{add-one}
 use native.Mathlib.Omega.{arith}
 use lib.Dec.{ltb}
-use lib.ListN.{length, getD, set, replicate, take, drop, length-set, length-append, length-replicate, length-map, take-append-drop, drop-of-length-le, List·getD-map, replicate-append-replicate}
+use lib.ListN.{length, getD, set, replicate, take, drop, length-set, length-append, length-replicate, length-map, take-append-drop, drop-of-length-le, List·getD-map}
 use lib.Seq.{getD-take, drop-cons, set-split, take-suc-set, drop-set-lt, take-set-lt, append-snoc, length-take-le, take-at}
-use lib.IntN.{ℤ, pos, negℤ, _+ℤ_, _*ℤ_, *ℤ-zero, +ℤ-idr}
+use lib.IntN.{ℤ, pos, negℤ, _+ℤ_, _*ℤ_}
 use borrow.Author.Tests.{lt-ltb, le-ltb}
 use mir.Syntax.{w64}
 use mir.Val.{SFits}
 use Rattle.integer.specs.Laws.{sfits-between}
 use Rattle.indexing.specs.Coordinates.{unravel, dot, Within}
 use Rattle.indexing.specs.Linear.{length-unravel, within-at}
-use Rattle.indexing.specs.Odometer.{AllPos, next, offsetAt, unravel-suc, unravel-zero, walk-within, next-append, dot-on, dot-wrap, dot-append}
+use Rattle.indexing.specs.Odometer.{AllPos, next, offsetAt, unravel-suc, walk-within, next-append, dot-on, dot-wrap, dot-append}
 use Rattle.indexing.specs.Reach.{lowest, highest, offset-low, offset-high}
 use Rattle.layout.specs.Layouts.{rankLimit}
-use Rattle.walk.specs.Walks.{column, entry, Resets, Reaches, Walk, startState, stateAt}
+use Rattle.walk.specs.Walks.{column, entry, Resets, Reaches, Walk, stateAt}
 use Rattle.walk.specs.declared.WalkState.{WalkState}
 
 -- ---- coordinates that are held with more after them
@@ -210,29 +210,3 @@ module _ (sb db : ℤ) (shape : List ℕ) (rows : List (List ℤ)) (rank : ℕ) 
         dest-is = off-wrap shape rows rank (walk .small) ls lr db 2 cs lc dest (go .dest-is) i hi (walk .dest-resets) (omega (arith, below));
         rest = sym (next-wrap (take rank shape) cs i on here (omega (arith, extent))) ∙ go .rest;
       }
-
--- ---- where a walk begins
-
-pub dot-zeros : (ss : List ℤ) (n : ℕ) → dot ss (replicate n 0) ≡ pos 0
-unfolding dot
-dot-zeros [] n = refl
-dot-zeros (s ∷ ss) zero = refl
-dot-zeros (s ∷ ss) (suc n) = ap₂ (λ (x y : ℤ). x +ℤ y) (*ℤ-zero s) (dot-zeros ss n)
-
-offset-zero : (base : ℤ) (ds : List ℕ) (ss : List ℤ) → offsetAt base ds ss 0 ≡ base
-unfolding offsetAt
-offset-zero base ds ss = ap (λ (x : ℤ). base +ℤ x) (ap (dot ss) (unravel-zero ds) ∙ dot-zeros ss (length ds)) ∙ +ℤ-idr base
-
-module _ (sb db : ℤ) (shape : List ℕ) (rows : List (List ℤ)) (rank : ℕ) (walk : Walk sb db shape rows rank) (ls : length shape ≡ rankLimit) (lr : length rows ≡ rankLimit) where
-  pub zeros-are : replicate rankLimit 0 ≡ unravel (take rank shape) 0 ++ replicate (rankLimit - rank) 0
-  zeros-are =
-      let n : length (take rank shape) + (rankLimit - rank) ≡ rankLimit = omega (arith, walk .small, axes shape rows rank (walk .small) ls lr) in
-      ap (λ (m : ℕ). replicate m 0) (sym n) ∙ sym (replicate-append-replicate (length (take rank shape)) (rankLimit - rank) 0) ∙ ap (λ (l : List ℕ). l ++ replicate (rankLimit - rank) 0) (sym (unravel-zero (take rank shape)))
-
-  -- `start` stands at linear index 0
-  pub begins : startState sb db ≡ stateAt sb db shape rows rank 0
-  unfolding stateAt
-  begins =
-      let f : sb ≡ offsetAt sb (take rank shape) (column 0 (take rank rows)) 0 = sym (offset-zero sb (take rank shape) (column 0 (take rank rows))) in
-      let g : db ≡ offsetAt db (take rank shape) (column 2 (take rank rows)) 0 = sym (offset-zero db (take rank shape) (column 2 (take rank rows))) in
-      λ i. record { coords = zeros-are i; «source_offset» = f i; «dest_offset» = g i }

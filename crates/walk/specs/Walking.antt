@@ -4,9 +4,9 @@ use mathlib.Core.Bool.{Bool, true, false, _&&_}
 use mathlib.Core.List.{List, [], _∷_, _++_, map}
 use Prim.Native.Nat.{ℕ, zero, suc, _+_, _-_, _<_, _≤_, _^_}
 use native.Mathlib.Omega.{arith}
-use lib.ListN.{length, getD, replicate, take, length-append, length-replicate, length-map}
-use lib.Seq.{take-all}
-use lib.IntN.{ℤ, pos, negℤ, _+ℤ_, _*ℤ_, +ℤ-idl}
+use lib.ListN.{length, getD, replicate, take, length-append, length-replicate, length-map, replicate-append-replicate}
+use lib.Seq.{take-all, length-take-le}
+use lib.IntN.{ℤ, pos, negℤ, _+ℤ_, _*ℤ_, +ℤ-idl, +ℤ-idr, *ℤ-zero}
 use lib.Signed.{_≤ℤ_}
 use mir.Syntax.{w64}
 use mir.Val.{SFits}
@@ -16,7 +16,7 @@ use Rattle.integer.specs.Machine.{checked-sfits}
 use Rattle.integer.specs.declared.Checked.{Checked}
 use Rattle.integer.specs.declared.Checked.the-variants as C
 use Rattle.indexing.specs.Coordinates.{product, unravel, dot}
-use Rattle.indexing.specs.Odometer.{AllPos, offsetAt}
+use Rattle.indexing.specs.Odometer.{AllPos, offsetAt, unravel-zero}
 use Rattle.indexing.specs.Reach.{lowest, highest}
 use Rattle.layout.specs.declared.Answer.the-variants as N
 use Rattle.layout.specs.declared.OffsetSpan.the-variants as S
@@ -29,7 +29,7 @@ use Rattle.replay.specs.declared.CompiledReplay.{CompiledReplay}
 use Rattle.replay.specs.Replays.{compiledReplay, doneReplay, theSpans, noAxis, extents, sources, dests, rowOf, rowsOf}
 use Rattle.replay.specs.Merging.{AllReset, Meets, IsDone, compiled-done}
 use Rattle.walk.specs.declared.WalkState.{WalkState}
-use Rattle.walk.specs.Walks.{column, entry, Resets, Reaches, isFits, coversOf, Size, Sized, Walk, stateAt}
+use Rattle.walk.specs.Walks.{column, entry, Resets, Reaches, isFits, coversOf, Size, Sized, Walk, startState, stateAt}
 
 -- ---- a base whose reach fits
 
@@ -138,6 +138,32 @@ module _ (ds : List ℕ) (ss ts : List ℤ) (l r : List WindowReplayAxis) (m : M
     };
   }
 
+-- ---- the first place
+
+pub dot-zeros : (ss : List ℤ) (n : ℕ) → dot ss (replicate n 0) ≡ pos 0
+unfolding dot
+dot-zeros [] n = refl
+dot-zeros (s ∷ ss) zero = refl
+dot-zeros (s ∷ ss) (suc n) = ap₂ (λ (x y : ℤ). x +ℤ y) (*ℤ-zero s) (dot-zeros ss n)
+
+offset-zero : (base : ℤ) (ds : List ℕ) (ss : List ℤ) → offsetAt base ds ss 0 ≡ base
+unfolding offsetAt
+offset-zero base ds ss = ap (λ (x : ℤ). base +ℤ x) (ap (dot ss) (unravel-zero ds) ∙ dot-zeros ss (length ds)) ∙ +ℤ-idr base
+
+module _ (sb db : ℤ) (shape : List ℕ) (rows : List (List ℤ)) (rank : ℕ) (small : rank ≤ rankLimit) (ls : length shape ≡ rankLimit) where
+  pub zeros-are : replicate rankLimit 0 ≡ unravel (take rank shape) 0 ++ replicate (rankLimit - rank) 0
+  zeros-are =
+      let n : length (take rank shape) + (rankLimit - rank) ≡ rankLimit = omega (arith, length-take-le rank shape (omega arith)) in
+      ap (λ (m : ℕ). replicate m 0) (sym n) ∙ sym (replicate-append-replicate (length (take rank shape)) (rankLimit - rank) 0) ∙ ap (λ (l : List ℕ). l ++ replicate (rankLimit - rank) 0) (sym (unravel-zero (take rank shape)))
+
+  -- `start` stands at linear index 0
+  pub begins : startState sb db ≡ stateAt sb db shape rows rank 0
+  unfolding stateAt
+  begins =
+      let f : sb ≡ offsetAt sb (take rank shape) (column 0 (take rank rows)) 0 = sym (offset-zero sb (take rank shape) (column 0 (take rank rows))) in
+      let g : db ≡ offsetAt db (take rank shape) (column 2 (take rank rows)) 0 = sym (offset-zero db (take rank shape) (column 2 (take rank rows))) in
+      λ i. record { coords = zeros-are i; «source_offset» = f i; «dest_offset» = g i }
+
 -- ---- from what compile hands back
 
 -- an accepted walk over a window with cells, with its bases
@@ -151,6 +177,7 @@ pub record Ready (ds : List ℕ) (ss ts : List ℤ) (sb db : ℤ) : Type 0 where
 pub record Walking (ds : List ℕ) (ss ts : List ℤ) (sb db : ℤ) (shape : List ℕ) (rows : List (List ℤ)) (rank : ℕ) : Type 0 where
   pub walk : Walk sb db shape rows rank
   pub total : product (take rank shape) ≡ product ds
+  pub start : startState sb db ≡ stateAt sb db shape rows rank 0
   pub at : (k : ℕ) → Place ds ss ts sb db k (stateAt sb db shape rows rank k)
   pub shape-full : length shape ≡ rankLimit
   pub rows-full : length rows ≡ rankLimit
@@ -164,11 +191,13 @@ module _ (ds : List ℕ) (ss ts : List ℤ) (small : length ds ≤ rankLimit) (l
       let rest : List WindowReplayAxis = replicate (rankLimit - length l) noAxis in
       let e : l ++ rest ≡ take rankLimit l ++ rest = ap (λ (x : List WindowReplayAxis). x ++ rest) (sym (take-all rankLimit l (omega (arith, m .count)))) in
       let n : length (l ++ rest) ≡ rankLimit = length-append l rest ∙ omega (arith, m .count, length-replicate {A = WindowReplayAxis} (rankLimit - length l) noAxis) in
+      let f : length (extents (l ++ rest)) ≡ rankLimit = length-map (l ++ rest) (λ (a : WindowReplayAxis). a .extent) ∙ n in
       subst (λ (x : List WindowReplayAxis). Walking ds ss ts sb db (extents x) (rowsOf x) (length l)) e (record {
         walk = merged-walk ds ss ts l rest m sb db small (r .positive) (r .source-reach) (r .dest-reach);
         total = total-at ds ss ts l rest m;
+        start = begins sb db (extents (l ++ rest)) (rowsOf (l ++ rest)) (length l) (omega (arith, m .count)) f;
         at = place-at ds ss ts l rest m sb db;
-        shape-full = length-map (l ++ rest) (λ (a : WindowReplayAxis). a .extent) ∙ n;
+        shape-full = f;
         rows-full = length-map (l ++ rest) rowOf ∙ n;
       })
 
