@@ -6,116 +6,60 @@ use layout::OffsetSpan;
 use layout::RAW_FUSED_RANK_LIMIT;
 use replay::WindowReplayAxis;
 
-fn put(text: &[u8]) {
-    io::write_all(1, text);
-}
-
-fn put_u64(n: u64) {
-    io::print_decimal(1, n);
-}
-
-fn put_i64(n: i64) {
-    if n < 0 {
-        put(b"-");
-    }
-    put_u64(integer::magnitude_i64(n));
-}
-
-fn open_list() {
-    put(b"[");
-}
-
-fn close_list() {
-    put(b"]");
-}
-
-fn end_line() {
-    put(b"\n");
-}
-
-// What stands before entry i of a list.
-fn separate(i: usize) {
-    if i > 0 {
-        put(b", ");
-    }
-}
-
-fn put_extents(extents: &[u64]) {
-    open_list();
-    let mut i: usize = 0;
-    while i < extents.len() {
-        separate(i);
-        put_u64(extents[i]);
-        i += 1;
-    }
-    close_list();
-}
-
-fn put_strides(strides: &[i64]) {
-    open_list();
-    let mut i: usize = 0;
-    while i < strides.len() {
-        separate(i);
-        put_i64(strides[i]);
-        i += 1;
-    }
-    close_list();
-}
-
 fn put_refused(answer: layout::Answer) {
-    put(b" refused by ");
-    put_u64(layout::number(answer));
-    end_line();
+    printing::put(b" refused by ");
+    printing::put_u64(layout::number(answer));
+    printing::end_line();
 }
 
 fn reset(extent: u64, stride: i64) {
-    put(b"reset of extent ");
-    put_u64(extent);
-    put(b", stride ");
-    put_i64(stride);
-    put(b":");
+    printing::put(b"reset of extent ");
+    printing::put_u64(extent);
+    printing::put(b", stride ");
+    printing::put_i64(stride);
+    printing::put(b":");
     match layout::checked_replay_reset(extent, stride) {
         Checked::Fits(r) => {
-            put(b" ");
-            put_i64(r);
-            end_line();
+            printing::put(b" ");
+            printing::put_i64(r);
+            printing::end_line();
         }
         Checked::Overflow => put_refused(layout::Answer::OffsetOverflow),
     }
 }
 
 fn span(extents: &[u64], strides: &[i64]) {
-    put(b"span of extents ");
-    put_extents(extents);
-    put(b", strides ");
-    put_strides(strides);
-    put(b":");
+    printing::put(b"span of extents ");
+    printing::put_extents(extents);
+    printing::put(b", strides ");
+    printing::put_strides(strides);
+    printing::put(b":");
     let e = layout::padded_extents(extents);
     let s = layout::padded_strides(strides);
     match layout::validate_layout_span(e, s, extents.len()) {
         OffsetSpan::Fits(low, high) => {
-            put(b" ");
-            put_i64(low);
-            put(b" to ");
-            put_i64(high);
-            end_line();
+            printing::put(b" ");
+            printing::put_i64(low);
+            printing::put(b" to ");
+            printing::put_i64(high);
+            printing::end_line();
         }
         OffsetSpan::Overflow => put_refused(layout::Answer::OffsetOverflow),
     }
 }
 
 fn put_axis(axis: WindowReplayAxis) {
-    put(b" [extent ");
-    put_u64(axis.extent);
-    put(b"; ");
-    put_i64(axis.source_step);
-    put(b", ");
-    put_i64(axis.source_reset);
-    put(b", ");
-    put_i64(axis.dest_step);
-    put(b", ");
-    put_i64(axis.dest_reset);
-    put(b"]");
+    printing::put(b" [extent ");
+    printing::put_u64(axis.extent);
+    printing::put(b"; ");
+    printing::put_i64(axis.source_step);
+    printing::put(b", ");
+    printing::put_i64(axis.source_reset);
+    printing::put(b", ");
+    printing::put_i64(axis.dest_step);
+    printing::put(b", ");
+    printing::put_i64(axis.dest_reset);
+    printing::put(b"]");
 }
 
 fn put_axes(axes: [WindowReplayAxis; RAW_FUSED_RANK_LIMIT], rank: usize) {
@@ -125,21 +69,21 @@ fn put_axes(axes: [WindowReplayAxis; RAW_FUSED_RANK_LIMIT], rank: usize) {
         put_axis(axes[i]);
         i += 1;
     }
-    end_line();
+    printing::end_line();
 }
 
 fn put_window(extents: &[u64], sources: &[i64], dests: &[i64]) {
-    put_extents(extents);
-    put(b", source ");
-    put_strides(sources);
-    put(b", destination ");
-    put_strides(dests);
-    put(b":");
+    printing::put_extents(extents);
+    printing::put(b", source ");
+    printing::put_strides(sources);
+    printing::put(b", destination ");
+    printing::put_strides(dests);
+    printing::put(b":");
 }
 
 // The merged axes, each with its extent and its row, or the refusal.
 fn compile(extents: &[u64], sources: &[i64], dests: &[i64]) {
-    put(b"walk over ");
+    printing::put(b"walk over ");
     put_window(extents, sources, dests);
     let shape = layout::padded_extents(extents);
     let s = layout::padded_strides(sources);
@@ -156,10 +100,10 @@ fn compile(extents: &[u64], sources: &[i64], dests: &[i64]) {
 }
 
 fn put_place(source: i64, dest: i64) {
-    put(b" ");
-    put_i64(source);
-    put(b"/");
-    put_i64(dest);
+    printing::put(b" ");
+    printing::put_i64(source);
+    printing::put(b"/");
+    printing::put_i64(dest);
 }
 
 // The places from the last to the first, each by decode.
@@ -179,7 +123,7 @@ fn places_back(
         let state = walk::decode(k, source_base, dest_base, shape, rows, rank);
         put_place(state.source_offset, state.dest_offset);
     }
-    end_line();
+    printing::end_line();
 }
 
 // The places from the first on, a step from each to the next.
@@ -200,7 +144,7 @@ fn places(
         state = walk::step(state, shape, rows, rank);
         k += 1;
     }
-    put(b" and back");
+    printing::put(b" and back");
 }
 
 // The walk from two bases: by its tests it is done, has cells, and reaches only offsets that fit.
@@ -222,13 +166,13 @@ fn walk_from(
         return put_refused(answer);
     }
     if layout::has_zero(shape, rank) {
-        return put(b" no cells\n");
+        return printing::put(b" no cells\n");
     }
     if !walk::covers(spans.source_low, spans.source_high, source_base) {
-        return put(b" out of reach\n");
+        return printing::put(b" out of reach\n");
     }
     if !walk::covers(spans.dest_low, spans.dest_high, dest_base) {
-        return put(b" out of reach\n");
+        return printing::put(b" out of reach\n");
     }
     let merged = replay::shape_of(axes);
     let rows = replay::rows_of(axes);
@@ -238,7 +182,7 @@ fn walk_from(
 }
 
 fn walk_window(extents: &[u64], sources: &[i64], dests: &[i64], source_base: i64, dest_base: i64) {
-    put(b"places over ");
+    printing::put(b"places over ");
     put_window(extents, sources, dests);
     let shape = layout::padded_extents(extents);
     let s = layout::padded_strides(sources);
@@ -257,24 +201,20 @@ fn walk_window(extents: &[u64], sources: &[i64], dests: &[i64], source_base: i64
     }
 }
 
-// What a walk refuses: resets, spans, the preceding merged axis, merged extents.
-fn refusals() {
+// Resets: negated, they must fit.
+fn resets() {
     reset(2, -4611686018427387904);
     reset(3, -4611686018427387904);
     reset(0, -9223372036854775808);
-    span(&[2, 2], &[4611686018427387904, 4611686018427387904]);
-    span(&[2, 2], &[4611686018427387904, -4611686018427387904]);
-    compile(&[2, 1], &[4611686018427387904, 0], &[1, 2]);
-    compile(&[2], &[4611686018427387904], &[1]);
-    compile(&[9223372036854775808], &[0], &[1]);
-    compile(&[9223372036854775808, 1], &[0, 0], &[1, 0]);
-    compile(&[2, 9223372036854775808], &[1, 0], &[1, 0]);
-    compile(&[4611686018427387904, 4], &[0, 0], &[0, 0]);
-    compile(&[4611686018427387904, 3], &[0, 0], &[0, 0]);
-    compile(&[4611686018427387904, 2], &[0, 0], &[0, 0]);
     compile(&[2], &[-4611686018427387904], &[1]);
     compile(&[3], &[-4611686018427387904], &[1]);
     compile(&[0], &[-9223372036854775808], &[1]);
+}
+
+// Spans keep two sums.
+fn spans() {
+    span(&[2, 2], &[4611686018427387904, 4611686018427387904]);
+    span(&[2, 2], &[4611686018427387904, -4611686018427387904]);
     compile(
         &[2, 2],
         &[4611686018427387904, 4611686018427387904],
@@ -287,25 +227,54 @@ fn refusals() {
     );
 }
 
-// Which axes merge, and the places of both sides one by one.
-fn walks() {
+// For each later axis, the preceding merged axis is tested, whether or not the two merge.
+fn predecessors() {
+    compile(&[2, 1], &[4611686018427387904, 0], &[1, 2]);
+    compile(&[2], &[4611686018427387904], &[1]);
+    compile(&[9223372036854775808], &[0], &[1]);
+    compile(&[9223372036854775808, 1], &[0, 0], &[1, 0]);
+    compile(&[2, 9223372036854775808], &[1, 0], &[1, 0]);
+}
+
+// Merged extents must fit u64, and their last coordinate i64.
+fn merged_extents() {
+    compile(&[4611686018427387904, 4], &[0, 0], &[0, 0]);
+    compile(&[4611686018427387904, 3], &[0, 0], &[0, 0]);
+    compile(&[4611686018427387904, 2], &[0, 0], &[0, 0]);
+}
+
+// Axes merge where both sides' steps go on.
+fn fusion() {
     compile(&[], &[], &[]);
     compile(&[2, 3], &[1, 2], &[1, 2]);
     compile(&[2, 3], &[1, 2], &[1, 4]);
     compile(&[2, 3, 2], &[1, 2, 10], &[4, 8, 1]);
     compile(&[2, 1, 3], &[1, 2, 2], &[3, 6, 6]);
     compile(&[2, 1, 3], &[1, 0, 2], &[3, 0, 6]);
-    walk_window(&[], &[], &[], 5, 7);
+}
+
+// Windows with merged axes, and without.
+fn windows() {
     walk_window(&[2, 3], &[1, 2], &[1, 2], 0, 0);
     walk_window(&[2, 3], &[1, 2], &[1, 4], 0, 100);
     walk_window(&[2, 3, 2], &[1, 2, 10], &[4, 8, 1], 0, 0);
     walk_window(&[2, 2, 2], &[1, 3, 9], &[-1, -2, -4], 0, 7);
     walk_window(&[3, 2], &[0, 0], &[2, -1], 4, 1);
+}
+
+// One cell, no cells, and a base from which the reach does not fit.
+fn edges() {
+    walk_window(&[], &[], &[], 5, 7);
     walk_window(&[2, 0, 3], &[1, 2, 3], &[1, 2, 3], 0, 0);
     walk_window(&[2], &[1], &[1], 9223372036854775807, 0);
 }
 
 fn main() {
-    refusals();
-    walks();
+    resets();
+    spans();
+    predecessors();
+    merged_extents();
+    fusion();
+    windows();
+    edges();
 }

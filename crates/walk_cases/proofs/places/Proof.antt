@@ -15,7 +15,7 @@ use Rattle.walk_cases.proofs.places.Reads as reads
 use Rattle.walk_cases.proofs.places.Lts as lts
 use Rattle.walk.proofs.start.Reads as start-reads
 use Rattle.walk.proofs.step.Reads as step-reads
-use Rattle.walk_cases.proofs.put.Reads as put-reads
+use Rattle.printing.proofs.put.Reads as put-reads
 use Rattle.walk_cases.proofs.put_place.Reads as put-place-reads
 
 abbrev Inv-loop : tie.InvT-loop

@@ -31,62 +31,62 @@ use Rattle.replay.proofs.shape_of.Reads as shape-of-reads
 use Rattle.walk.proofs.covers.Reads as covers-reads
 use Rattle.walk_cases.proofs.places.Reads as places-reads
 use Rattle.walk_cases.proofs.places_back.Reads as places-back-reads
-use Rattle.walk_cases.proofs.put.Reads as put-reads
+use Rattle.printing.proofs.put.Reads as put-reads
 use Rattle.walk_cases.proofs.put_refused.Reads as put-refused-reads
 
 compile-window-replay-requires : tie.Need-compile-window-replay-requires
-compile-window-replay-requires c κs = search needs
+compile-window-replay-requires c κs = tt
 
 is-done-requires : tie.Need-is-done-requires
-is-done-requires c κs = search needs
+is-done-requires c κs = tt
 
 put-refused-requires : tie.Need-put-refused-requires
-put-refused-requires c κs = search needs
+put-refused-requires c κs = tt
 
 returns : tie.Need-returns
-returns c = search needs
+returns c = tt
 
 has-zero-requires : tie.Need-has-zero-requires
-has-zero-requires c κs = search needs
+has-zero-requires c κs = tt
 
 slice-aggregate-put : tie.Need-slice-aggregate-put
 slice-aggregate-put c = search needs
 
 put-requires : tie.Need-put-requires
-put-requires c κs = search needs
+put-requires c κs = tt
 
 returns-2 : tie.Need-returns-2
-returns-2 c = search needs
+returns-2 c = tt
 
 covers-requires : tie.Need-covers-requires
-covers-requires c κs = search needs
+covers-requires c κs = tt
 
 slice-aggregate-put-2 : tie.Need-slice-aggregate-put-2
 slice-aggregate-put-2 c = search needs
 
 put-requires-2 : tie.Need-put-requires-2
-put-requires-2 c κs = search needs
+put-requires-2 c κs = tt
 
 returns-3 : tie.Need-returns-3
-returns-3 c = search needs
+returns-3 c = tt
 
 covers-requires-2 : tie.Need-covers-requires-2
-covers-requires-2 c κs = search needs
+covers-requires-2 c κs = tt
 
 slice-aggregate-put-3 : tie.Need-slice-aggregate-put-3
 slice-aggregate-put-3 c = search needs
 
 put-requires-3 : tie.Need-put-requires-3
-put-requires-3 c κs = search needs
+put-requires-3 c κs = tt
 
 returns-4 : tie.Need-returns-4
-returns-4 c = search needs
+returns-4 c = tt
 
 shape-of-requires : tie.Need-shape-of-requires
-shape-of-requires c κs = search needs
+shape-of-requires c κs = tt
 
 rows-of-requires : tie.Need-rows-of-requires
-rows-of-requires c κs = search needs
+rows-of-requires c κs = tt
 
 abbrev start : tie.After-rows-of → tie.Start
 start d = d .before .before .before .before .before .before .before .before .before .before .before .before .before .before .before .before .before .before
@@ -150,7 +150,7 @@ places-back-requires : tie.Need-places-back-requires
 places-back-requires c κs = known (c .before) .walk
 
 returns-5 : tie.Need-returns-5
-returns-5 c = search needs
+returns-5 c = tt
 
 pub walk-from-spec : {M : Type 1} → statement M
 walk-from-spec =
