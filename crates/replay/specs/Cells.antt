@@ -1,25 +1,20 @@
 -- How many cells a compiled walk has. A caller steps a walk only from a cell to a cell, so one without cells is not stepped and nothing of it is read; `hasZero` of the given extents tells. For lists of any length. Assumes nothing.
-use mathlib.Core.Path.{_≡_, refl, sym, ap, _∙_}
-use mathlib.Core.Bool.{Bool, true, false, _||_}
+use mathlib.Core.Path.{_≡_, refl, ap, _∙_}
+use mathlib.Core.Bool.{Bool, true, false}
 use mathlib.Core.List.{List, [], _∷_}
 use Prim.Native.Nat.{ℕ, zero, suc, _*_, _<_}
 use native.Mathlib.Nat.{zero-mul, mul-zero}
 use native.Mathlib.Omega.{arith}
 use borrow.Author.Tests.{ne-eqb}
 use lib.Dec.{eqb}
-use lib.ListN.{length}
 use lib.IntN.{ℤ}
 use Rattle.indexing.specs.Coordinates.{product}
 use Rattle.indexing.specs.Odometer.{AllPos}
 use Rattle.indexing.specs.Fusion.{product-pos}
 use Rattle.layout.specs.Nested.{hasZero}
-use Rattle.layout.specs.declared.Answer.the-variants as N
 use Rattle.replay.specs.declared.WindowReplayAxis.{WindowReplayAxis}
-use Rattle.replay.specs.Replays.{compiledReplay, extents}
-use Rattle.replay.specs.Merging.{Meets, IsDone, compiled-done}
-
-zero-ne : _≡_ {A = ℕ} 0 1 → ⊥
-zero-ne e = omega arith
+use Rattle.replay.specs.Replays.{extents}
+use Rattle.replay.specs.Merging.{Meets}
 
 not-zero : (d : ℕ) → eqb (suc d) 0 ≡ false
 not-zero d = ne-eqb (suc d) 0 (λ e. omega arith)
@@ -27,7 +22,7 @@ not-zero d = ne-eqb (suc d) 0 (λ e. omega arith)
 -- some extent is 0: there is no cell
 pub no-cells : (ds : List ℕ) → hasZero ds ≡ true → product ds ≡ 0
 unfolding hasZero product
-no-cells [] h = let z : _≡_ {A = ℕ} 0 1 = cc in absurd (zero-ne z)
+no-cells [] h = let z : _≡_ {A = ℕ} 0 1 = cc in absurd (omega arith)
 no-cells (zero ∷ ds) h = zero-mul (product ds)
 no-cells (suc d ∷ ds) h = ap (λ (n : ℕ). suc d * n) (no-cells ds (rw (not-zero d) at h)) ∙ mul-zero (suc d)
 
@@ -35,7 +30,7 @@ no-cells (suc d ∷ ds) h = ap (λ (n : ℕ). suc d * n) (no-cells ds (rw (not-z
 pub all-cells : (ds : List ℕ) → hasZero ds ≡ false → AllPos ds
 unfolding hasZero AllPos
 all-cells [] h = tt
-all-cells (zero ∷ ds) h = let z : _≡_ {A = ℕ} 0 1 = cc in absurd (zero-ne z)
+all-cells (zero ∷ ds) h = let z : _≡_ {A = ℕ} 0 1 = cc in absurd (omega arith)
 all-cells (suc d ∷ ds) h = (omega arith, all-cells ds (rw (not-zero d) at h))
 
 -- so the product tells which

@@ -32,7 +32,6 @@ use Rattle.replay.specs.declared.CheckedAxis.{CheckedAxis}
 use Rattle.replay.specs.declared.CheckedAxis.the-variants as A
 use Rattle.replay.specs.declared.JoinedAxis.{JoinedAxis}
 use Rattle.replay.specs.declared.JoinedAxis.the-variants as J
-use Rattle.replay.specs.declared.CompiledReplay.{CompiledReplay}
 use Rattle.replay.specs.Replays.{sameZ, axisAfter, theAxis, axisOf, joinAfter, joinAfterU, asMerged, asApart, past, joinOf, Merged, refused, merged, follow, mergedBy, firstBy, fuseFrom, fused, noAxis, theSpans, doneReplay, afterSpans, compiledBy, compiledReplay, extents, sources, dests}
 
 -- ---- one side: the offsets and the spans of steps zs over extents es are those of strides ss over extents ds

@@ -1,5 +1,5 @@
 -- The walk of a window over two sides, source and destination (000, `WindowReplay`): document 01's refusals of a walk, and the merged axes. Definitions only.
-use mathlib.Core.Bool.{Bool, true, false, cond, _&&_}
+use mathlib.Core.Bool.{Bool, false, cond, _&&_}
 use mathlib.Core.List.{List, [], _∷_, map}
 use Prim.Native.Nat.{ℕ, _*_}
 use lib.Dec.{eqb}

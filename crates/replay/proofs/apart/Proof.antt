@@ -1,4 +1,4 @@
-use mathlib.Core.Path.{_≡_, refl, sym, ap, ap₂, subst, _∙_}
+use mathlib.Core.Path.{ap, ap₂, _∙_}
 use Rattle.integer.specs.Z.{back}
 use Rattle.replay.specs.Replays.{axisOf, asApart}
 use borrow.Author.Needs.{needs}

@@ -1,4 +1,3 @@
-use mathlib.Core.Path.{_≡_, refl, sym, ap, ap₂, subst, _∙_}
 use borrow.Author.Needs.{needs}
 use Rattle.replay.proofs.as_apart.Statement.{statement}
 use Rattle.replay.proofs.as_apart.Tie as tie

@@ -7,7 +7,7 @@ use borrow.Author.Needs.{sfits-of}
 use borrow.Author.Tests.{not-true, not-false}
 use Rattle.integer.specs.Z.{back}
 use Rattle.integer.specs.Defs.{checkedU}
-use Rattle.replay.specs.Replays.{sameZ, axisOf, joinAfterU, asMerged, asApart, past, joinOf}
+use Rattle.replay.specs.Replays.{sameZ, axisOf, joinAfterU, asMerged, asApart, past}
 use Rattle.replay.proofs.Joins.{join-over, join-over2, join-merge, join-apart, join-apart2}
 use borrow.Author.Needs.{needs}
 use Rattle.replay.proofs.join.Statement.{statement}

@@ -1,4 +1,4 @@
-use mathlib.Core.Path.{_≡_, refl, sym, ap, ap₂, subst, _∙_}
+use mathlib.Core.Path.{sym, ap, ap₂, _∙_}
 use Rattle.integer.specs.Z.{back}
 use Rattle.integer.specs.declared.CheckedU.{CheckedU}
 use Rattle.replay.specs.Replays.{axisOf, joinAfterU, asMerged}

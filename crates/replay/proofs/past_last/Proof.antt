@@ -1,9 +1,8 @@
-use mathlib.Core.Path.{_≡_, refl, sym, ap, ap₂, subst, _∙_}
-use lib.IntN.{ℤ, pos, _*ℤ_}
+use mathlib.Core.Path.{ap₂, _∙_}
+use lib.IntN.{ℤ, _*ℤ_}
 use Rattle.integer.specs.Z.{back}
-use Rattle.integer.specs.Defs.{checked, checkedU}
+use Rattle.integer.specs.Defs.{checked}
 use Rattle.integer.specs.declared.Checked.{Checked}
-use Rattle.integer.specs.declared.Checked.the-variants as C
 use Rattle.layout.specs.Spans.{andThen}
 use Rattle.replay.specs.Replays.{past}
 use borrow.Author.Needs.{needs}

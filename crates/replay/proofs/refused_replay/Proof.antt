@@ -1,4 +1,3 @@
-use mathlib.Core.Path.{_≡_, refl, sym, ap, ap₂, subst, _∙_}
 use lib.ListN.{replicate}
 use lib.IntN.{pos}
 use Rattle.layout.specs.Layouts.{rankLimit}

@@ -1,13 +1,13 @@
 use mathlib.Core.Path.{_≡_, refl, sym, ap₂, _∙_}
-use mathlib.Core.List.{List, [], _∷_, _++_}
+use mathlib.Core.List.{List, _++_}
 use Prim.Native.Nat.{ℕ, _-_, _≤_, zero-le}
 use native.Mathlib.Omega.{arith}
-use lib.ListN.{length, take, getD, set, replicate, length-map, List·getD-map}
+use lib.ListN.{length, take, set, replicate, length-map, List·getD-map}
 use lib.IntN.{pos}
 use Rattle.layout.specs.Layouts.{rankLimit}
 use Rattle.layout.proofs.Fill.{fill-one}
 use Rattle.replay.specs.declared.WindowReplayAxis.{WindowReplayAxis}
-use Rattle.replay.specs.Replays.{theAxis, extents, rowOf, rowsOf}
+use Rattle.replay.specs.Replays.{theAxis, extents}
 use Rattle.replay.proofs.Fill.{fill-done}
 use borrow.Author.Needs.{needs}
 use Rattle.replay.proofs.shape_of.Statement.{statement}

@@ -1,12 +1,8 @@
-use mathlib.Core.Path.{_≡_, _∙_}
-use Prim.Native.Nat.{_≤_, _-_}
-use native.Mathlib.Omega.{arith}
-use lib.ListN.{length}
+use Prim.Native.Nat.{_≤_}
 use mir.Syntax.{w64}
 use mir.Val.{toZ, ofZ}
 use borrow.Author.Needs.{needs}
 use Rattle.integer.specs.Z.{back}
-use Rattle.layout.specs.Layouts.{rankLimit}
 use Rattle.walk.specs.Walks.{Walk}
 use Rattle.walk_cases.proofs.places_back.Statement.{statement}
 use Rattle.walk_cases.proofs.places_back.Tie as tie

@@ -1,8 +1,7 @@
 use mathlib.Core.Path.{_≡_, sym, ap, ap₂, _∙_}
-use Prim.Native.Nat.{_≤_, min}
-use mathlib.Core.Bool.{true, false}
+use mathlib.Core.Bool.{true}
 use mathlib.Core.List.{List}
-use Prim.Native.Nat.{ℕ}
+use Prim.Native.Nat.{ℕ, _≤_}
 use native.Mathlib.Omega.{arith}
 use lib.ListN.{length, take, length-take}
 use lib.IntN.{ℤ}
@@ -14,9 +13,8 @@ use Rattle.layout.specs.Layouts.{rankLimit}
 use Rattle.layout.specs.declared.Answer.the-variants as N
 use Rattle.layout.proofs.First.{done-is}
 use Rattle.replay.specs.declared.CompiledReplay.{CompiledReplay}
-use Rattle.replay.specs.Replays.{compiledReplay}
 use Rattle.replay.specs.Cells.{all-cells}
-use Rattle.walk.specs.Walks.{Walk, coversOf}
+use Rattle.walk.specs.Walks.{coversOf}
 use Rattle.walk.specs.Walking.{Ready, Walking, walking, spans-cover}
 use borrow.Author.Needs.{needs}
 use Rattle.walk_cases.proofs.walk_from.Statement.{statement}
