@@ -201,53 +201,55 @@ fn walk_window(extents: &[u64], sources: &[i64], dests: &[i64], source_base: i64
     }
 }
 
+// The walk of one axis: its extent, and the source's and the destination's stride.
+fn one(extent: u64, source: i64, dest: i64) {
+    compile(&[extent], &[source], &[dest]);
+}
+
+// The walk of two axes, the same of each.
+fn two(extent: u64, source: i64, dest: i64, extent2: u64, source2: i64, dest2: i64) {
+    compile(&[extent, extent2], &[source, source2], &[dest, dest2]);
+}
+
 // Resets: negated, they must fit.
 fn resets() {
     reset(2, -4611686018427387904);
     reset(3, -4611686018427387904);
     reset(0, -9223372036854775808);
-    compile(&[2], &[-4611686018427387904], &[1]);
-    compile(&[3], &[-4611686018427387904], &[1]);
-    compile(&[0], &[-9223372036854775808], &[1]);
+    one(2, -4611686018427387904, 1);
+    one(3, -4611686018427387904, 1);
+    one(0, -9223372036854775808, 1);
 }
 
 // Spans keep two sums.
 fn spans() {
     span(&[2, 2], &[4611686018427387904, 4611686018427387904]);
     span(&[2, 2], &[4611686018427387904, -4611686018427387904]);
-    compile(
-        &[2, 2],
-        &[4611686018427387904, 4611686018427387904],
-        &[1, 2],
-    );
-    compile(
-        &[2, 2],
-        &[4611686018427387904, -4611686018427387904],
-        &[1, 2],
-    );
+    two(2, 4611686018427387904, 1, 2, 4611686018427387904, 2);
+    two(2, 4611686018427387904, 1, 2, -4611686018427387904, 2);
 }
 
 // For each later axis, the preceding merged axis is tested, whether or not the two merge.
 fn predecessors() {
-    compile(&[2, 1], &[4611686018427387904, 0], &[1, 2]);
-    compile(&[2], &[4611686018427387904], &[1]);
-    compile(&[9223372036854775808], &[0], &[1]);
-    compile(&[9223372036854775808, 1], &[0, 0], &[1, 0]);
-    compile(&[2, 9223372036854775808], &[1, 0], &[1, 0]);
+    two(2, 4611686018427387904, 1, 1, 0, 2);
+    one(2, 4611686018427387904, 1);
+    one(9223372036854775808, 0, 1);
+    two(9223372036854775808, 0, 1, 1, 0, 0);
+    two(2, 1, 1, 9223372036854775808, 0, 0);
 }
 
 // Merged extents must fit u64, and their last coordinate i64.
 fn merged_extents() {
-    compile(&[4611686018427387904, 4], &[0, 0], &[0, 0]);
-    compile(&[4611686018427387904, 3], &[0, 0], &[0, 0]);
-    compile(&[4611686018427387904, 2], &[0, 0], &[0, 0]);
+    two(4611686018427387904, 0, 0, 4, 0, 0);
+    two(4611686018427387904, 0, 0, 3, 0, 0);
+    two(4611686018427387904, 0, 0, 2, 0, 0);
 }
 
 // Axes merge where both sides' steps go on.
 fn fusion() {
     compile(&[], &[], &[]);
-    compile(&[2, 3], &[1, 2], &[1, 2]);
-    compile(&[2, 3], &[1, 2], &[1, 4]);
+    two(2, 1, 1, 3, 2, 2);
+    two(2, 1, 1, 3, 2, 4);
     compile(&[2, 3, 2], &[1, 2, 10], &[4, 8, 1]);
     compile(&[2, 1, 3], &[1, 2, 2], &[3, 6, 6]);
     compile(&[2, 1, 3], &[1, 0, 2], &[3, 0, 6]);
