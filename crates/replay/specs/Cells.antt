@@ -1,4 +1,4 @@
--- How many cells a compiled walk has. A caller steps a walk only from a cell to a cell, so one without cells is not stepped and nothing of it is read; `hasZero` of the given extents tells. For lists of any length. Assumes nothing.
+-- How many cells a compiled walk has. The rule for callers: a walk is stepped only from cell to cell, so a window without cells, which is one with an extent of 0, is compiled and never walked, and nothing of it is read. For lists of any length. Assumes nothing.
 use mathlib.Core.Path.{_≡_, refl, ap, _∙_}
 use mathlib.Core.Bool.{Bool, true, false}
 use mathlib.Core.List.{List, [], _∷_}

@@ -79,15 +79,18 @@ pub data Merged : Type 0 where
   refused : Merged
   merged : List WindowReplayAxis → Merged
 
+-- p before the axes that follow it
 abbrev pub follow : WindowReplayAxis → Merged → Merged
 follow p refused = refused
 follow p (merged l) = merged (p ∷ l)
 
+-- the axes from p on, where the next axis is merged into it or stands apart
 abbrev pub mergedBy : WindowReplayAxis → JoinedAxis → (WindowReplayAxis → Merged) → Merged
 mergedBy p (J.Merged q) f = f q
 mergedBy p (J.Apart q) f = follow p (f q)
 mergedBy p J.Overflow f = refused
 
+-- the axes from the first on
 abbrev pub firstBy : CheckedAxis → (WindowReplayAxis → Merged) → Merged
 firstBy (A.Fits p) f = f p
 firstBy A.Overflow f = refused
@@ -99,6 +102,7 @@ fuseFrom p (d ∷ ds) [] ts = merged (p ∷ [])
 fuseFrom p (d ∷ ds) (s ∷ ss) [] = merged (p ∷ [])
 fuseFrom p (d ∷ ds) (s ∷ ss) (t ∷ ts) = mergedBy p (joinOf p d s t) (λ q. fuseFrom q ds ss ts)
 
+-- the axes from the front
 unfoldable pub fused : List ℕ → List ℤ → List ℤ → Merged
 fused [] ss ts = merged []
 fused (d ∷ ds) [] ts = merged []
@@ -119,6 +123,7 @@ doneReplay n axes spans = record { answer = N.Done; replay = record { rank = n; 
 abbrev pub refusedReplay : CompiledReplay
 refusedReplay = record { answer = N.OffsetOverflow; replay = record { rank = 0; axes = replicate rankLimit noAxis; spans = theSpans (pos 0) (pos 0) (pos 0) (pos 0) } }
 
+-- the merged axes, or the refusal, with these spans
 abbrev pub compiledBy : Merged → ReplaySpans → CompiledReplay
 compiledBy refused spans = refusedReplay
 compiledBy (merged l) spans = doneReplay (length l) (padded rankLimit noAxis l) spans
