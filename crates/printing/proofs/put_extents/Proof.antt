@@ -1,8 +1,14 @@
 use Prim.Native.Nat.{_≤_, _-_}
 use borrow.Author.Needs.{needs}
 use lib.ListN.{length}
-use Rattle.harbour_cases.proofs.put_extents.Statement.{statement}
-use Rattle.harbour_cases.proofs.put_extents.Tie as tie
+use Rattle.printing.proofs.put_extents.Statement.{statement}
+use Rattle.printing.proofs.put_extents.Tie as tie
+use Rattle.printing.proofs.put_extents.Reads as reads
+use Rattle.printing.proofs.put_extents.Lts as lts
+use Rattle.printing.proofs.close_list.Reads as close-list-reads
+use Rattle.printing.proofs.open_list.Reads as open-list-reads
+use Rattle.printing.proofs.put_u64.Reads as put-u64-reads
+use Rattle.printing.proofs.separate.Reads as separate-reads
 
 abbrev Inv-loop : tie.InvT-loop
 Inv-loop extents i₀ i = i ≤ length extents
@@ -10,47 +16,36 @@ Inv-loop extents i₀ i = i ≤ length extents
 abbrev μ-loop : tie.MeasureT-loop
 μ-loop extents i₀ i = length extents - i
 
--- src/main.rt:40:5
 open-list-requires : tie.Need-open-list-requires Inv-loop μ-loop
 open-list-requires c κs = search needs
 
--- src/main.rt:42:5
 loop-holds : tie.Need-loop-holds Inv-loop μ-loop
 loop-holds c = search needs
 
--- src/main.rt:43:9
 separate-requires : tie.Need-separate-requires Inv-loop μ-loop
 separate-requires c κs = search needs
 
--- src/main.rt:44:17
 mul-put-u64 : tie.Need-mul-put-u64 Inv-loop μ-loop
 mul-put-u64 c = search needs
 
--- src/main.rt:44:17
 shared-slice-read-put-u64 : tie.Need-shared-slice-read-put-u64 Inv-loop μ-loop
 shared-slice-read-put-u64 c = search needs
 
--- src/main.rt:44:9
 put-u64-requires : tie.Need-put-u64-requires Inv-loop μ-loop
 put-u64-requires c κs = search needs
 
--- src/main.rt:45:9
 add-i : tie.Need-add-i Inv-loop μ-loop
 add-i c = search needs
 
--- src/main.rt:42:5
 loop-less : tie.Need-loop-less Inv-loop μ-loop
 loop-less c = search needs
 
--- src/main.rt:42:5
 loop-again : tie.Need-loop-again Inv-loop μ-loop
 loop-again c = search needs
 
--- src/main.rt:47:5
 close-list-requires : tie.Need-close-list-requires Inv-loop μ-loop
 close-list-requires c κs = search needs
 
--- src/main.rt:39:1
 returns : tie.Need-returns Inv-loop μ-loop
 returns c = search needs
 

@@ -1,8 +1,14 @@
 use Prim.Native.Nat.{_≤_, _-_}
 use borrow.Author.Needs.{needs}
 use lib.ListN.{length}
-use Rattle.harbour_cases.proofs.put_strides.Statement.{statement}
-use Rattle.harbour_cases.proofs.put_strides.Tie as tie
+use Rattle.printing.proofs.put_strides.Statement.{statement}
+use Rattle.printing.proofs.put_strides.Tie as tie
+use Rattle.printing.proofs.put_strides.Reads as reads
+use Rattle.printing.proofs.put_strides.Lts as lts
+use Rattle.printing.proofs.close_list.Reads as close-list-reads
+use Rattle.printing.proofs.open_list.Reads as open-list-reads
+use Rattle.printing.proofs.put_i64.Reads as put-i64-reads
+use Rattle.printing.proofs.separate.Reads as separate-reads
 
 abbrev Inv-loop : tie.InvT-loop
 Inv-loop strides i₀ i = i ≤ length strides
@@ -10,47 +16,36 @@ Inv-loop strides i₀ i = i ≤ length strides
 abbrev μ-loop : tie.MeasureT-loop
 μ-loop strides i₀ i = length strides - i
 
--- src/main.rt:51:5
 open-list-requires : tie.Need-open-list-requires Inv-loop μ-loop
 open-list-requires c κs = search needs
 
--- src/main.rt:53:5
 loop-holds : tie.Need-loop-holds Inv-loop μ-loop
 loop-holds c = search needs
 
--- src/main.rt:54:9
 separate-requires : tie.Need-separate-requires Inv-loop μ-loop
 separate-requires c κs = search needs
 
--- src/main.rt:55:17
 mul-put-i64 : tie.Need-mul-put-i64 Inv-loop μ-loop
 mul-put-i64 c = search needs
 
--- src/main.rt:55:17
 shared-slice-copy-out-put-i64 : tie.Need-shared-slice-copy-out-put-i64 Inv-loop μ-loop
 shared-slice-copy-out-put-i64 c = search needs
 
--- src/main.rt:55:9
 put-i64-requires : tie.Need-put-i64-requires Inv-loop μ-loop
 put-i64-requires c κs = search needs
 
--- src/main.rt:56:9
 add-i : tie.Need-add-i Inv-loop μ-loop
 add-i c = search needs
 
--- src/main.rt:53:5
 loop-less : tie.Need-loop-less Inv-loop μ-loop
 loop-less c = search needs
 
--- src/main.rt:53:5
 loop-again : tie.Need-loop-again Inv-loop μ-loop
 loop-again c = search needs
 
--- src/main.rt:58:5
 close-list-requires : tie.Need-close-list-requires Inv-loop μ-loop
 close-list-requires c κs = search needs
 
--- src/main.rt:50:1
 returns : tie.Need-returns Inv-loop μ-loop
 returns c = search needs
 

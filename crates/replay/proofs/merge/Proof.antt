@@ -1,0 +1,54 @@
+use mathlib.Core.Path.{sym, ap, ap₂, _∙_}
+use Rattle.integer.specs.Z.{back}
+use Rattle.integer.specs.declared.CheckedU.{CheckedU}
+use Rattle.replay.specs.Replays.{axisOf, joinAfterU, asMerged}
+use borrow.Author.Needs.{needs}
+use Rattle.replay.proofs.merge.Statement.{statement}
+use Rattle.replay.proofs.merge.Tie as tie
+use Rattle.replay.proofs.merge.Reads as reads
+use Rattle.replay.proofs.merge.Lts as lts
+use Rattle.integer.proofs.checked_mul_u64.Reads as checked-mul-u64-reads
+use Rattle.replay.proofs.as_merged.Reads as as-merged-reads
+use Rattle.replay.proofs.make_axis.Reads as make-axis-reads
+
+checked-mul-u64-requires : tie.Need-checked-mul-u64-requires
+checked-mul-u64-requires c κs = search needs
+
+enum-known-size : tie.Need-enum-known-size
+enum-known-size c = search needs
+
+make-axis-requires : tie.Need-make-axis-requires
+make-axis-requires c κs = search needs
+
+as-merged-requires : tie.Need-as-merged-requires
+as-merged-requires c κs = search needs
+
+enum-told : tie.Need-enum-told
+enum-told c = search needs
+
+returns : tie.Need-returns
+returns c =
+    let k = c .before .before in
+    let m = k .before .before .before in
+    let s = m .before in
+    let n = k .before .size .given .0 .0 in
+    c .as-merged .ensures ∙ ap asMerged (c .before .make-axis .ensures ∙ ap₂ (axisOf n) (back (s .fits .source)) (back (s .fits .dest)))
+    ∙ sym (ap (λ (x : CheckedU). joinAfterU x (λ n. asMerged (axisOf n (s .args .source) (s .args .dest)))) (sym (m .checked-mul-u64 .ensures) ∙ k .before .size .given .1))
+
+returns-2 : tie.Need-returns-2
+returns-2 c =
+    let m = c .before .before in
+    let s = m .before in
+    sym (ap (λ (x : CheckedU). joinAfterU x (λ n. asMerged (axisOf n (s .args .source) (s .args .dest)))) (sym (m .checked-mul-u64 .ensures) ∙ c .enum-told .given .1))
+
+pub merge-spec : {M : Type 1} → statement M
+merge-spec =
+    tie.close
+    (tie.spec
+    checked-mul-u64-requires
+    enum-known-size
+    make-axis-requires
+    as-merged-requires
+    enum-told
+    returns
+    returns-2)

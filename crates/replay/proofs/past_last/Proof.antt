@@ -1,0 +1,29 @@
+use mathlib.Core.Path.{ap₂, _∙_}
+use lib.IntN.{ℤ, _*ℤ_}
+use Rattle.integer.specs.Z.{back}
+use Rattle.integer.specs.Defs.{checked}
+use Rattle.integer.specs.declared.Checked.{Checked}
+use Rattle.layout.specs.Spans.{andThen}
+use Rattle.replay.specs.Replays.{past}
+use borrow.Author.Needs.{needs}
+use Rattle.replay.proofs.past_last.Statement.{statement}
+use Rattle.replay.proofs.past_last.Tie as tie
+use Rattle.replay.proofs.past_last.Reads as reads
+use Rattle.replay.proofs.past_last.Lts as lts
+use Rattle.integer.proofs.u64_to_i64.Reads as u64-to-i64-reads
+use Rattle.layout.proofs.scaled.Reads as scaled-reads
+
+u64-to-i64-requires : tie.Need-u64-to-i64-requires
+u64-to-i64-requires c κs = search needs
+
+scaled-requires : tie.Need-scaled-requires
+scaled-requires c κs = search needs
+
+returns : tie.Need-returns
+unfolding past
+returns c =
+    let s = c .before .before in
+    c .scaled .ensures ∙ ap₂ (λ (x : Checked) (t : ℤ). andThen x (λ m. checked (t *ℤ m))) (c .before .u64-to-i64 .ensures) (back (s .fits .step))
+
+pub past-last-spec : {M : Type 1} → statement M
+past-last-spec = tie.close (tie.spec u64-to-i64-requires scaled-requires returns)

@@ -1,0 +1,20 @@
+use lib.ListN.{replicate}
+use lib.IntN.{pos}
+use Rattle.layout.specs.Layouts.{rankLimit}
+use Rattle.layout.specs.declared.Answer.the-variants as N
+use Rattle.replay.specs.Replays.{theSpans}
+use borrow.Author.Needs.{needs}
+use Rattle.replay.proofs.refused_replay.Statement.{statement}
+use Rattle.replay.proofs.refused_replay.Tie as tie
+use Rattle.replay.proofs.refused_replay.Reads as reads
+use Rattle.replay.proofs.refused_replay.Lts as lts
+use Rattle.replay.proofs.no_axis.Reads as no-axis-reads
+
+no-axis-requires : tie.Need-no-axis-requires
+no-axis-requires c κs = search needs
+
+returns : tie.Need-returns
+returns c = λ ι. record { answer = N.OffsetOverflow; replay = record { rank = 0; axes = replicate rankLimit (c .no-axis .ensures ι); spans = theSpans (pos 0) (pos 0) (pos 0) (pos 0) } }
+
+pub refused-replay-spec : {M : Type 1} → statement M
+refused-replay-spec = tie.close (tie.spec no-axis-requires returns)

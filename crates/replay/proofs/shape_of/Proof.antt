@@ -1,0 +1,74 @@
+use mathlib.Core.Path.{_≡_, refl, sym, ap₂, _∙_}
+use mathlib.Core.List.{List, _++_}
+use Prim.Native.Nat.{ℕ, _-_, _≤_, zero-le}
+use native.Mathlib.Omega.{arith}
+use lib.ListN.{length, take, set, replicate, length-map, List·getD-map}
+use lib.IntN.{pos}
+use Rattle.layout.specs.Layouts.{rankLimit}
+use Rattle.layout.proofs.Fill.{fill-one}
+use Rattle.replay.specs.declared.WindowReplayAxis.{WindowReplayAxis}
+use Rattle.replay.specs.Replays.{theAxis, extents}
+use Rattle.replay.proofs.Fill.{fill-done}
+use borrow.Author.Needs.{needs}
+use Rattle.replay.proofs.shape_of.Statement.{statement}
+use Rattle.replay.proofs.shape_of.Tie as tie
+use Rattle.replay.proofs.shape_of.Reads as reads
+use Rattle.replay.proofs.shape_of.Lts as lts
+
+abbrev Inv-loop : tie.InvT-loop
+Inv-loop axes out₀ i₀ out i = (i ≤ rankLimit) × (out ≡ take i (extents axes) ++ replicate (rankLimit - i) 0)
+
+abbrev μ-loop : tie.MeasureT-loop
+μ-loop axes out₀ i₀ out i = rankLimit - i
+
+loop-holds : tie.Need-loop-holds Inv-loop μ-loop
+loop-holds c = (zero-le, refl)
+
+mul-a : tie.Need-mul-a Inv-loop μ-loop
+mul-a c = search needs
+
+array-copy-out-a : tie.Need-array-copy-out-a Inv-loop μ-loop
+array-copy-out-a c = search needs
+
+mul-out : tie.Need-mul-out Inv-loop μ-loop
+mul-out c = search needs
+
+array-write-out : tie.Need-array-write-out Inv-loop μ-loop
+array-write-out c = search needs
+
+add-i : tie.Need-add-i Inv-loop μ-loop
+add-i c = search needs
+
+loop-less : tie.Need-loop-less Inv-loop μ-loop
+loop-less c = search needs
+
+loop-again : tie.Need-loop-again Inv-loop μ-loop
+loop-again c =
+    let l = c .before .before in
+    let s = l .before in
+    let h : length (s .args .t1) ≡ rankLimit = search needs in (
+      search needs,
+      ap₂ (λ (o : List ℕ) (x : ℕ). set o (l .loop .i) x) (l .loop .inv .1) (sym (List·getD-map (λ (a : WindowReplayAxis). a .extent) (s .args .t1) (l .loop .i) (theAxis 0 (pos 0) (pos 0) (pos 0) (pos 0))))
+          ∙ fill-one rankLimit 0 0 (extents (s .args .t1)) (l .loop .i) (omega arith) (rw length-map (omega arith)),
+    )
+
+returns : tie.Need-returns Inv-loop μ-loop
+returns c =
+    let h : length (c .before .before .args .t1) ≡ rankLimit = search needs in
+    c .before .loop .inv .1 ∙ fill-done rankLimit 0 (extents (c .before .before .args .t1)) (c .before .loop .i) (rw length-map h) (omega arith) (omega arith)
+
+pub shape-of-spec : {M : Type 1} → statement M
+shape-of-spec =
+    tie.close
+    (tie.spec
+    Inv-loop
+    μ-loop
+    loop-holds
+    mul-a
+    array-copy-out-a
+    mul-out
+    array-write-out
+    add-i
+    loop-less
+    loop-again
+    returns)
