@@ -5,6 +5,7 @@ root=$(dirname -- "$here")
 original=$(dirname -- "$root")/shared/docs/src/strided-basic/src/gather_plan.rs
 bin=$root/target/differential/release
 work=$root/target/differential/work
+archive=$root/target/staticlib/libstrided.a
 
 say() { printf '%s\n' "$*" >&2; }
 
@@ -46,10 +47,16 @@ build_oracle() {
     (cd "$here/rust/oracle" && cargo build --release --quiet --offline) >&2
 }
 
-# The static library is made where its crate exists and the archive does not.
+# Whether the archive is missing, or older than a source, a definition or crates.txt. A folder counts, for what was removed from it.
+archive_is_stale() {
+    [ ! -e "$archive" ] && return
+    [ -n "$(find "$root/crates.txt" "$root"/crates/*/src "$root"/crates/*/specs -newer "$archive" | head -n 1)" ]
+}
+
+# The static library is made, where its crate exists, before the driver that links it.
 build_port() {
     need_cargo
-    if [ -d "$root/crates/strided" ] && [ ! -e "$root/target/staticlib/libstrided.a" ]; then
+    if [ -d "$root/crates/strided" ] && archive_is_stale; then
         (cd "$root" && rt staticlib strided) >&2
     fi
     (cd "$here/rust" && cargo build --release --quiet --offline --locked -p port) >&2

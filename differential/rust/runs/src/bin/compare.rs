@@ -22,6 +22,8 @@ struct Counts {
     /// By gather or scatter, and by the check's place in the order.
     checks: BTreeMap<(bool, usize), (String, usize)>,
     outside: BTreeMap<&'static str, usize>,
+    /// What the second driver answered, by number.
+    port_numbers: BTreeMap<u64, usize>,
     not_in_port: usize,
     different: usize,
 }
@@ -103,6 +105,9 @@ impl Counts {
             self.not_in_port += 1;
             return;
         }
+        if let Some(number) = number_of(&answered.given[PORT]) {
+            *self.port_numbers.entry(number).or_default() += 1;
+        }
         self.note(answered, PORT, agrees);
     }
 
@@ -159,7 +164,21 @@ impl Counts {
         for (reason, count) in &self.outside {
             println!("  {reason}: {count}");
         }
+        println!("answered by {}:", self.names[PORT]);
+        for (number, count) in &self.port_numbers {
+            println!("  {number}: {count}");
+        }
         println!("not in the library yet: {}", self.not_in_port);
         println!("differences: {}", self.different);
     }
+}
+
+/// The N of `answer N a b ..`.
+fn number_of(given: &str) -> Option<u64> {
+    given
+        .strip_prefix("answer ")?
+        .split(' ')
+        .next()?
+        .parse()
+        .ok()
 }
