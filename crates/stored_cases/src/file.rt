@@ -5,19 +5,21 @@ pub fn open() -> i32 {
     os::open_read(b"cases.bin")
 }
 
-// Whether the file had bytes enough to fill this.
-pub fn fill(fd: i32, bytes: &mut [u8]) -> bool {
-    let got = io::read_full(fd, bytes);
-    got == bytes.len()
-}
-
-// The same for the first n.
+// Whether the file had bytes enough to fill the first n.
 pub fn fill_part(fd: i32, bytes: &mut [u8], n: usize) -> bool {
     if n > bytes.len() {
         return false;
     }
     let got = io::read_full(fd, &mut bytes[..n]);
     got == n
+}
+
+// Opens the file once more, past its header.
+pub fn open_at_cases() -> i32 {
+    let mut header = [0u8; 40];
+    let fd = open();
+    fill_part(fd, &mut header, 40);
+    fd
 }
 
 // Bytes that were read: how many, their sum, the sum of the sums after each, and whether they end here.
@@ -81,8 +83,4 @@ pub fn is_undamaged(fd: i32, header: &[u8]) -> bool {
         && rest.bytes == word(header, 16)
         && rest.sum == word(header, 24)
         && rest.sums == word(header, 32)
-}
-
-pub fn cases(header: &[u8]) -> u64 {
-    word(header, 8)
 }

@@ -12,7 +12,7 @@ fn wide(bytes: &[u8], i: usize) -> u64 {
     b as u64
 }
 
-// The word whose first byte, the least, is at this place.
+// The word of the eight bytes from this place on, the least first.
 pub fn word(bytes: &[u8], at: usize) -> u64 {
     if bytes.len() < 8 {
         return 0;
@@ -20,14 +20,13 @@ pub fn word(bytes: &[u8], at: usize) -> u64 {
     if bytes.len() - 8 < at {
         return 0;
     }
-    let low = wide(bytes, at) | wide(bytes, at + 1) << 8 | wide(bytes, at + 2) << 16;
-    let mid = wide(bytes, at + 3) << 24 | wide(bytes, at + 4) << 32 | wide(bytes, at + 5) << 40;
-    let high = wide(bytes, at + 6) << 48 | wide(bytes, at + 7) << 56;
-    low | mid | high
-}
-
-fn after_word(at: usize) -> usize {
-    if at < 4096 { at + 8 } else { at }
+    let mut n: u64 = 0;
+    let mut i: usize = 8;
+    while i > 0 {
+        i -= 1;
+        n = n << 8 | wide(bytes, at + i);
+    }
+    n
 }
 
 pub fn decode(bytes: &[u8], words: &mut [u64]) {
@@ -35,7 +34,9 @@ pub fn decode(bytes: &[u8], words: &mut [u64]) {
     let mut i: usize = 0;
     while i < words.len() {
         words[i] = word(bytes, at);
-        at = after_word(at);
+        if at < 4096 {
+            at += 8;
+        }
         i += 1;
     }
 }
@@ -59,18 +60,8 @@ pub fn decode_signed(words: &[u64], numbers: &mut [i64]) {
 
 // ---- the head
 
-// 1 or 2.
-fn kind(head: &[u8]) -> u8 {
-    byte(head, 0)
-}
-
 pub fn is_gather(head: &[u8]) -> bool {
-    kind(head) == 1
-}
-
-// i32, or else f64.
-fn is_i32(head: &[u8]) -> bool {
-    byte(head, 1) == 1
+    byte(head, 0) == 1
 }
 
 // The number of the stored answer.
@@ -92,24 +83,23 @@ fn list_count(head: &[u8], list: usize) -> usize
 
 // ---- the words
 
-fn word_at(words: &[u64], i: usize) -> u64 {
+// Places of words: after the three offsets the vector axis, then a and b of the stored answer.
+pub const VECTOR_AXIS: usize = 3;
+
+pub const A: usize = 4;
+
+pub const B: usize = 5;
+
+pub fn word_at(words: &[u64], i: usize) -> u64 {
     if i < words.len() { words[i] } else { 0 }
 }
 
-pub fn vector_axis(words: &[u64]) -> u64 {
-    word_at(words, 3)
-}
-
-// a and b of the stored answer.
-pub fn first_number(words: &[u64]) -> u64 {
-    word_at(words, 4)
-}
-
-pub fn second_number(words: &[u64]) -> u64 {
-    word_at(words, 5)
-}
-
 // ---- the lists
+
+// Places of lists: the destination's contents before and after the call.
+pub const DEST: usize = 18;
+
+pub const DEST_AFTER: usize = 19;
 
 fn lists_before(place: usize) -> usize
     ensures { λ r. ⌜ r ≤ 20 ⌝ }
@@ -160,15 +150,6 @@ pub fn signed_list<'a>(numbers: &'a [i64], head: &[u8], place: usize) -> &'a [i6
     }
 }
 
-pub fn dest<'a>(words: &'a [u64], head: &[u8]) -> &'a [u64] {
-    list(words, head, 18)
-}
-
-// The destination after the call.
-pub fn dest_after<'a>(words: &'a [u64], head: &[u8]) -> &'a [u64] {
-    list(words, head, 19)
-}
-
 pub fn same(a: &[u64], b: &[u64]) -> bool {
     if a.len() != b.len() {
         return false;
@@ -185,12 +166,10 @@ pub fn same(a: &[u64], b: &[u64]) -> bool {
 
 // ---- whether it is a case
 
-fn is_one_or_two(b: u8) -> bool {
-    b == 1 || b == 2
-}
-
 fn is_head(head: &[u8]) -> bool {
-    is_one_or_two(byte(head, 0)) && is_one_or_two(byte(head, 1)) && byte(head, 5) <= 10
+    let kind = byte(head, 0);
+    let element = byte(head, 1);
+    (kind == 1 || kind == 2) && (element == 1 || element == 2) && byte(head, 5) <= 10
 }
 
 // A view of the call has a layout of its own, or none: two empty lists.
@@ -209,14 +188,11 @@ fn are_own_layouts(head: &[u8]) -> bool {
         && is_own_layout(head, 4, 14, 15)
 }
 
-fn is_i32_number(n: i64) -> bool {
-    -2147483648 <= n && n <= 2147483647
-}
-
 fn are_i32(numbers: &[i64]) -> bool {
     let mut i: usize = 0;
     while i < numbers.len() {
-        if !is_i32_number(numbers[i]) {
+        let n = numbers[i];
+        if n < -2147483648 || n > 2147483647 {
             return false;
         }
         i += 1;
@@ -224,19 +200,15 @@ fn are_i32(numbers: &[i64]) -> bool {
     true
 }
 
-// The gather's operand or the scatter's updates.
-fn source_place(head: &[u8]) -> usize {
-    if is_gather(head) { 16 } else { 17 }
-}
-
+// An f64 may have any bits.
 fn are_elements(head: &[u8], numbers: &[i64]) -> bool {
-    if is_i32(head) {
-        are_i32(signed_list(numbers, head, source_place(head)))
-            && are_i32(signed_list(numbers, head, 18))
-            && are_i32(signed_list(numbers, head, 19))
-    } else {
-        true
+    if byte(head, 1) == 2 {
+        return true;
     }
+    let source = if is_gather(head) { 16 } else { 17 };
+    are_i32(signed_list(numbers, head, source))
+        && are_i32(signed_list(numbers, head, DEST))
+        && are_i32(signed_list(numbers, head, DEST_AFTER))
 }
 
 // Whether every field has a listed value.

@@ -13,14 +13,11 @@ abbrev μ-loop : tie.MeasureT-loop
 loop-holds : tie.Need-loop-holds Inv-loop μ-loop
 loop-holds c = tt
 
-mul-is-i32-number : tie.Need-mul-is-i32-number Inv-loop μ-loop
-mul-is-i32-number c = omega arith
+mul-n : tie.Need-mul-n Inv-loop μ-loop
+mul-n c = omega arith
 
-shared-slice-copy-out-is-i32-number : tie.Need-shared-slice-copy-out-is-i32-number Inv-loop μ-loop
-shared-slice-copy-out-is-i32-number c = omega arith
-
-is-i32-number-requires : tie.Need-is-i32-number-requires Inv-loop μ-loop
-is-i32-number-requires c κs = tt
+shared-slice-copy-out-n : tie.Need-shared-slice-copy-out-n Inv-loop μ-loop
+shared-slice-copy-out-n c = omega arith
 
 returns : tie.Need-returns Inv-loop μ-loop
 returns c = tt
@@ -44,9 +41,8 @@ are-i32-spec =
     Inv-loop
     μ-loop
     loop-holds
-    mul-is-i32-number
-    shared-slice-copy-out-is-i32-number
-    is-i32-number-requires
+    mul-n
+    shared-slice-copy-out-n
     returns
     add-i
     loop-less

@@ -24,8 +24,8 @@ mul-words c = omega arith
 slice-write-words : tie.Need-slice-write-words Inv-loop μ-loop
 slice-write-words c = omega arith
 
-after-word-requires : tie.Need-after-word-requires Inv-loop μ-loop
-after-word-requires c κs = tt
+add-at : tie.Need-add-at Inv-loop μ-loop
+add-at c = omega arith
 
 add-i : tie.Need-add-i Inv-loop μ-loop
 add-i c = omega arith
@@ -52,7 +52,7 @@ decode-spec =
     word-requires
     mul-words
     slice-write-words
-    after-word-requires
+    add-at
     add-i
     loop-less
     loop-again

@@ -12,14 +12,11 @@ abbrev μ-loop : tie.MeasureT-loop
 loop-holds : tie.Need-loop-holds Inv-loop μ-loop
 loop-holds c = tt
 
-place-requires : tie.Need-place-requires Inv-loop μ-loop
-place-requires c κs = tt
-
 at-requires : tie.Need-at-requires Inv-loop μ-loop
 at-requires c κs = tt
 
-plus-requires : tie.Need-plus-requires Inv-loop μ-loop
-plus-requires c κs = tt
+wrapping-add-u64-requires : tie.Need-wrapping-add-u64-requires Inv-loop μ-loop
+wrapping-add-u64-requires c κs = tt
 
 add-number : tie.Need-add-number Inv-loop μ-loop
 add-number c = omega arith
@@ -40,9 +37,8 @@ total-spec =
     Inv-loop
     μ-loop
     loop-holds
-    place-requires
     at-requires
-    plus-requires
+    wrapping-add-u64-requires
     add-number
     loop-less
     loop-again
