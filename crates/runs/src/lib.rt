@@ -1,9 +1,10 @@
 // Runs along one axis of two strided slices. What each leaves is the plain loop, cell by cell: `inOrder` of `cellAt`.
 ghost use mathlib.Core.Path.{_≡_};
+ghost use lib.Ieee.{nan};
 ghost use lib.IntN.{pos};
 ghost use lib.ListN.{length};
 ghost use Rattle.indexing.specs.Loops.{inOrder};
-ghost use Rattle.runs.specs.Runs.{ruleI32, cellAt, line, Run, Plane, runAt};
+ghost use Rattle.runs.specs.Runs.{ruleI32, ruleF64, cellAt, line, Run, Plane, runAt};
 ghost use Rattle.runs.specs.declared.Rule.the-variants as R;
 
 // What is done at a cell: the source's element replaces what is there, or is added to it.
@@ -108,4 +109,113 @@ pub fn add_run(src: &[i32], dst: &mut [i32], n: usize, s: i64, d: i64, ss: i64, 
     ensures { λ _. ⌜ now (dst .exit) ≡ inOrder (cellAt (pos 0) (ruleI32 R.Add) (now (src .entry)) (line s ss) (line d ds)) n (now (dst .entry)) ⌝ }
 {
     run(Rule::Add, src, dst, n, s, d, ss, ds);
+}
+
+// ---- the same of f64
+
+pub fn apply_f64(rule: Rule, x: f64, u: f64) -> f64
+    ensures { λ r. ⌜ r ≡ ruleF64 rule x u ⌝ }
+{
+    match rule {
+        Rule::Copy => u,
+        Rule::Add => x + u,
+    }
+}
+
+// Two slices of one length, element by element.
+pub fn ones_f64(rule: Rule, src: &[f64], dst: &mut [f64])
+    requires { ⌜ length (now src) ≡ length (now dst) ⌝ }
+    ensures { λ _. ⌜ now (dst .exit) ≡ inOrder (cellAt nan (ruleF64 rule) (now (src .entry)) pos pos) (length (now (dst .entry))) (now (dst .entry)) ⌝ }
+{
+    let mut i: usize = 0;
+    while i < dst.len() {
+        let v = apply_f64(rule, dst[i], src[i]);
+        dst[i] = v;
+        i += 1;
+    }
+}
+
+// n cells, from the places s and d by the strides ss and ds.
+pub fn strided_f64(
+    rule: Rule,
+    src: &[f64],
+    dst: &mut [f64],
+    n: usize,
+    s: i64,
+    d: i64,
+    ss: i64,
+    ds: i64,
+)
+    requires { ⌜ Run s d ss ds n (length (now src)) (length (now dst)) ⌝ }
+    ensures { λ _. ⌜ now (dst .exit) ≡ inOrder (cellAt nan (ruleF64 rule) (now (src .entry)) (line s ss) (line d ds)) n (now (dst .entry)) ⌝ }
+{
+    let mut i: usize = 0;
+    while i < n {
+        let k = i as i64;
+        let a = (s + ss * k) as usize;
+        let b = (d + ds * k) as usize;
+        let v = apply_f64(rule, dst[b], src[a]);
+        dst[b] = v;
+        i += 1;
+    }
+}
+
+// The same, with a way of its own for strides of 1 on both sides.
+pub fn run_f64(rule: Rule, src: &[f64], dst: &mut [f64], n: usize, s: i64, d: i64, ss: i64, ds: i64)
+    requires { ⌜ Run s d ss ds n (length (now src)) (length (now dst)) ⌝ }
+    ensures { λ _. ⌜ now (dst .exit) ≡ inOrder (cellAt nan (ruleF64 rule) (now (src .entry)) (line s ss) (line d ds)) n (now (dst .entry)) ⌝ }
+{
+    if n == 0 {
+        return;
+    }
+    if ss == 1 {
+        if ds == 1 {
+            let a = s as usize;
+            let b = d as usize;
+            let e = a + n;
+            let f = b + n;
+            ones_f64(rule, &src[a..e], &mut dst[b..f]);
+            return;
+        }
+    }
+    strided_f64(rule, src, dst, n, s, d, ss, ds);
+}
+
+// m runs of n cells each: those of run j from places moved by j times st and dt.
+pub fn plane_f64(
+    rule: Rule,
+    src: &[f64],
+    dst: &mut [f64],
+    n: usize,
+    m: u64,
+    s: i64,
+    d: i64,
+    ss: i64,
+    ds: i64,
+    st: i64,
+    dt: i64,
+)
+    requires { ⌜ Plane s d ss ds st dt n m (length (now src)) (length (now dst)) ⌝ }
+    ensures { λ _. ⌜ now (dst .exit) ≡ inOrder (runAt nan (ruleF64 rule) (now (src .entry)) s d ss ds st dt n) m (now (dst .entry)) ⌝ }
+{
+    let mut j: u64 = 0;
+    while j < m {
+        let k = j as i64;
+        run_f64(rule, src, dst, n, s + st * k, d + dt * k, ss, ds);
+        j += 1;
+    }
+}
+
+pub fn copy_run_f64(src: &[f64], dst: &mut [f64], n: usize, s: i64, d: i64, ss: i64, ds: i64)
+    requires { ⌜ Run s d ss ds n (length (now src)) (length (now dst)) ⌝ }
+    ensures { λ _. ⌜ now (dst .exit) ≡ inOrder (cellAt nan (ruleF64 R.Copy) (now (src .entry)) (line s ss) (line d ds)) n (now (dst .entry)) ⌝ }
+{
+    run_f64(Rule::Copy, src, dst, n, s, d, ss, ds);
+}
+
+pub fn add_run_f64(src: &[f64], dst: &mut [f64], n: usize, s: i64, d: i64, ss: i64, ds: i64)
+    requires { ⌜ Run s d ss ds n (length (now src)) (length (now dst)) ⌝ }
+    ensures { λ _. ⌜ now (dst .exit) ≡ inOrder (cellAt nan (ruleF64 R.Add) (now (src .entry)) (line s ss) (line d ds)) n (now (dst .entry)) ⌝ }
+{
+    run_f64(Rule::Add, src, dst, n, s, d, ss, ds);
 }

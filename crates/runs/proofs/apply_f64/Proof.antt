@@ -1,0 +1,27 @@
+use mathlib.Core.Path.{sym, ap}
+use Rattle.runs.specs.Runs.{ruleF64}
+use Rattle.runs.specs.declared.Rule.{Rule}
+use borrow.Author.Needs.{needs}
+use Rattle.runs.proofs.apply_f64.Statement.{statement}
+use Rattle.runs.proofs.apply_f64.Tie as tie
+use Rattle.runs.proofs.apply_f64.Reads as reads
+use Rattle.runs.proofs.apply_f64.Lts as lts
+
+-- src/lib.rt:120:23
+enum-told : tie.Need-enum-told
+enum-told c = search needs
+
+-- src/lib.rt:121:22
+enum-told-2 : tie.Need-enum-told-2
+enum-told-2 c = search needs
+
+-- src/lib.rt:116:1
+returns : tie.Need-returns
+returns c = search needs
+
+-- src/lib.rt:116:1
+returns-2 : tie.Need-returns-2
+returns-2 c = let a = c .before .before in sym (ap (λ (r : Rule). ruleF64 r (a .args .x) (a .args .u)) (c .enum-told2 .given .1))
+
+pub apply-f64-spec : {M : Type 1} → statement M
+apply-f64-spec = tie.close (tie.spec enum-told enum-told-2 returns returns-2)
