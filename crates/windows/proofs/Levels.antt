@@ -37,7 +37,7 @@ module _ (base : ℤ) (shape : List ℕ) (strides : List ℤ) (top m : ℕ) (w :
       }
 
   -- axes of one place below the last: a line
-  region-line : Units top shape → Line base (getD strides top (pos 0)) (getD shape top 0) m
+  pub region-line : Units top shape → Line base (getD strides top (pos 0)) (getD shape top 0) m
   region-line u =
       let le = w .extents in
       let ls = w .strided in
