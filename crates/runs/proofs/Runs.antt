@@ -42,30 +42,56 @@ last-is s n m i a e h =
     omega (arith, <-to (pos (a + 1 * (n - 1))) (pos m) j)
 
 -- a slice's part from the place on
-pub record Part (s stride : ℤ) (n m : ℕ) : Type 0 where
-  pub one : stride ≡ pos 1
+pub record Part (s : ℤ) (n m : ℕ) : Type 0 where
   pub is : pos (natAbs (read s)) ≡ s
   pub cast : T (nonNeg (read s)) × Fits w64 (natAbs (read s))
   pub room : natAbs (read s) + n ≤ m
 
-pub part-of : (s stride : ℤ) (n m : ℕ) → SFits w64 stride → ofZ w64 stride ≡ 1 → Line s stride n m → (n ≡ 0 → ⊥) → m < 2 ^ 63 → Part s stride n m
-part-of s stride n m ft e l h r =
-    let o : stride ≡ pos 1 = same-bits {w = w64} ft (sfits-lit {z = pos 1} tt) e in
-    let q : 0 < n = omega (arith, h) in
-    let x : Index s m = index s m (subst (InSlice m) (line-zero s stride) (l .inside 0 q)) r in
-    record { one = o; is = x .is; cast = x .cast; room = last-is s n m (subst (λ (t : ℤ). InSlice m (line s t (n - 1))) o (l .inside (n - 1) (omega arith))) (natAbs (read s)) (x .is) q }
+pub part-of : (s : ℤ) (n m : ℕ) → Line s (pos 1) n m → 0 < n → m < 2 ^ 63 → Part s n m
+part-of s n m l h r =
+    let x : Index s m = index s m (subst (InSlice m) (line-zero s (pos 1)) (l .inside 0 h)) r in
+    record { is = x .is; cast = x .cast; room = last-is s n m (l .inside (n - 1) (omega arith)) (natAbs (read s)) (x .is) h }
 
 -- what the parts hold is what the run leaves
-pub part-run : {A : Type 0} (z : A) (rule : A → A → A) (src xs ys : List A) (s d ss ds : ℤ) (a b n p q : ℕ) → p ≡ n → q ≡ n → pos a ≡ s → pos b ≡ d → ss ≡ pos 1 → ds ≡ pos 1 → b + n ≤ length xs
+pub part-run : {A : Type 0} (z : A) (rule : A → A → A) (src xs ys : List A) (s d : ℤ) (a b n p q : ℕ) → p ≡ n → q ≡ n → pos a ≡ s → pos b ≡ d → b + n ≤ length xs
     → ys ≡ inOrder (cellAt z rule (take p (drop a src)) pos pos) (length (take q (drop b xs))) (take q (drop b xs))
-    → take b xs ++ (ys ++ drop q (drop b xs)) ≡ inOrder (cellAt z rule src (line s ss) (line d ds)) n xs
-part-run {A = A} z rule src xs ys s d ss ds a b n p q ep eq es ed et eu h e =
+    → take b xs ++ (ys ++ drop q (drop b xs)) ≡ inOrder (cellAt z rule src (line s (pos 1)) (line d (pos 1))) n xs
+part-run {A = A} z rule src xs ys s d a b n p q ep eq es ed h e =
     ap (λ (y : List A). take b xs ++ (y ++ drop q (drop b xs))) e
     ∙ ap₂ (λ (p q : ℕ). take b xs ++ (inOrder (cellAt z rule (take p (drop a src)) pos pos) (length (take q (drop b xs))) (take q (drop b xs)) ++ drop q (drop b xs))) ep eq
     ∙ ap (λ (m : ℕ). take b xs ++ (inOrder (cellAt z rule (take n (drop a src)) pos pos) m (take n (drop b xs)) ++ drop n (drop b xs))) (length-take-le n (drop b xs) (omega (arith, length-drop b xs)))
     ∙ on-parts z rule src xs a b n h
-    ∙ ap₂ (λ (u v : ℤ). inOrder (cellAt z rule src (line u v) (line (pos b) (pos 1))) n xs) es (sym et)
-    ∙ ap₂ (λ (u v : ℤ). inOrder (cellAt z rule src (line s ss) (line u v)) n xs) ed (sym eu)
+    ∙ ap₂ (λ (u v : ℤ). inOrder (cellAt z rule src (line u (pos 1)) (line v (pos 1))) n xs) es ed
+
+-- where the machine has found both strides to be 1
+module _ (ss ds : ℤ) (fss : SFits w64 ss) (fds : SFits w64 ds) (es : ofZ w64 ss ≡ 1) (ed : ofZ w64 ds ≡ 1) where
+  one-source : ss ≡ pos 1
+  one-source = same-bits {w = w64} fss (sfits-lit {z = pos 1} tt) es
+
+  one-dest : ds ≡ pos 1
+  one-dest = same-bits {w = w64} fds (sfits-lit {z = pos 1} tt) ed
+
+  pub row-asks : (s d : ℤ) (n sn dn : ℕ) → SFits w64 s → SFits w64 d → (n ≡ 0 → ⊥) → Run s d ss ds n sn dn → (0 < n) × Run (read s) (read d) (pos 1) (pos 1) n sn dn
+  row-asks s d n sn dn fs fd h r = (omega (arith, h), simp (back fs, back fd) (subst (λ (x : ℤ). Run s d x (pos 1) n sn dn) one-source (subst (λ (x : ℤ). Run s d ss x n sn dn) one-dest r)))
+
+  pub row-end : {A : Type 0} (z : A) (rule : A → A → A) (src : List A) (s d : ℤ) (n : ℕ) (x y : List A) → SFits w64 s → SFits w64 d → y ≡ inOrder (cellAt z rule src (line (read s) (pos 1)) (line (read d) (pos 1))) n x
+      → y ≡ inOrder (cellAt z rule src (line s ss) (line d ds)) n x
+  row-end z rule src s d n x y fs fd h =
+      h
+      ∙ ap₂ (λ (a b : ℤ). inOrder (cellAt z rule src (line a (pos 1)) (line b (pos 1))) n x) (back fs) (back fd)
+      ∙ ap₂ (λ (a b : ℤ). inOrder (cellAt z rule src (line s a) (line d b)) n x) (sym one-source) (sym one-dest)
+
+  pub rows-ask : (s d st dt : ℤ) (n m sn dn : ℕ) → SFits w64 s → SFits w64 d → SFits w64 st → SFits w64 dt → Plane s d ss ds st dt n m sn dn → Plane (read s) (read d) (pos 1) (pos 1) (read st) (read dt) n m sn dn
+  rows-ask s d st dt n m sn dn fs fd fst fdt p =
+      simp (back fs, back fd, back fst, back fdt) (subst (λ (x : ℤ). Plane s d x (pos 1) st dt n m sn dn) one-source (subst (λ (x : ℤ). Plane s d ss x st dt n m sn dn) one-dest p))
+
+  pub rows-end : {A : Type 0} (z : A) (rule : A → A → A) (src : List A) (s d st dt : ℤ) (n m : ℕ) (x y : List A) → SFits w64 s → SFits w64 d → SFits w64 st → SFits w64 dt
+      → y ≡ inOrder (runAt z rule src (read s) (read d) (pos 1) (pos 1) (read st) (read dt) n) m x → y ≡ inOrder (runAt z rule src s d ss ds st dt n) m x
+  rows-end z rule src s d st dt n m x y fs fd fst fdt h =
+      h
+      ∙ ap₂ (λ (a b : ℤ). inOrder (runAt z rule src a b (pos 1) (pos 1) (read st) (read dt) n) m x) (back fs) (back fd)
+      ∙ ap₂ (λ (a b : ℤ). inOrder (runAt z rule src s d (pos 1) (pos 1) a b n) m x) (back fst) (back fdt)
+      ∙ ap₂ (λ (a b : ℤ). inOrder (runAt z rule src s d a b st dt n) m x) (sym one-source) (sym one-dest)
 
 -- ---- runs, one after the other
 

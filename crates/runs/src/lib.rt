@@ -1,5 +1,6 @@
 // Runs along one axis of two strided slices. What each leaves is the plain loop, cell by cell: `inOrder` of `cellAt`.
 ghost use mathlib.Core.Path.{_≡_};
+ghost use Prim.Native.Nat.{_<_};
 ghost use lib.Ieee.{nan};
 ghost use lib.IntN.{pos};
 ghost use lib.ListN.{length};
@@ -35,6 +36,18 @@ pub fn ones(rule: Rule, src: &[i32], dst: &mut [i32])
     }
 }
 
+// n cells of stride 1 on both sides, from the places s and d: on the parts of the slices that they are.
+pub fn row(rule: Rule, src: &[i32], dst: &mut [i32], n: usize, s: i64, d: i64)
+    requires { ⌜ (0 < n) × Run s d (pos 1) (pos 1) n (length (now src)) (length (now dst)) ⌝ }
+    ensures { λ _. ⌜ now (dst .exit) ≡ inOrder (cellAt (pos 0) (ruleI32 rule) (now (src .entry)) (line s (pos 1)) (line d (pos 1))) n (now (dst .entry)) ⌝ }
+{
+    let a = s as usize;
+    let b = d as usize;
+    let e = a + n;
+    let f = b + n;
+    ones(rule, &src[a..e], &mut dst[b..f]);
+}
+
 // n cells, from the places s and d by the strides ss and ds.
 pub fn strided(rule: Rule, src: &[i32], dst: &mut [i32], n: usize, s: i64, d: i64, ss: i64, ds: i64)
     requires { ⌜ Run s d ss ds n (length (now src)) (length (now dst)) ⌝ }
@@ -61,19 +74,38 @@ pub fn run(rule: Rule, src: &[i32], dst: &mut [i32], n: usize, s: i64, d: i64, s
     }
     if ss == 1 {
         if ds == 1 {
-            let a = s as usize;
-            let b = d as usize;
-            let e = a + n;
-            let f = b + n;
-            ones(rule, &src[a..e], &mut dst[b..f]);
+            row(rule, src, dst, n, s, d);
             return;
         }
     }
     strided(rule, src, dst, n, s, d, ss, ds);
 }
 
-// m runs of n cells each: those of run j from places moved by j times st and dt.
-pub fn plane(
+// m rows of n cells each: those of row j from places moved by j times st and dt.
+pub fn rows(
+    rule: Rule,
+    src: &[i32],
+    dst: &mut [i32],
+    n: usize,
+    m: u64,
+    s: i64,
+    d: i64,
+    st: i64,
+    dt: i64,
+)
+    requires { ⌜ Plane s d (pos 1) (pos 1) st dt n m (length (now src)) (length (now dst)) ⌝ }
+    ensures { λ _. ⌜ now (dst .exit) ≡ inOrder (runAt (pos 0) (ruleI32 rule) (now (src .entry)) s d (pos 1) (pos 1) st dt n) m (now (dst .entry)) ⌝ }
+{
+    let mut j: u64 = 0;
+    while j < m {
+        let k = j as i64;
+        row(rule, src, dst, n, s + st * k, d + dt * k);
+        j += 1;
+    }
+}
+
+// m runs of n cells each, by strides.
+pub fn strided_rows(
     rule: Rule,
     src: &[i32],
     dst: &mut [i32],
@@ -92,9 +124,35 @@ pub fn plane(
     let mut j: u64 = 0;
     while j < m {
         let k = j as i64;
-        run(rule, src, dst, n, s + st * k, d + dt * k, ss, ds);
+        strided(rule, src, dst, n, s + st * k, d + dt * k, ss, ds);
         j += 1;
     }
+}
+
+// The same, with a way of its own for strides of 1 on both sides.
+pub fn plane(
+    rule: Rule,
+    src: &[i32],
+    dst: &mut [i32],
+    n: usize,
+    m: u64,
+    s: i64,
+    d: i64,
+    ss: i64,
+    ds: i64,
+    st: i64,
+    dt: i64,
+)
+    requires { ⌜ Plane s d ss ds st dt n m (length (now src)) (length (now dst)) ⌝ }
+    ensures { λ _. ⌜ now (dst .exit) ≡ inOrder (runAt (pos 0) (ruleI32 rule) (now (src .entry)) s d ss ds st dt n) m (now (dst .entry)) ⌝ }
+{
+    if ss == 1 {
+        if ds == 1 {
+            rows(rule, src, dst, n, m, s, d, st, dt);
+            return;
+        }
+    }
+    strided_rows(rule, src, dst, n, m, s, d, ss, ds, st, dt);
 }
 
 pub fn copy_run(src: &[i32], dst: &mut [i32], n: usize, s: i64, d: i64, ss: i64, ds: i64)
@@ -135,6 +193,18 @@ pub fn ones_f64(rule: Rule, src: &[f64], dst: &mut [f64])
     }
 }
 
+// n cells of stride 1 on both sides, from the places s and d: on the parts of the slices that they are.
+pub fn row_f64(rule: Rule, src: &[f64], dst: &mut [f64], n: usize, s: i64, d: i64)
+    requires { ⌜ (0 < n) × Run s d (pos 1) (pos 1) n (length (now src)) (length (now dst)) ⌝ }
+    ensures { λ _. ⌜ now (dst .exit) ≡ inOrder (cellAt nan (ruleF64 rule) (now (src .entry)) (line s (pos 1)) (line d (pos 1))) n (now (dst .entry)) ⌝ }
+{
+    let a = s as usize;
+    let b = d as usize;
+    let e = a + n;
+    let f = b + n;
+    ones_f64(rule, &src[a..e], &mut dst[b..f]);
+}
+
 // n cells, from the places s and d by the strides ss and ds.
 pub fn strided_f64(
     rule: Rule,
@@ -170,19 +240,38 @@ pub fn run_f64(rule: Rule, src: &[f64], dst: &mut [f64], n: usize, s: i64, d: i6
     }
     if ss == 1 {
         if ds == 1 {
-            let a = s as usize;
-            let b = d as usize;
-            let e = a + n;
-            let f = b + n;
-            ones_f64(rule, &src[a..e], &mut dst[b..f]);
+            row_f64(rule, src, dst, n, s, d);
             return;
         }
     }
     strided_f64(rule, src, dst, n, s, d, ss, ds);
 }
 
-// m runs of n cells each: those of run j from places moved by j times st and dt.
-pub fn plane_f64(
+// m rows of n cells each: those of row j from places moved by j times st and dt.
+pub fn rows_f64(
+    rule: Rule,
+    src: &[f64],
+    dst: &mut [f64],
+    n: usize,
+    m: u64,
+    s: i64,
+    d: i64,
+    st: i64,
+    dt: i64,
+)
+    requires { ⌜ Plane s d (pos 1) (pos 1) st dt n m (length (now src)) (length (now dst)) ⌝ }
+    ensures { λ _. ⌜ now (dst .exit) ≡ inOrder (runAt nan (ruleF64 rule) (now (src .entry)) s d (pos 1) (pos 1) st dt n) m (now (dst .entry)) ⌝ }
+{
+    let mut j: u64 = 0;
+    while j < m {
+        let k = j as i64;
+        row_f64(rule, src, dst, n, s + st * k, d + dt * k);
+        j += 1;
+    }
+}
+
+// m runs of n cells each, by strides.
+pub fn strided_rows_f64(
     rule: Rule,
     src: &[f64],
     dst: &mut [f64],
@@ -201,9 +290,35 @@ pub fn plane_f64(
     let mut j: u64 = 0;
     while j < m {
         let k = j as i64;
-        run_f64(rule, src, dst, n, s + st * k, d + dt * k, ss, ds);
+        strided_f64(rule, src, dst, n, s + st * k, d + dt * k, ss, ds);
         j += 1;
     }
+}
+
+// The same, with a way of its own for strides of 1 on both sides.
+pub fn plane_f64(
+    rule: Rule,
+    src: &[f64],
+    dst: &mut [f64],
+    n: usize,
+    m: u64,
+    s: i64,
+    d: i64,
+    ss: i64,
+    ds: i64,
+    st: i64,
+    dt: i64,
+)
+    requires { ⌜ Plane s d ss ds st dt n m (length (now src)) (length (now dst)) ⌝ }
+    ensures { λ _. ⌜ now (dst .exit) ≡ inOrder (runAt nan (ruleF64 rule) (now (src .entry)) s d ss ds st dt n) m (now (dst .entry)) ⌝ }
+{
+    if ss == 1 {
+        if ds == 1 {
+            rows_f64(rule, src, dst, n, m, s, d, st, dt);
+            return;
+        }
+    }
+    strided_rows_f64(rule, src, dst, n, m, s, d, ss, ds, st, dt);
 }
 
 pub fn copy_run_f64(src: &[f64], dst: &mut [f64], n: usize, s: i64, d: i64, ss: i64, ds: i64)

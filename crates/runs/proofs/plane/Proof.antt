@@ -1,106 +1,45 @@
-use mathlib.Core.Path.{_≡_, refl, sym, subst, _∙_}
-use Prim.Native.Nat.{ℕ, _*_, _-_, _<_, _≤_, _^_}
-use native.Mathlib.Omega.{arith}
-use lib.ListN.{length}
+use mathlib.Core.Path.{refl}
 use lib.IntN.{pos}
-use mir.Syntax.{w64}
-use mir.Val.{toZ}
-use Rattle.indexing.specs.Loops.{inOrder}
-use Rattle.runs.specs.Runs.{ruleI32, runAt, Line}
-use Rattle.runs.proofs.Turns.{none}
-use Rattle.runs.proofs.Place.{read, machine}
-use Rattle.runs.proofs.Runs.{Move, move-source, move-dest, runs-more, runs-end}
+use Rattle.runs.specs.Runs.{ruleI32}
+use Rattle.runs.proofs.Runs.{rows-ask, rows-end, runs-end}
+use borrow.Author.Needs.{needs}
 use Rattle.runs.proofs.plane.Statement.{statement}
 use Rattle.runs.proofs.plane.Tie as tie
 use Rattle.runs.proofs.plane.Reads as reads
 use Rattle.runs.proofs.plane.Lts as lts
-use Rattle.runs.proofs.run.Reads as run-reads
+use Rattle.runs.proofs.rows.Reads as rows-reads
+use Rattle.runs.proofs.strided_rows.Reads as strided-rows-reads
 
-abbrev Inv-loop : tie.InvT-loop
-Inv-loop rule src dst₀ n m s d ss ds st dt j₀ dst j = (j ≤ m) × (length dst ≡ length dst₀) × (dst ≡ inOrder (runAt (pos 0) (ruleI32 rule) src (toZ w64 s) (toZ w64 d) (toZ w64 ss) (toZ w64 ds) (toZ w64 st) (toZ w64 dt) n) j dst₀)
+-- src/lib.rt:151:13
+rows-requires : tie.Need-rows-requires
+rows-requires c κs = let t = c .before in
+    let a = t .before .before in
+    rows-ask _ _ (a .fits .ss) (a .fits .ds) (t .before .if1 .taken) (t .if2 .taken) _ _ _ _ _ _ _ _ (a .fits .s) (a .fits .d) (a .fits .st) (a .fits .dt) (a .pre)
 
-abbrev μ-loop : tie.MeasureT-loop
-μ-loop rule src dst₀ n m s d ss ds st dt j₀ dst j = m - j
+-- src/lib.rt:152:13
+same-length : tie.Need-same-length
+same-length c = search needs
 
-from : (d : tie.In-loop Inv-loop μ-loop) → Move (d .before .before .args .s) (d .before .before .args .ss) (d .before .before .args .st) (d .before .before .args .n) (length (d .before .before .args .src .now)) (d .before .loop .j)
-from d = let a = d .before .before in move-source _ _ _ _ _ _ _ _ _ _ (a .pre) _ (d .loop-test .taken) (a .fits .s) (a .fits .ss) (a .fits .st) (omega (arith, a .good .1 .0 .1))
+-- src/lib.rt:152:13
+returns : tie.Need-returns
+returns c = let t = c .before .before .before in
+    let a = t .before .before in
+    rows-end (a .args .ss) (a .args .ds) (a .fits .ss) (a .fits .ds) (t .before .if1 .taken) (t .if2 .taken) (pos 0) (ruleI32 (a .args .rule)) (a .args .src .now) (a .args .s) (a .args .d) (a .args .st) (a .args .dt) (a .args .n) (a .args .m) (a .args .dst .now) _ (a .fits .s) (a .fits .d) (a .fits .st) (a .fits .dt) (c .before .rows .ensures)
 
-to : (d : tie.In-loop Inv-loop μ-loop) → Move (d .before .before .args .d) (d .before .before .args .ds) (d .before .before .args .dt) (d .before .before .args .n) (length (d .before .before .args .dst .now)) (d .before .loop .j)
-to d = let a = d .before .before in move-dest _ _ _ _ _ _ _ _ _ _ (a .pre) _ (d .loop-test .taken) (a .fits .d) (a .fits .ds) (a .fits .dt) (omega (arith, a .good .1 .1 .0 .1))
+-- src/lib.rt:155:5
+strided-rows-requires : tie.Need-strided-rows-requires
+strided-rows-requires c κs = search needs
 
--- src/lib.rt:110:5
-loop-holds : tie.Need-loop-holds Inv-loop μ-loop
-loop-holds c = (omega arith, refl, none _ 0 (c .args .dst .now) refl)
+-- src/lib.rt:133:1
+same-length-2 : tie.Need-same-length-2
+same-length-2 c = search needs
 
--- src/lib.rt:111:17
-cast-k : tie.Need-cast-k Inv-loop μ-loop
-cast-k c = from c .step .count
-
--- src/lib.rt:112:36
-mul-run : tie.Need-mul-run Inv-loop μ-loop
-mul-run c = from (c .before) .step .multiple
-
--- src/lib.rt:112:32
-add-run : tie.Need-add-run Inv-loop μ-loop
-add-run c = from (c .before) .step .fits
-
--- src/lib.rt:112:48
-mul-run-2 : tie.Need-mul-run-2 Inv-loop μ-loop
-mul-run-2 c = to (c .before) .step .multiple
-
--- src/lib.rt:112:44
-add-run-2 : tie.Need-add-run-2 Inv-loop μ-loop
-add-run-2 c = to (c .before) .step .fits
-
--- src/lib.rt:112:9
-run-requires : tie.Need-run-requires Inv-loop μ-loop
-run-requires c κs = let d = c .before in
-    let a = d .before .before in
-    record { source = from d .run; dest = subst (Line (machine (a .args .d) (a .args .dt) (d .before .loop .j)) (read (a .args .ds)) (a .args .n)) (sym (d .before .loop .inv .1)) (to d .run) }
-
--- src/lib.rt:113:9
-add-j : tie.Need-add-j Inv-loop μ-loop
-add-j c = let a = c .before .before .before .before .before in omega (arith, a .pre .few)
-
--- src/lib.rt:110:5
-loop-less : tie.Need-loop-less Inv-loop μ-loop
-loop-less c = omega arith
-
--- src/lib.rt:110:5
-loop-again : tie.Need-loop-again Inv-loop μ-loop
-loop-again c = let d = c .before .before .before in
-    let h = d .before in
-    let a = h .before in (
-      omega arith,
-      c .before .run .kept .1 .1 .0 ∙ h .loop .inv .1,
-      runs-more (pos 0) (ruleI32 (a .args .rule)) (a .args .src .now) (a .args .s) (a .args .d) (a .args .ss) (a .args .ds) (a .args .st) (a .args .dt) (a .args .n) (h .loop .j) _ _ (a .args .dst .now) (h .loop .dst) _ (h .loop .inv .2) (from d) (to d) (c .before .run .ensures),
-    )
-
--- src/lib.rt:93:1
-same-length : tie.Need-same-length Inv-loop μ-loop
-same-length c = c .before .loop .inv .1
-
--- src/lib.rt:93:1
-returns : tie.Need-returns Inv-loop μ-loop
-returns c = let h = c .before in
-    let a = h .before in
-    runs-end (pos 0) (ruleI32 (a .args .rule)) (a .args .src .now) (a .args .s) (a .args .d) (a .args .ss) (a .args .ds) (a .args .st) (a .args .dt) (a .args .n) (h .loop .j) (a .args .m) (a .args .dst .now) (h .loop .dst) (a .fits .s) (a .fits .d) (a .fits .ss) (a .fits .ds) (a .fits .st) (a .fits .dt) (omega arith) (h .loop .inv .2)
+-- src/lib.rt:133:1
+returns-2 : tie.Need-returns-2
+returns-2 c = let a = c .before .before .before .before in
+    runs-end (pos 0) (ruleI32 (a .args .rule)) (a .args .src .now) (a .args .s) (a .args .d) (a .args .ss) (a .args .ds) (a .args .st) (a .args .dt) (a .args .n) (a .args .m) (a .args .m) (a .args .dst .now) _ (a .fits .s) (a .fits .d) (a .fits .ss) (a .fits .ds) (a .fits .st) (a .fits .dt) refl (c .before .strided-rows .ensures)
 
 pub plane-spec : {M : Type 1} → statement M
 plane-spec =
     tie.close
-    (tie.spec
-    Inv-loop
-    μ-loop
-    loop-holds
-    cast-k
-    mul-run
-    add-run
-    mul-run-2
-    add-run-2
-    run-requires
-    add-j
-    loop-less
-    loop-again
-    same-length
-    returns)
+    (tie.spec rows-requires same-length returns strided-rows-requires same-length-2 returns-2)
