@@ -161,7 +161,7 @@ pub extern "C" fn bench_run_f64(
     let rule = rule_of(add);
     let mut i: u64 = 0;
     while i < times {
-        runs::run_f64(rule, src, dst, n as usize, s, d, ss, ds);
+        runs_f64::run_f64(rule, src, dst, n as usize, s, d, ss, ds);
         i += 1;
     }
     true

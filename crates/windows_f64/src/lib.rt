@@ -29,14 +29,14 @@ pub fn axes_f64(
     let a = ss[top];
     let b = ds[top];
     if top == low {
-        runs::run_f64(rule, src, dst, n as usize, s, d, a, b);
+        runs_f64::run_f64(rule, src, dst, n as usize, s, d, a, b);
         return;
     }
     if top == low + 1 {
         let m = extents[low];
         let x = ss[low];
         let y = ds[low];
-        runs::plane_f64(rule, src, dst, m as usize, n, s, d, x, y, a, b);
+        runs_f64::plane_f64(rule, src, dst, m as usize, n, s, d, x, y, a, b);
         return;
     }
     let mut j: u64 = 0;
@@ -74,7 +74,7 @@ pub fn window_f64(
     ensures { λ _. ⌜ now (dst .exit) ≡ windowed nan (ruleF64 rule) (now (src .entry)) s d (now (extents .entry)) (now (ss .entry)) (now (ds .entry)) rank (now (dst .entry)) ⌝ }
 {
     if rank == 0 {
-        runs::run_f64(rule, src, dst, 1, s, d, 0, 0);
+        runs_f64::run_f64(rule, src, dst, 1, s, d, 0, 0);
         return;
     }
     if layout::has_zero(*extents, rank) {

@@ -18,7 +18,7 @@ use Rattle.runs_c.proofs.bench_run_f64.Statement.{statement}
 use Rattle.runs_c.proofs.bench_run_f64.Tie as tie
 use Rattle.runs_c.proofs.bench_run_f64.Reads as reads
 use Rattle.runs_c.proofs.bench_run_f64.Lts as lts
-use Rattle.runs.proofs.run_f64.Reads as run-f64-reads
+use Rattle.runs_f64.proofs.run_f64.Reads as run-f64-reads
 use Rattle.runs_c.proofs.accepts.Reads as accepts-reads
 use Rattle.runs_c.proofs.rule_of.Reads as rule-of-reads
 

@@ -18,8 +18,8 @@ use Rattle.windows.proofs.Levels.{below, step-source, step-dest, step-level, ru
 use Rattle.windows_f64.proofs.axes_f64.Reads as axes-f64
 use Rattle.windows_f64.proofs.axes_f64.Kinds as kinds
 use Rattle.windows_f64.proofs.+axes_f64.Lts-axes_f64 as lts
-use Rattle.runs.proofs.plane_f64.Reads as plane-reads
-use Rattle.runs.proofs.run_f64.Reads as run-reads
+use Rattle.runs_f64.proofs.plane_f64.Reads as plane-reads
+use Rattle.runs_f64.proofs.run_f64.Reads as run-reads
 use Rattle.windows_f64.proofs.+axes_f64.{statement}
 use Rattle.windows_f64.proofs.+axes_f64.Tie.{close}
 

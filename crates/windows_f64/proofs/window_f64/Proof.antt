@@ -10,7 +10,7 @@ use Rattle.windows_f64.proofs.window_f64.Tie as tie
 use Rattle.windows_f64.proofs.window_f64.Reads as reads
 use Rattle.windows_f64.proofs.window_f64.Lts as lts
 use Rattle.layout.proofs.has_zero.Reads as has-zero-reads
-use Rattle.runs.proofs.run_f64.Reads as run-f64-reads
+use Rattle.runs_f64.proofs.run_f64.Reads as run-f64-reads
 use Rattle.windows.proofs.run_axis.Reads as run-axis-reads
 use Rattle.windows_f64.proofs.axes_f64.Reads as axes-f64-reads
 

@@ -7,15 +7,15 @@ use lib.Ieee.{nan}
 use mir.Syntax.{w64}
 use mir.Val.{toZ}
 use Rattle.indexing.specs.Loops.{inOrder}
 use Rattle.runs.specs.Runs.{ruleF64, cellAt, line}
 use Rattle.runs.proofs.Turns.{none}
 use Rattle.runs.proofs.Place.{Step, step}
 use Rattle.runs.proofs.Runs.{turn, ends}
-use Rattle.runs.proofs.strided_f64.Statement.{statement}
-use Rattle.runs.proofs.strided_f64.Tie as tie
-use Rattle.runs.proofs.strided_f64.Reads as reads
-use Rattle.runs.proofs.strided_f64.Lts as lts
-use Rattle.runs.proofs.apply_f64.Reads as apply-f64-reads
+use Rattle.runs_f64.proofs.strided_f64.Statement.{statement}
+use Rattle.runs_f64.proofs.strided_f64.Tie as tie
+use Rattle.runs_f64.proofs.strided_f64.Reads as reads
+use Rattle.runs_f64.proofs.strided_f64.Lts as lts
+use Rattle.runs_f64.proofs.apply_f64.Reads as apply-f64-reads
 
 abbrev Inv-loop : tie.InvT-loop
 Inv-loop rule src dst₀ n s d ss ds i₀ dst i = (i ≤ n) × (length dst ≡ length dst₀) × (dst ≡ inOrder (cellAt nan (ruleF64 rule) src (line (toZ w64 s) (toZ w64 ss)) (line (toZ w64 d) (toZ w64 ds))) i dst₀)

@@ -6,13 +6,13 @@ use lib.ListN.{length, length-set}
 use lib.Ieee.{nan}
 use lib.IntN.{pos}
 use Rattle.indexing.specs.Loops.{inOrder}
 use Rattle.runs.specs.Runs.{ruleF64, cellAt}
 use Rattle.runs.proofs.Turns.{none, cell-more}
-use Rattle.runs.proofs.ones_f64.Statement.{statement}
-use Rattle.runs.proofs.ones_f64.Tie as tie
-use Rattle.runs.proofs.ones_f64.Reads as reads
-use Rattle.runs.proofs.ones_f64.Lts as lts
-use Rattle.runs.proofs.apply_f64.Reads as apply-f64-reads
+use Rattle.runs_f64.proofs.ones_f64.Statement.{statement}
+use Rattle.runs_f64.proofs.ones_f64.Tie as tie
+use Rattle.runs_f64.proofs.ones_f64.Reads as reads
+use Rattle.runs_f64.proofs.ones_f64.Lts as lts
+use Rattle.runs_f64.proofs.apply_f64.Reads as apply-f64-reads
 
 abbrev Inv-loop : tie.InvT-loop
 Inv-loop rule src dst₀ i₀ dst i = (i ≤ length dst₀) × (length dst ≡ length dst₀) × (dst ≡ inOrder (cellAt nan (ruleF64 rule) src pos pos) i dst₀)

@@ -4,15 +4,15 @@ use native.Mathlib.Omega.{arith}
 use lib.ListN.{length}
 use lib.Ieee.{nan}
 use lib.IntN.{natAbs}
 use Rattle.runs.specs.Runs.{ruleF64}
 use Rattle.runs.proofs.Place.{read}
 use Rattle.runs.proofs.Runs.{Part, part-of, part-run}
 use borrow.Author.Needs.{needs}
-use Rattle.runs.proofs.row_f64.Statement.{statement}
-use Rattle.runs.proofs.row_f64.Tie as tie
-use Rattle.runs.proofs.row_f64.Reads as reads
-use Rattle.runs.proofs.row_f64.Lts as lts
-use Rattle.runs.proofs.ones_f64.Reads as ones-f64-reads
+use Rattle.runs_f64.proofs.row_f64.Statement.{statement}
+use Rattle.runs_f64.proofs.row_f64.Tie as tie
+use Rattle.runs_f64.proofs.row_f64.Reads as reads
+use Rattle.runs_f64.proofs.row_f64.Lts as lts
+use Rattle.runs_f64.proofs.ones_f64.Reads as ones-f64-reads
 
 src-room : (a : tie.Start) → length (a .args .src .now) * 8 < 2 ^ 63
 src-room a = a .good .1 .0 .1

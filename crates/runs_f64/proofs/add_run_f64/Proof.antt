@@ -1,14 +1,14 @@
 use mathlib.Core.Path.{refl}
 use lib.Ieee.{nan}
 use Rattle.runs.specs.Runs.{ruleF64}
 use Rattle.runs.specs.declared.Rule.the-variants as R
 use Rattle.runs.proofs.Runs.{ends}
 use borrow.Author.Needs.{needs}
-use Rattle.runs.proofs.add_run_f64.Statement.{statement}
-use Rattle.runs.proofs.add_run_f64.Tie as tie
-use Rattle.runs.proofs.add_run_f64.Reads as reads
-use Rattle.runs.proofs.add_run_f64.Lts as lts
-use Rattle.runs.proofs.run_f64.Reads as run-f64-reads
+use Rattle.runs_f64.proofs.add_run_f64.Statement.{statement}
+use Rattle.runs_f64.proofs.add_run_f64.Tie as tie
+use Rattle.runs_f64.proofs.add_run_f64.Reads as reads
+use Rattle.runs_f64.proofs.add_run_f64.Lts as lts
+use Rattle.runs_f64.proofs.run_f64.Reads as run-f64-reads
 
 -- src/lib.rt:128:5
 run-f64-requires : tie.Need-run-f64-requires

@@ -6,15 +6,15 @@ use lib.Ieee.{nan}
 use mir.Syntax.{w64}
 use mir.Val.{toZ}
 use Rattle.indexing.specs.Loops.{inOrder}
 use Rattle.runs.specs.Runs.{ruleF64, runAt, Line}
 use Rattle.runs.proofs.Turns.{none}
 use Rattle.runs.proofs.Place.{read, machine}
 use Rattle.runs.proofs.Runs.{Move, move-source, move-dest, runs-more, runs-end}
-use Rattle.runs.proofs.strided_rows_f64.Statement.{statement}
-use Rattle.runs.proofs.strided_rows_f64.Tie as tie
-use Rattle.runs.proofs.strided_rows_f64.Reads as reads
-use Rattle.runs.proofs.strided_rows_f64.Lts as lts
-use Rattle.runs.proofs.strided_f64.Reads as strided-f64-reads
+use Rattle.runs_f64.proofs.strided_rows_f64.Statement.{statement}
+use Rattle.runs_f64.proofs.strided_rows_f64.Tie as tie
+use Rattle.runs_f64.proofs.strided_rows_f64.Reads as reads
+use Rattle.runs_f64.proofs.strided_rows_f64.Lts as lts
+use Rattle.runs_f64.proofs.strided_f64.Reads as strided-f64-reads
 
 abbrev Inv-loop : tie.InvT-loop
 Inv-loop rule src dst₀ n m s d ss ds st dt j₀ dst j = (j ≤ m) × (length dst ≡ length dst₀) × (dst ≡ inOrder (runAt nan (ruleF64 rule) src (toZ w64 s) (toZ w64 d) (toZ w64 ss) (toZ w64 ds) (toZ w64 st) (toZ w64 dt) n) j dst₀)

@@ -1,11 +1,11 @@
 use mathlib.Core.Path.{sym, ap}
 use Rattle.runs.specs.Runs.{ruleF64}
 use Rattle.runs.specs.declared.Rule.{Rule}
 use borrow.Author.Needs.{needs}
-use Rattle.runs.proofs.apply_f64.Statement.{statement}
-use Rattle.runs.proofs.apply_f64.Tie as tie
-use Rattle.runs.proofs.apply_f64.Reads as reads
-use Rattle.runs.proofs.apply_f64.Lts as lts
+use Rattle.runs_f64.proofs.apply_f64.Statement.{statement}
+use Rattle.runs_f64.proofs.apply_f64.Tie as tie
+use Rattle.runs_f64.proofs.apply_f64.Reads as reads
+use Rattle.runs_f64.proofs.apply_f64.Lts as lts
 
 -- src/lib.rt:120:23
 enum-told : tie.Need-enum-told

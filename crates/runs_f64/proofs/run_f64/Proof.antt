@@ -1,15 +1,15 @@
 use mathlib.Core.Path.{refl}
 use lib.Ieee.{nan}
 use Rattle.runs.specs.Runs.{ruleF64}
 use Rattle.runs.proofs.Turns.{none}
 use Rattle.runs.proofs.Runs.{row-asks, row-end, ends}
 use borrow.Author.Needs.{needs}
-use Rattle.runs.proofs.run_f64.Statement.{statement}
-use Rattle.runs.proofs.run_f64.Tie as tie
-use Rattle.runs.proofs.run_f64.Reads as reads
-use Rattle.runs.proofs.run_f64.Lts as lts
-use Rattle.runs.proofs.row_f64.Reads as row-f64-reads
-use Rattle.runs.proofs.strided_f64.Reads as strided-f64-reads
+use Rattle.runs_f64.proofs.run_f64.Statement.{statement}
+use Rattle.runs_f64.proofs.run_f64.Tie as tie
+use Rattle.runs_f64.proofs.run_f64.Reads as reads
+use Rattle.runs_f64.proofs.run_f64.Lts as lts
+use Rattle.runs_f64.proofs.row_f64.Reads as row-f64-reads
+use Rattle.runs_f64.proofs.strided_f64.Reads as strided-f64-reads
 
 -- src/lib.rt:239:9
 returns : tie.Need-returns

@@ -1,14 +1,14 @@
 use mathlib.Core.Path.{refl}
 use lib.Ieee.{nan}
 use Rattle.runs.specs.Runs.{ruleF64}
 use Rattle.runs.proofs.Runs.{rows-ask, rows-end, runs-end}
 use borrow.Author.Needs.{needs}
-use Rattle.runs.proofs.plane_f64.Statement.{statement}
-use Rattle.runs.proofs.plane_f64.Tie as tie
-use Rattle.runs.proofs.plane_f64.Reads as reads
-use Rattle.runs.proofs.plane_f64.Lts as lts
-use Rattle.runs.proofs.rows_f64.Reads as rows-f64-reads
-use Rattle.runs.proofs.strided_rows_f64.Reads as strided-rows-f64-reads
+use Rattle.runs_f64.proofs.plane_f64.Statement.{statement}
+use Rattle.runs_f64.proofs.plane_f64.Tie as tie
+use Rattle.runs_f64.proofs.plane_f64.Reads as reads
+use Rattle.runs_f64.proofs.plane_f64.Lts as lts
+use Rattle.runs_f64.proofs.rows_f64.Reads as rows-f64-reads
+use Rattle.runs_f64.proofs.strided_rows_f64.Reads as strided-rows-f64-reads
 
 -- src/lib.rt:317:13
 rows-f64-requires : tie.Need-rows-f64-requires
