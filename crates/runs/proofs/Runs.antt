@@ -1,5 +1,5 @@
 -- Runs as the machine makes them: the places by locals read back, and a run of stride 1 on parts. Assumes nothing.
-use mathlib.Core.Path.{_≡_, refl, sym, ap, ap₂, subst, _∙_}
+use mathlib.Core.Path.{_≡_, sym, ap, ap₂, subst, _∙_}
 use mathlib.Core.List.{List, _++_}
 use Prim.Native.Nat.{ℕ, _+_, _*_, _-_, _<_, _≤_, _^_}
 use native.Mathlib.Omega.{arith}
@@ -10,7 +10,7 @@ use lib.IntN.{ℤ, pos, natAbs}
 use lib.Signed.{_<ℤ_, nonNeg}
 use mir.Facts.{sfits-lit}
 use mir.Syntax.{w64}
-use mir.Val.{SFits, Fits, toZ, ofZ}
+use mir.Val.{SFits, Fits, ofZ}
 use Rattle.integer.specs.Z.{back, <-to}
 use Rattle.integer.specs.Machine.{same-bits}
 use Rattle.indexing.specs.Coordinates.{InSlice}

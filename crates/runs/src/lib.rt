@@ -27,11 +27,11 @@ pub fn ones(rule: Rule, src: &[i32], dst: &mut [i32])
     requires { ⌜ length (now src) ≡ length (now dst) ⌝ }
     ensures { λ _. ⌜ now (dst .exit) ≡ inOrder (cellAt (pos 0) (ruleI32 rule) (now (src .entry)) pos pos) (length (now (dst .entry))) (now (dst .entry)) ⌝ }
 {
-    let mut i: usize = 0;
-    while i < dst.len() {
-        let v = apply(rule, dst[i], src[i]);
-        dst[i] = v;
-        i += 1;
+    let mut at: usize = 0;
+    while at < dst.len() {
+        let v = apply(rule, dst[at], src[at]);
+        dst[at] = v;
+        at += 1;
     }
 }
 

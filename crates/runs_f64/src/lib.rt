@@ -23,11 +23,11 @@ pub fn ones_f64(rule: Rule, src: &[f64], dst: &mut [f64])
     requires { ⌜ length (now src) ≡ length (now dst) ⌝ }
     ensures { λ _. ⌜ now (dst .exit) ≡ inOrder (cellAt nan (ruleF64 rule) (now (src .entry)) pos pos) (length (now (dst .entry))) (now (dst .entry)) ⌝ }
 {
-    let mut i: usize = 0;
-    while i < dst.len() {
-        let v = apply_f64(rule, dst[i], src[i]);
-        dst[i] = v;
-        i += 1;
+    let mut at: usize = 0;
+    while at < dst.len() {
+        let v = apply_f64(rule, dst[at], src[at]);
+        dst[at] = v;
+        at += 1;
     }
 }
 

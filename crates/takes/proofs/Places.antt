@@ -1,9 +1,9 @@
 -- A clamped start as the machine has it. Assumes nothing.
-use mathlib.Core.Path.{_≡_, refl, sym, ap, ap₂, subst, _∙_}
+use mathlib.Core.Path.{_≡_, sym, ap, ap₂, subst, _∙_}
 use Prim.Native.Nat.{ℕ, _+_, _-_, _<_, _^_}
 use native.Mathlib.Omega.{arith}
 use mathlib.Core.List.{List}
-use lib.ListN.{getD, set}
+use lib.ListN.{getD}
 use lib.IntN.{ℤ, pos, natAbs, _+ℤ_, _*ℤ_}
 use lib.Signed.{_≤ℤ_}
 use mir.Syntax.{w64}
@@ -14,8 +14,8 @@ use Rattle.indexing.specs.Coordinates.{elementAt}
 use Rattle.indexing.specs.Start.{clamp}
 use Rattle.indexing.specs.Inside.{clamp-high}
 use Rattle.indexing.specs.Loops.{inOrder}
-use Rattle.runs.specs.Runs.{cellAt, line, Line}
-use Rattle.runs.proofs.Turns.{cell-more, same-places}
+use Rattle.runs.specs.Runs.{cellAt, line}
+use Rattle.runs.proofs.Turns.{same-places}
 use Rattle.runs.proofs.Place.{read, machine, Step, step}
 use Rattle.takes.specs.Takes.{clampedAt, Clamped}
 

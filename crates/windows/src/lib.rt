@@ -61,18 +61,9 @@ pub fn axes(
     let mut j: u64 = 0;
     while j < n {
         let k = j as i64;
-        axes(
-            rule,
-            src,
-            dst,
-            extents,
-            ss,
-            ds,
-            low,
-            top,
-            s + a * k,
-            d + b * k,
-        );
+        let p = s + a * k;
+        let q = d + b * k;
+        axes(rule, src, dst, extents, ss, ds, low, top, p, q);
         j += 1;
     }
 }

@@ -42,18 +42,9 @@ pub fn axes_f64(
     let mut j: u64 = 0;
     while j < n {
         let k = j as i64;
-        axes_f64(
-            rule,
-            src,
-            dst,
-            extents,
-            ss,
-            ds,
-            low,
-            top,
-            s + a * k,
-            d + b * k,
-        );
+        let p = s + a * k;
+        let q = d + b * k;
+        axes_f64(rule, src, dst, extents, ss, ds, low, top, p, q);
         j += 1;
     }
 }

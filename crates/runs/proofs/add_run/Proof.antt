@@ -6,19 +6,13 @@ use Rattle.runs.proofs.Runs.{ends}
 use borrow.Author.Needs.{needs}
 use Rattle.runs.proofs.add_run.Statement.{statement}
 use Rattle.runs.proofs.add_run.Tie as tie
-use Rattle.runs.proofs.add_run.Reads as reads
-use Rattle.runs.proofs.add_run.Lts as lts
-use Rattle.runs.proofs.run.Reads as run-reads
 
--- src/lib.rt:128:5
 run-requires : tie.Need-run-requires
 run-requires c κs = search needs
 
--- src/lib.rt:124:1
 same-length : tie.Need-same-length
 same-length c = search needs
 
--- src/lib.rt:124:1
 returns : tie.Need-returns
 returns c = let a = c .before .before .before in
     ends (pos 0) (ruleI32 R.Add) (a .args .src .now) (a .args .s) (a .args .d) (a .args .ss) (a .args .ds) (a .args .n) (a .args .n) (a .args .dst .now) _ (a .fits .s) (a .fits .d) (a .fits .ss) (a .fits .ds) refl (c .before .run .ensures)

@@ -10,27 +10,19 @@ use Rattle.runs.specs.declared.Rule.{Rule}
 use borrow.Author.Needs.{needs}
 use Rattle.runs.proofs.apply.Statement.{statement}
 use Rattle.runs.proofs.apply.Tie as tie
-use Rattle.runs.proofs.apply.Reads as reads
-use Rattle.runs.proofs.apply.Lts as lts
-use Rattle.integer.proofs.wrapping_add_i32.Reads as wrapping-add-i32-reads
 
--- src/lib.rt:19:23
 enum-told : tie.Need-enum-told
 enum-told c = search needs
 
--- src/lib.rt:20:22
 enum-told-2 : tie.Need-enum-told-2
 enum-told-2 c = search needs
 
--- src/lib.rt:20:22
 wrapping-add-i32-requires : tie.Need-wrapping-add-i32-requires
 wrapping-add-i32-requires c κs = search needs
 
--- src/lib.rt:15:1
 returns : tie.Need-returns
 returns c = let a = c .before .before in back (a .fits .u) ∙ sym (ap (λ (r : Rule). ruleI32 r (a .args .x) (a .args .u)) (c .enum-told .given .1))
 
--- src/lib.rt:15:1
 returns-2 : tie.Need-returns-2
 returns-2 c = let a = c .before .before .before in
     let e = c .wrapping-add-i32 .ensures ∙ ap₂ (λ (x y : ℤ). wrap32 (x +ℤ y)) (back (a .fits .x)) (back (a .fits .u)) in

@@ -5,39 +5,29 @@ use Rattle.runs.proofs.Runs.{rows-ask, rows-end, runs-end}
 use borrow.Author.Needs.{needs}
 use Rattle.runs.proofs.plane.Statement.{statement}
 use Rattle.runs.proofs.plane.Tie as tie
-use Rattle.runs.proofs.plane.Reads as reads
-use Rattle.runs.proofs.plane.Lts as lts
-use Rattle.runs.proofs.rows.Reads as rows-reads
-use Rattle.runs.proofs.strided_rows.Reads as strided-rows-reads
 
--- src/lib.rt:151:13
 rows-requires : tie.Need-rows-requires
 rows-requires c κs = let t = c .before in
     let a = t .before .before in
     rows-ask _ _ (a .fits .ss) (a .fits .ds) (t .before .if1 .taken) (t .if2 .taken) _ _ _ _ _ _ _ _ (a .fits .s) (a .fits .d) (a .fits .st) (a .fits .dt) (a .pre)
 
--- src/lib.rt:152:13
 same-length : tie.Need-same-length
 same-length c = search needs
 
--- src/lib.rt:152:13
 returns : tie.Need-returns
 returns c = let t = c .before .before .before in
     let a = t .before .before in
     rows-end (a .args .ss) (a .args .ds) (a .fits .ss) (a .fits .ds) (t .before .if1 .taken) (t .if2 .taken) (pos 0) (ruleI32 (a .args .rule)) (a .args .src .now) (a .args .s) (a .args .d) (a .args .st) (a .args .dt) (a .args .n) (a .args .m) (a .args .dst .now) _ (a .fits .s) (a .fits .d) (a .fits .st) (a .fits .dt) (c .before .rows .ensures)
 
--- src/lib.rt:155:5
 strided-rows-requires : tie.Need-strided-rows-requires
 strided-rows-requires c κs = search needs
 
--- src/lib.rt:133:1
 same-length-2 : tie.Need-same-length-2
 same-length-2 c = search needs
 
--- src/lib.rt:133:1
 returns-2 : tie.Need-returns-2
 returns-2 c = let a = c .before .before .before .before in
-    runs-end (pos 0) (ruleI32 (a .args .rule)) (a .args .src .now) (a .args .s) (a .args .d) (a .args .ss) (a .args .ds) (a .args .st) (a .args .dt) (a .args .n) (a .args .m) (a .args .m) (a .args .dst .now) _ (a .fits .s) (a .fits .d) (a .fits .ss) (a .fits .ds) (a .fits .st) (a .fits .dt) refl (c .before .strided-rows .ensures)
+    runs-end (pos 0) (ruleI32 (a .args .rule)) (a .args .src .now) (a .args .s) (a .args .d) (a .args .ss) (a .args .ds) (a .args .st) (a .args .dt) (a .args .n) (a .args .m) (a .args .m) (a .args .dst .now) (c .before .strided-rows .last .1 .1 .0) (a .fits .s) (a .fits .d) (a .fits .ss) (a .fits .ds) (a .fits .st) (a .fits .dt) refl (c .before .strided-rows .ensures)
 
 pub plane-spec : {M : Type 1} → statement M
 plane-spec =

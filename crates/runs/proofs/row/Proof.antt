@@ -1,4 +1,3 @@
-use mathlib.Core.Path.{_≡_}
 use Prim.Native.Nat.{ℕ, _+_, _*_, _-_, _<_, _^_}
 use native.Mathlib.Omega.{arith}
 use lib.ListN.{length}
@@ -9,9 +8,6 @@ use Rattle.runs.proofs.Runs.{Part, part-of, part-run}
 use borrow.Author.Needs.{needs}
 use Rattle.runs.proofs.row.Statement.{statement}
 use Rattle.runs.proofs.row.Tie as tie
-use Rattle.runs.proofs.row.Reads as reads
-use Rattle.runs.proofs.row.Lts as lts
-use Rattle.runs.proofs.ones.Reads as ones-reads
 
 src-room : (a : tie.Start) → length (a .args .src .now) * 4 < 2 ^ 63
 src-room a = a .good .1 .0 .1
@@ -25,63 +21,48 @@ from a = part-of _ _ _ (a .pre .1 .source) (a .pre .0) (omega (arith, src-room a
 to : (a : tie.Start) → Part (a .args .d) (a .args .n) (length (a .args .dst .now))
 to a = part-of _ _ _ (a .pre .1 .dest) (a .pre .0) (omega (arith, dst-room a))
 
--- src/lib.rt:44:13
 cast-a : tie.Need-cast-a
 cast-a c = from c .cast
 
--- src/lib.rt:45:13
 cast-b : tie.Need-cast-b
 cast-b c = to c .cast
 
--- src/lib.rt:46:13
 add-e : tie.Need-add-e
 add-e c = omega (arith, from (c) .room, src-room (c))
 
--- src/lib.rt:47:13
 add-f : tie.Need-add-f
 add-f c = omega (arith, to (c) .room, dst-room (c))
 
--- src/lib.rt:48:16
 mul-ones : tie.Need-mul-ones
 mul-ones c = omega (arith, from (c) .room, src-room (c))
 
--- src/lib.rt:48:16
 sub-ones : tie.Need-sub-ones
 sub-ones c = search needs
 
--- src/lib.rt:48:16
 part-ones-start : tie.Need-part-ones-start
 part-ones-start c = search needs
 
--- src/lib.rt:48:16
 part-ones-end : tie.Need-part-ones-end
 part-ones-end c = from (c) .room
 
--- src/lib.rt:48:28
 mul-ones-2 : tie.Need-mul-ones-2
 mul-ones-2 c = let a = c .before in omega (arith, to a .room, dst-room a)
 
--- src/lib.rt:48:28
 sub-ones-2 : tie.Need-sub-ones-2
 sub-ones-2 c = search needs
 
--- src/lib.rt:48:28
 part-ones-start-2 : tie.Need-part-ones-start-2
 part-ones-start-2 c = search needs
 
--- src/lib.rt:48:28
 part-ones-end-2 : tie.Need-part-ones-end-2
 part-ones-end-2 c = to (c .before) .room
 
--- src/lib.rt:48:5
 ones-requires : tie.Need-ones-requires
 ones-requires c κs = search needs
 
--- src/lib.rt:40:1
 same-length : tie.Need-same-length
 same-length c = search needs
 
--- src/lib.rt:40:1
 returns : tie.Need-returns
 returns c = let a = c .before .before .before .before in
     let x : ℕ = natAbs (read (a .args .s)) in

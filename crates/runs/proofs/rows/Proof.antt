@@ -1,5 +1,5 @@
 use mathlib.Core.Path.{_≡_, refl, sym, subst, _∙_}
-use Prim.Native.Nat.{ℕ, _*_, _-_, _<_, _≤_, _^_}
+use Prim.Native.Nat.{_-_, _≤_}
 use native.Mathlib.Omega.{arith}
 use lib.ListN.{length}
 use lib.IntN.{pos}
@@ -13,9 +13,6 @@ use Rattle.runs.proofs.Place.{machine}
 use Rattle.runs.proofs.Runs.{Move, move-source, move-dest, runs-more, runs-end}
 use Rattle.runs.proofs.rows.Statement.{statement}
 use Rattle.runs.proofs.rows.Tie as tie
-use Rattle.runs.proofs.rows.Reads as reads
-use Rattle.runs.proofs.rows.Lts as lts
-use Rattle.runs.proofs.row.Reads as row-reads
 
 abbrev Inv-loop : tie.InvT-loop
 Inv-loop rule src dst₀ n m s d st dt j₀ dst j = (j ≤ m) × (length dst ≡ length dst₀) × (dst ≡ inOrder (runAt (pos 0) (ruleI32 rule) src (toZ w64 s) (toZ w64 d) (pos 1) (pos 1) (toZ w64 st) (toZ w64 dt) n) j dst₀)
@@ -29,45 +26,35 @@ from d = let a = d .before .before in move-source _ _ _ _ _ _ _ _ _ _ (a .pre) _
 to : (d : tie.In-loop Inv-loop μ-loop) → Move (d .before .before .args .d) (pos 1) (d .before .before .args .dt) (d .before .before .args .n) (length (d .before .before .args .dst .now)) (d .before .loop .j)
 to d = let a = d .before .before in move-dest _ _ _ _ _ _ _ _ _ _ (a .pre) _ (d .loop-test .taken) (a .fits .d) (sfits-lit {z = pos 1} tt) (a .fits .dt) (omega (arith, a .good .1 .1 .0 .1))
 
--- src/lib.rt:100:5
 loop-holds : tie.Need-loop-holds Inv-loop μ-loop
 loop-holds c = (omega arith, refl, none _ 0 _ refl)
 
--- src/lib.rt:101:17
 cast-k : tie.Need-cast-k Inv-loop μ-loop
 cast-k c = from c .step .count
 
--- src/lib.rt:102:36
 mul-row : tie.Need-mul-row Inv-loop μ-loop
 mul-row c = from (c .before) .step .multiple
 
--- src/lib.rt:102:32
 add-row : tie.Need-add-row Inv-loop μ-loop
 add-row c = from (c .before) .step .fits
 
--- src/lib.rt:102:48
 mul-row-2 : tie.Need-mul-row-2 Inv-loop μ-loop
 mul-row-2 c = to (c .before) .step .multiple
 
--- src/lib.rt:102:44
 add-row-2 : tie.Need-add-row-2 Inv-loop μ-loop
 add-row-2 c = to (c .before) .step .fits
 
--- src/lib.rt:102:9
 row-requires : tie.Need-row-requires Inv-loop μ-loop
 row-requires c κs = let d = c .before in
     let a = d .before .before in
     (a .pre .some, record { source = from d .run; dest = subst (Line (machine (a .args .d) (a .args .dt) (d .before .loop .j)) (pos 1) (a .args .n)) (sym (d .before .loop .inv .1)) (to d .run) })
 
--- src/lib.rt:103:9
 add-j : tie.Need-add-j Inv-loop μ-loop
 add-j c = let a = c .before .before .before .before .before in omega (arith, a .pre .few)
 
--- src/lib.rt:100:5
 loop-less : tie.Need-loop-less Inv-loop μ-loop
 loop-less c = omega arith
 
--- src/lib.rt:100:5
 loop-again : tie.Need-loop-again Inv-loop μ-loop
 loop-again c = let d = c .before .before .before in
     let h = d .before in
@@ -77,11 +64,9 @@ loop-again c = let d = c .before .before .before in
       runs-more (pos 0) (ruleI32 (a .args .rule)) (a .args .src .now) (a .args .s) (a .args .d) (pos 1) (pos 1) (a .args .st) (a .args .dt) (a .args .n) (h .loop .j) _ _ (a .args .dst .now) (h .loop .dst) _ (h .loop .inv .2) (from d) (to d) (c .before .row .ensures),
     )
 
--- src/lib.rt:85:1
 same-length : tie.Need-same-length Inv-loop μ-loop
 same-length c = c .before .loop .inv .1
 
--- src/lib.rt:85:1
 returns : tie.Need-returns Inv-loop μ-loop
 returns c = let h = c .before in
     let a = h .before in

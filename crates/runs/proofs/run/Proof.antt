@@ -6,40 +6,29 @@ use Rattle.runs.proofs.Runs.{row-asks, row-end, ends}
 use borrow.Author.Needs.{needs}
 use Rattle.runs.proofs.run.Statement.{statement}
 use Rattle.runs.proofs.run.Tie as tie
-use Rattle.runs.proofs.run.Reads as reads
-use Rattle.runs.proofs.run.Lts as lts
-use Rattle.runs.proofs.row.Reads as row-reads
-use Rattle.runs.proofs.strided.Reads as strided-reads
 
--- src/lib.rt:73:9
 returns : tie.Need-returns
 returns c = let a = c .before in none _ (a .args .n) (a .args .dst .now) (c .if1 .taken)
 
--- src/lib.rt:77:13
 row-requires : tie.Need-row-requires
 row-requires c κs = let t = c .before in
     let a = t .before .before .before in
     row-asks _ _ (a .fits .ss) (a .fits .ds) (t .before .if2 .taken) (t .if3 .taken) _ _ _ _ _ (a .fits .s) (a .fits .d) (t .before .before .if1 .left) (a .pre)
 
--- src/lib.rt:78:13
 same-length : tie.Need-same-length
 same-length c = search needs
 
--- src/lib.rt:78:13
 returns-2 : tie.Need-returns-2
 returns-2 c = let t = c .before .before .before in
     let a = t .before .before .before in
     row-end (a .args .ss) (a .args .ds) (a .fits .ss) (a .fits .ds) (t .before .if2 .taken) (t .if3 .taken) (pos 0) (ruleI32 (a .args .rule)) (a .args .src .now) (a .args .s) (a .args .d) (a .args .n) (a .args .dst .now) _ (a .fits .s) (a .fits .d) (c .before .row .ensures)
 
--- src/lib.rt:81:5
 strided-requires : tie.Need-strided-requires
 strided-requires c κs = search needs
 
--- src/lib.rt:68:1
 same-length-2 : tie.Need-same-length-2
 same-length-2 c = search needs
 
--- src/lib.rt:68:1
 returns-3 : tie.Need-returns-3
 returns-3 c = let a = c .before .before .before .before .before in
     ends (pos 0) (ruleI32 (a .args .rule)) (a .args .src .now) (a .args .s) (a .args .d) (a .args .ss) (a .args .ds) (a .args .n) (a .args .n) (a .args .dst .now) _ (a .fits .s) (a .fits .d) (a .fits .ss) (a .fits .ds) refl (c .before .strided .ensures)

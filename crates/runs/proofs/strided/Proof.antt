@@ -1,5 +1,5 @@
 use mathlib.Core.Path.{_≡_, refl, _∙_}
-use Prim.Native.Nat.{ℕ, _*_, _-_, _<_, _≤_, _^_}
+use Prim.Native.Nat.{_-_, _<_, _≤_, _^_}
 use native.Mathlib.Omega.{arith}
 use borrow.Author.Needs.{needs, sfits-of}
 use lib.ListN.{length, length-set}
@@ -14,9 +14,6 @@ use Rattle.runs.proofs.Rules.{stored}
 use Rattle.runs.proofs.Runs.{turn, ends}
 use Rattle.runs.proofs.strided.Statement.{statement}
 use Rattle.runs.proofs.strided.Tie as tie
-use Rattle.runs.proofs.strided.Reads as reads
-use Rattle.runs.proofs.strided.Lts as lts
-use Rattle.runs.proofs.apply.Reads as apply-reads
 
 abbrev Inv-loop : tie.InvT-loop
 Inv-loop rule src dst₀ n s d ss ds i₀ dst i = (i ≤ n) × (length dst ≡ length dst₀) × (dst ≡ inOrder (cellAt (pos 0) (ruleI32 rule) src (line (toZ w64 s) (toZ w64 ss)) (line (toZ w64 d) (toZ w64 ds))) i dst₀)
@@ -36,75 +33,57 @@ from d = let a = d .before .before in step _ _ (a .args .n) _ (a .fits .s) (a .f
 to : (d : tie.In-loop Inv-loop μ-loop) → Step (d .before .before .args .d) (d .before .before .args .ds) (d .before .loop .i) (length (d .before .before .args .dst .now))
 to d = let a = d .before .before in step _ _ (a .args .n) _ (a .fits .d) (a .fits .ds) (a .pre .dest) (dst-room a) _ (d .loop-test .taken)
 
--- src/lib.rt:52:5
 loop-holds : tie.Need-loop-holds Inv-loop μ-loop
 loop-holds c = (omega arith, refl, none _ 0 (c .args .dst .now) refl)
 
--- src/lib.rt:53:17
 cast-k : tie.Need-cast-k Inv-loop μ-loop
 cast-k c = from c .count
 
--- src/lib.rt:54:22
 mul-a : tie.Need-mul-a Inv-loop μ-loop
 mul-a c = from c .multiple
 
--- src/lib.rt:54:18
 add-a : tie.Need-add-a Inv-loop μ-loop
 add-a c = from c .fits
 
--- src/lib.rt:54:17
 cast-a : tie.Need-cast-a Inv-loop μ-loop
 cast-a c = from c .cast
 
--- src/lib.rt:55:22
 mul-b : tie.Need-mul-b Inv-loop μ-loop
 mul-b c = to c .multiple
 
--- src/lib.rt:55:18
 add-b : tie.Need-add-b Inv-loop μ-loop
 add-b c = to c .fits
 
--- src/lib.rt:55:17
 cast-b : tie.Need-cast-b Inv-loop μ-loop
 cast-b c = to c .cast
 
--- src/lib.rt:56:29
 mul-apply : tie.Need-mul-apply Inv-loop μ-loop
 mul-apply c = omega (arith, to c .below, dst-room (c .before .before))
 
--- src/lib.rt:56:29
 slice-copy-out-apply : tie.Need-slice-copy-out-apply Inv-loop μ-loop
 slice-copy-out-apply c = omega (arith, to c .below, c .before .loop .inv .1)
 
--- src/lib.rt:56:37
 mul-apply-2 : tie.Need-mul-apply-2 Inv-loop μ-loop
 mul-apply-2 c = let d = c .before in omega (arith, from d .below, src-room (d .before .before))
 
--- src/lib.rt:56:37
 shared-slice-copy-out-apply : tie.Need-shared-slice-copy-out-apply Inv-loop μ-loop
 shared-slice-copy-out-apply c = from (c .before) .below
 
--- src/lib.rt:56:13
 apply-requires : tie.Need-apply-requires Inv-loop μ-loop
 apply-requires c κs = search needs
 
--- src/lib.rt:57:9
 mul-v : tie.Need-mul-v Inv-loop μ-loop
 mul-v c = let d = c .before .before .before in omega (arith, to d .below, dst-room (d .before .before))
 
--- src/lib.rt:57:9
 slice-set-from-v : tie.Need-slice-set-from-v Inv-loop μ-loop
 slice-set-from-v c = let d = c .before .before .before in omega (arith, to d .below, d .before .loop .inv .1)
 
--- src/lib.rt:58:9
 add-i : tie.Need-add-i Inv-loop μ-loop
 add-i c = omega arith
 
--- src/lib.rt:52:5
 loop-less : tie.Need-loop-less Inv-loop μ-loop
 loop-less c = omega arith
 
--- src/lib.rt:52:5
 loop-again : tie.Need-loop-again Inv-loop μ-loop
 loop-again c = let d = c .before .before .before in
     let h = d .before in
@@ -115,11 +94,9 @@ loop-again c = let d = c .before .before .before in
           (stored (a .args .rule) _ _ (c .apply .result) (sfits-of (c .before .before .apply-arg .given)) (sfits-of (c .before .apply-arg2 .given)) (c .apply .ensures)),
     )
 
--- src/lib.rt:38:1
 same-length : tie.Need-same-length Inv-loop μ-loop
 same-length c = c .before .loop .inv .1
 
--- src/lib.rt:38:1
 returns : tie.Need-returns Inv-loop μ-loop
 returns c = let h = c .before in
     let a = h .before in

@@ -10,10 +10,6 @@ use Rattle.runs_c.proofs.Accepted.{rank-no, few-no, source-no, source-y
 use borrow.Author.Needs.{needs}
 use Rattle.runs_c.proofs.accepts.Statement.{statement}
 use Rattle.runs_c.proofs.accepts.Tie as tie
-use Rattle.runs_c.proofs.accepts.Reads as reads
-use Rattle.runs_c.proofs.accepts.Lts as lts
-use Rattle.runs_c.proofs.all_few.Reads as all-few-reads
-use Rattle.runs_c.proofs.inside.Reads as inside-reads
 
 tested : (a : tie.Start) (r : Bool) → r ≡ accepted (a .args .rank) (a .args .extents) (a .args .ss) (a .args .ds) (a .args .s) (a .args .d) (a .args .sn) (a .args .dn)
     → Tested r (a .args .rank) (a .args .extents) (a .args .ss) (a .args .ds) (a .args .s) (a .args .d) (a .args .sn) (a .args .dn)
@@ -24,31 +20,24 @@ source t =
     let a = t .before .before .before .before in
     sym (t .inside .ensures ∙ ap (λ (z : ℤ). covers (take (a .args .rank) (a .args .extents)) (take (a .args .rank) (a .args .ss)) z (a .args .sn)) (back (a .fits .s)))
 
--- src/lib.rt:68:9
 returns : tie.Need-returns
 returns c = let a = c .before in tested a _ (rank-no (a .args .rank) (a .args .extents) (a .args .ss) (a .args .ds) (a .args .s) (a .args .d) (a .args .sn) (a .args .dn) (c .if1 .taken))
 
--- src/lib.rt:70:9
 all-few-requires : tie.Need-all-few-requires
 all-few-requires c κs = search needs
 
--- src/lib.rt:71:9
 returns-2 : tie.Need-returns-2
 returns-2 c = let a = c .before .before .before in tested a _ (few-no (a .args .rank) (a .args .extents) (a .args .ss) (a .args .ds) (a .args .s) (a .args .d) (a .args .sn) (a .args .dn) (omega (arith, c .before .before .if1 .left)) (sym (c .before .all-few .ensures) ∙ not-true _ (c .if2 .taken)))
 
--- src/lib.rt:73:9
 inside-requires : tie.Need-inside-requires
 inside-requires c κs = search needs
 
--- src/lib.rt:74:9
 returns-3 : tie.Need-returns-3
 returns-3 c = let a = c .before .before .before .before .before in tested a _ (source-no (a .args .rank) (a .args .extents) (a .args .ss) (a .args .ds) (a .args .s) (a .args .d) (a .args .sn) (a .args .dn) (omega (arith, c .before .before .before .before .if1 .left)) (sym (c .before .before .before .all-few .ensures) ∙ not-false _ (c .before .before .if2 .left)) (source (c .before) ∙ not-true _ (c .if3 .taken)))
 
--- src/lib.rt:76:5
 inside-requires-2 : tie.Need-inside-requires-2
 inside-requires-2 c κs = search needs
 
--- src/lib.rt:55:1
 returns-4 : tie.Need-returns-4
 returns-4 c = let t = c .before .before in
     let a = t .before .before .before .before in

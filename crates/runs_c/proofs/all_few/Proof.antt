@@ -7,8 +7,6 @@ use Rattle.runs_c.specs.Bench.{allFew}
 use Rattle.runs_c.proofs.Accepted.{few-stops, few-goes, few-ends}
 use Rattle.runs_c.proofs.all_few.Statement.{statement}
 use Rattle.runs_c.proofs.all_few.Tie as tie
-use Rattle.runs_c.proofs.all_few.Reads as reads
-use Rattle.runs_c.proofs.all_few.Lts as lts
 
 abbrev Inv-loop : tie.InvT-loop
 Inv-loop rank extents i₀ i = (i ≤ rank) × (allFew (drop i (take rank extents)) ≡ allFew (take rank extents))
@@ -16,41 +14,33 @@ Inv-loop rank extents i₀ i = (i ≤ rank) × (allFew (drop i (take rank extent
 abbrev μ-loop : tie.MeasureT-loop
 μ-loop rank extents i₀ i = rank - i
 
--- src/lib.rt:24:5
 loop-holds : tie.Need-loop-holds Inv-loop μ-loop
 loop-holds c = (omega arith, refl)
 
--- src/lib.rt:25:34
 mul-if1 : tie.Need-mul-if1 Inv-loop μ-loop
 mul-if1 c = search needs
 
--- src/lib.rt:25:34
 array-read-if1 : tie.Need-array-read-if1 Inv-loop μ-loop
 array-read-if1 c = search needs
 
--- src/lib.rt:26:13
 returns : tie.Need-returns Inv-loop μ-loop
 returns c = let l = c .before .before in
     let s = l .before in
     let e : length (s .args .t1) ≡ 8 = search needs in
     few-stops (s .args .t1) (s .args .rank) (l .loop .i) (omega arith) (omega arith) (omega arith) ∙ l .loop .inv .1
 
--- src/lib.rt:28:9
 add-i : tie.Need-add-i Inv-loop μ-loop
 add-i c = omega arith
 
--- src/lib.rt:24:5
 loop-less : tie.Need-loop-less Inv-loop μ-loop
 loop-less c = omega arith
 
--- src/lib.rt:24:5
 loop-again : tie.Need-loop-again Inv-loop μ-loop
 loop-again c = let l = c .before .before in
     let s = l .before in
     let e : length (s .args .t1) ≡ 8 = search needs in
     (omega arith, few-goes (s .args .t1) (s .args .rank) (l .loop .i) (omega arith) (omega arith) (omega arith) ∙ l .loop .inv .1)
 
--- src/lib.rt:19:1
 returns-2 : tie.Need-returns-2 Inv-loop μ-loop
 returns-2 c = let l = c .before in
     let s = l .before in

@@ -1,5 +1,5 @@
 use mathlib.Core.Path.{_≡_, refl, sym, subst, _∙_}
-use Prim.Native.Nat.{ℕ, _-_, _≤_}
+use Prim.Native.Nat.{_-_, _≤_}
 use native.Mathlib.Omega.{arith}
 use borrow.Author.Needs.{needs}
 use borrow.Author.Tests.{not-true, not-false}
@@ -9,7 +9,6 @@ use mir.Syntax.{w64}
 use mir.Val.{toZ}
 use Rattle.integer.specs.Z.{back}
 use Rattle.indexing.specs.Loops.{inOrder}
-use Rattle.layout.specs.Layouts.{rankLimit}
 use Rattle.runs.specs.Runs.{ruleF64}
 use Rattle.runs.proofs.Turns.{none, more}
 use Rattle.windows.specs.Windows.{windowed, Window}
@@ -17,11 +16,6 @@ use Rattle.runs_c.specs.Bench.{accepted, ruleOf}
 use Rattle.runs_c.proofs.Accepted.{accepted-window, read-back, windows-by, refused, ran}
 use Rattle.runs_c.proofs.bench_window_f64.Statement.{statement}
 use Rattle.runs_c.proofs.bench_window_f64.Tie as tie
-use Rattle.runs_c.proofs.bench_window_f64.Reads as reads
-use Rattle.runs_c.proofs.bench_window_f64.Lts as lts
-use Rattle.runs_c.proofs.accepts.Reads as accepts-reads
-use Rattle.runs_c.proofs.rule_of.Reads as rule-of-reads
-use Rattle.windows_f64.proofs.window_f64.Reads as window-f64-reads
 
 abbrev Inv-loop : tie.InvT-loop
 Inv-loop add src dst₀ extents ss ds rank s d times rule i₀ dst i = (i ≤ times) × (length dst ≡ length dst₀) × (dst ≡ inOrder (λ _ x. windowed nan (ruleF64 rule) src (toZ w64 s) (toZ w64 d) extents ss ds rank x) i dst₀)
@@ -36,25 +30,20 @@ start p = p .before .before .before .before .before .before
 test-is : (p : tie.After-accepts Inv-loop μ-loop) → accepted (start p .args .rank) (start p .args .extents .now) (start p .args .ss .now) (start p .args .ds .now) (start p .args .s) (start p .args .d) (length (start p .args .src .now)) (length (start p .args .dst .now)) ≡ p .accepts .result
 test-is p = let a = start p in sym (p .accepts .ensures .is ∙ read-back _ _ _ _ _ _ _ _ (a .fits .s) (a .fits .d))
 
--- src/lib.rt:185:9
 accepts-requires : tie.Need-accepts-requires Inv-loop μ-loop
 accepts-requires c κs = search needs
 
--- src/lib.rt:186:9
 returns : tie.Need-returns Inv-loop μ-loop
 returns c = let p = c .before in
     let a = start p in
     refused (accepted (a .args .rank) (a .args .extents .now) (a .args .ss .now) (a .args .ds .now) (a .args .s) (a .args .d) (length (a .args .src .now)) (length (a .args .dst .now))) (λ _ x. windowed nan (ruleF64 (ruleOf (a .args .add))) (a .args .src .now) (a .args .s) (a .args .d) (a .args .extents .now) (a .args .ss .now) (a .args .ds .now) (a .args .rank) x) (a .args .times) (a .args .dst .now) (test-is p ∙ not-true _ (c .if1 .taken))
 
--- src/lib.rt:188:9
 rule-of-requires : tie.Need-rule-of-requires Inv-loop μ-loop
 rule-of-requires c κs = search needs
 
--- src/lib.rt:190:5
 loop-holds : tie.Need-loop-holds Inv-loop μ-loop
 loop-holds c = (omega arith, refl, none _ 0 _ refl)
 
--- src/lib.rt:191:9
 window-f64-requires : tie.Need-window-f64-requires Inv-loop μ-loop
 window-f64-requires c κs = let h = c .before .before in
     let p = h .before .before .before in
@@ -62,15 +51,12 @@ window-f64-requires c κs = let h = c .before .before in
     let w = accepted-window (a .args .rank) (a .args .extents .now) (a .args .ss .now) (a .args .ds .now) (a .args .s) (a .args .d) _ _ (p .accepts .ensures .shape-long) (p .accepts .ensures .source-long) (p .accepts .ensures .dest-long) (test-is p ∙ not-false _ (h .before .before .if1 .left)) in
     simp (back (a .fits .s), back (a .fits .d)) (subst (Window (a .args .s) (a .args .d) (a .args .extents .now) (a .args .ss .now) (a .args .ds .now) (a .args .rank) (length (a .args .src .now))) (sym (h .loop .inv .1)) w)
 
--- src/lib.rt:192:9
 add-i : tie.Need-add-i Inv-loop μ-loop
 add-i c = omega arith
 
--- src/lib.rt:190:5
 loop-less : tie.Need-loop-less Inv-loop μ-loop
 loop-less c = omega arith
 
--- src/lib.rt:190:5
 loop-again : tie.Need-loop-again Inv-loop μ-loop
 loop-again c = let h = c .before .before .before .before .before in (
   omega arith,
@@ -78,11 +64,9 @@ loop-again c = let h = c .before .before .before .before .before in (
   more _ (h .loop .i) _ (h .loop .dst) _ (h .loop .inv .2) (c .before .before .window-f64 .ensures),
 )
 
--- src/lib.rt:170:1
 same-length : tie.Need-same-length Inv-loop μ-loop
 same-length c = c .before .loop .inv .1
 
--- src/lib.rt:170:1
 returns-2 : tie.Need-returns-2 Inv-loop μ-loop
 returns-2 c = let h = c .before in
     let R = h .before in

@@ -8,25 +8,16 @@ use Rattle.runs_c.specs.Bench.{covers}
 use borrow.Author.Needs.{needs}
 use Rattle.runs_c.proofs.inside.Statement.{statement}
 use Rattle.runs_c.proofs.inside.Tie as tie
-use Rattle.runs_c.proofs.inside.Reads as reads
-use Rattle.runs_c.proofs.inside.Lts as lts
-use Rattle.layout.proofs.check_reach.Reads as check-reach-reads
-use Rattle.layout.proofs.is_done.Reads as is-done-reads
-use Rattle.layout.proofs.view_reach.Reads as view-reach-reads
 
--- src/lib.rt:49:9
 view-reach-requires : tie.Need-view-reach-requires
 view-reach-requires c κs = search needs
 
--- src/lib.rt:50:9
 check-reach-requires : tie.Need-check-reach-requires
 check-reach-requires c κs = search needs
 
--- src/lib.rt:51:5
 is-done-requires : tie.Need-is-done-requires
 is-done-requires c κs = search needs
 
--- src/lib.rt:34:1
 returns : tie.Need-returns
 unfolding covers
 returns c = let a = c .before .before .before in

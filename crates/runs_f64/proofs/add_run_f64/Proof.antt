@@ -6,19 +6,13 @@ use Rattle.runs.proofs.Runs.{ends}
 use borrow.Author.Needs.{needs}
 use Rattle.runs_f64.proofs.add_run_f64.Statement.{statement}
 use Rattle.runs_f64.proofs.add_run_f64.Tie as tie
-use Rattle.runs_f64.proofs.add_run_f64.Reads as reads
-use Rattle.runs_f64.proofs.add_run_f64.Lts as lts
-use Rattle.runs_f64.proofs.run_f64.Reads as run-f64-reads
 
--- src/lib.rt:128:5
 run-f64-requires : tie.Need-run-f64-requires
 run-f64-requires c κs = search needs
 
--- src/lib.rt:124:1
 same-length : tie.Need-same-length
 same-length c = search needs
 
--- src/lib.rt:124:1
 returns : tie.Need-returns
 returns c = let a = c .before .before .before .before .before .before in
     ends nan (ruleF64 R.Add) (a .args .src .now) (a .args .s) (a .args .d) (a .args .ss) (a .args .ds) (a .args .n) (a .args .n) (a .args .dst .now) _ (a .fits .s) (a .fits .d) (a .fits .ss) (a .fits .ds) refl (c .before .before .run-f64 .ensures)

@@ -1,4 +1,3 @@
-use mathlib.Core.Path.{_≡_}
 use Prim.Native.Nat.{ℕ, _+_, _*_, _-_, _<_, _^_}
 use native.Mathlib.Omega.{arith}
 use lib.ListN.{length}
@@ -10,9 +9,6 @@ use Rattle.runs.proofs.Runs.{Part, part-of, part-run}
 use borrow.Author.Needs.{needs}
 use Rattle.runs_f64.proofs.row_f64.Statement.{statement}
 use Rattle.runs_f64.proofs.row_f64.Tie as tie
-use Rattle.runs_f64.proofs.row_f64.Reads as reads
-use Rattle.runs_f64.proofs.row_f64.Lts as lts
-use Rattle.runs_f64.proofs.ones_f64.Reads as ones-f64-reads
 
 src-room : (a : tie.Start) → length (a .args .src .now) * 8 < 2 ^ 63
 src-room a = a .good .1 .0 .1
@@ -26,63 +22,48 @@ from a = part-of _ _ _ (a .pre .1 .source) (a .pre .0) (omega (arith, src-room a
 to : (a : tie.Start) → Part (a .args .d) (a .args .n) (length (a .args .dst .now))
 to a = part-of _ _ _ (a .pre .1 .dest) (a .pre .0) (omega (arith, dst-room a))
 
--- src/lib.rt:201:13
 cast-a : tie.Need-cast-a
 cast-a c = from (c .before .before) .cast
 
--- src/lib.rt:202:13
 cast-b : tie.Need-cast-b
 cast-b c = to (c .before .before) .cast
 
--- src/lib.rt:203:13
 add-e : tie.Need-add-e
 add-e c = omega (arith, from (c .before .before) .room, src-room (c .before .before))
 
--- src/lib.rt:204:13
 add-f : tie.Need-add-f
 add-f c = omega (arith, to (c .before .before) .room, dst-room (c .before .before))
 
--- src/lib.rt:205:20
 mul-ones-f64 : tie.Need-mul-ones-f64
 mul-ones-f64 c = omega (arith, from (c .before .before) .room, src-room (c .before .before))
 
--- src/lib.rt:205:20
 sub-ones-f64 : tie.Need-sub-ones-f64
 sub-ones-f64 c = search needs
 
--- src/lib.rt:205:20
 part-ones-f64-start : tie.Need-part-ones-f64-start
 part-ones-f64-start c = search needs
 
--- src/lib.rt:205:20
 part-ones-f64-end : tie.Need-part-ones-f64-end
 part-ones-f64-end c = from (c .before .before) .room
 
--- src/lib.rt:205:32
 mul-ones-f64-2 : tie.Need-mul-ones-f64-2
 mul-ones-f64-2 c = let a = c .before .before .before in omega (arith, to a .room, dst-room a)
 
--- src/lib.rt:205:32
 sub-ones-f64-2 : tie.Need-sub-ones-f64-2
 sub-ones-f64-2 c = search needs
 
--- src/lib.rt:205:32
 part-ones-f64-start-2 : tie.Need-part-ones-f64-start-2
 part-ones-f64-start-2 c = search needs
 
--- src/lib.rt:205:32
 part-ones-f64-end-2 : tie.Need-part-ones-f64-end-2
 part-ones-f64-end-2 c = to (c .before .before .before) .room
 
--- src/lib.rt:205:5
 ones-f64-requires : tie.Need-ones-f64-requires
 ones-f64-requires c κs = search needs
 
--- src/lib.rt:197:1
 same-length : tie.Need-same-length
 same-length c = search needs
 
--- src/lib.rt:197:1
 returns : tie.Need-returns
 returns c = let a = c .before .before .before .before .before .before .before in
     let x : ℕ = natAbs (read (a .args .s)) in

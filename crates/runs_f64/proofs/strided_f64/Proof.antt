@@ -1,5 +1,5 @@
 use mathlib.Core.Path.{_≡_, refl, _∙_}
-use Prim.Native.Nat.{ℕ, _*_, _-_, _<_, _≤_, _^_}
+use Prim.Native.Nat.{_*_, _-_, _<_, _≤_, _^_}
 use native.Mathlib.Omega.{arith}
 use borrow.Author.Needs.{needs}
 use lib.ListN.{length, length-set}
@@ -13,9 +13,6 @@ use Rattle.runs.proofs.Place.{Step, step}
 use Rattle.runs.proofs.Runs.{turn, ends}
 use Rattle.runs_f64.proofs.strided_f64.Statement.{statement}
 use Rattle.runs_f64.proofs.strided_f64.Tie as tie
-use Rattle.runs_f64.proofs.strided_f64.Reads as reads
-use Rattle.runs_f64.proofs.strided_f64.Lts as lts
-use Rattle.runs_f64.proofs.apply_f64.Reads as apply-f64-reads
 
 abbrev Inv-loop : tie.InvT-loop
 Inv-loop rule src dst₀ n s d ss ds i₀ dst i = (i ≤ n) × (length dst ≡ length dst₀) × (dst ≡ inOrder (cellAt nan (ruleF64 rule) src (line (toZ w64 s) (toZ w64 ss)) (line (toZ w64 d) (toZ w64 ds))) i dst₀)
@@ -35,75 +32,57 @@ from d = let a = d .before .before .before .before in step _ _ (a .args .n) _ (a
 to : (d : tie.In-loop Inv-loop μ-loop) → Step (d .before .before .before .before .args .d) (d .before .before .before .before .args .ds) (d .before .loop .i) (length (d .before .before .before .before .args .dst .now))
 to d = let a = d .before .before .before .before in step _ _ (a .args .n) _ (a .fits .d) (a .fits .ds) (a .pre .dest) (omega (arith, dst-room a)) _ (d .loop-test .taken)
 
--- src/lib.rt:153:5
 loop-holds : tie.Need-loop-holds Inv-loop μ-loop
 loop-holds c = (omega arith, refl, none _ 0 (c .before .before .args .dst .now) refl)
 
--- src/lib.rt:154:17
 cast-k : tie.Need-cast-k Inv-loop μ-loop
 cast-k c = from c .count
 
--- src/lib.rt:155:22
 mul-a : tie.Need-mul-a Inv-loop μ-loop
 mul-a c = from c .multiple
 
--- src/lib.rt:155:18
 add-a : tie.Need-add-a Inv-loop μ-loop
 add-a c = from c .fits
 
--- src/lib.rt:155:17
 cast-a : tie.Need-cast-a Inv-loop μ-loop
 cast-a c = from c .cast
 
--- src/lib.rt:156:22
 mul-b : tie.Need-mul-b Inv-loop μ-loop
 mul-b c = to c .multiple
 
--- src/lib.rt:156:18
 add-b : tie.Need-add-b Inv-loop μ-loop
 add-b c = to c .fits
 
--- src/lib.rt:156:17
 cast-b : tie.Need-cast-b Inv-loop μ-loop
 cast-b c = to c .cast
 
--- src/lib.rt:157:33
 mul-apply-f64 : tie.Need-mul-apply-f64 Inv-loop μ-loop
 mul-apply-f64 c = omega (arith, to c .below, dst-room (c .before .before .before .before))
 
--- src/lib.rt:157:33
 slice-read-apply-f64 : tie.Need-slice-read-apply-f64 Inv-loop μ-loop
 slice-read-apply-f64 c = let d = c .before in omega (arith, to d .below, d .before .loop .inv .1)
 
--- src/lib.rt:157:41
 mul-apply-f64-2 : tie.Need-mul-apply-f64-2 Inv-loop μ-loop
 mul-apply-f64-2 c = let d = c .before in omega (arith, from d .below, src-room (d .before .before .before .before))
 
--- src/lib.rt:157:41
 shared-slice-read-apply-f64 : tie.Need-shared-slice-read-apply-f64 Inv-loop μ-loop
 shared-slice-read-apply-f64 c = from (c .before .before) .below
 
--- src/lib.rt:157:13
 apply-f64-requires : tie.Need-apply-f64-requires Inv-loop μ-loop
 apply-f64-requires c κs = search needs
 
--- src/lib.rt:158:9
 mul-dst : tie.Need-mul-dst Inv-loop μ-loop
 mul-dst c = let d = c .before .before .before in omega (arith, to d .below, dst-room (d .before .before .before .before))
 
--- src/lib.rt:158:9
 slice-write-dst : tie.Need-slice-write-dst Inv-loop μ-loop
 slice-write-dst c = let d = c .before .before .before in omega (arith, to d .below, d .before .loop .inv .1)
 
--- src/lib.rt:159:9
 add-i : tie.Need-add-i Inv-loop μ-loop
 add-i c = omega arith
 
--- src/lib.rt:153:5
 loop-less : tie.Need-loop-less Inv-loop μ-loop
 loop-less c = omega arith
 
--- src/lib.rt:153:5
 loop-again : tie.Need-loop-again Inv-loop μ-loop
 loop-again c = let d = c .before .before .before in
     let h = d .before in
@@ -113,11 +92,9 @@ loop-again c = let d = c .before .before .before in
       turn nan (ruleF64 (a .args .rule)) (a .args .src .now) (a .args .s) (a .args .d) (a .args .ss) (a .args .ds) (a .args .dst .now) (h .loop .dst) (h .loop .i) _ _ _ (h .loop .inv .2) (from d) (to d) (c .apply-f64 .ensures),
     )
 
--- src/lib.rt:139:1
 same-length : tie.Need-same-length Inv-loop μ-loop
 same-length c = c .before .loop .inv .1
 
--- src/lib.rt:139:1
 returns : tie.Need-returns Inv-loop μ-loop
 returns c = let h = c .before in
     let a = h .before .before .before in

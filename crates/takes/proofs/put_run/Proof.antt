@@ -1,5 +1,5 @@
 use mathlib.Core.Path.{_≡_, refl, _∙_}
-use Prim.Native.Nat.{ℕ, _*_, _-_, _<_, _≤_, _^_}
+use Prim.Native.Nat.{_-_, _≤_}
 use native.Mathlib.Omega.{arith}
 use borrow.Author.Needs.{needs, sfits-of}
 use lib.ListN.{length, getD, length-set}
@@ -16,10 +16,6 @@ use Rattle.takes.specs.Takes.{clampedAt}
 use Rattle.takes.proofs.Places.{start-step, plain-step, clamped-step, clamped-is, put-end}
 use Rattle.takes.proofs.put_run.Statement.{statement}
 use Rattle.takes.proofs.put_run.Tie as tie
-use Rattle.takes.proofs.put_run.Reads as reads
-use Rattle.takes.proofs.put_run.Lts as lts
-use Rattle.integer.proofs.wrapping_add_i32.Reads as wrapping-add-i32-reads
-use Rattle.layout.proofs.clamp_window_start.Reads as clamp-window-start-reads
 
 abbrev Inv-loop : tie.InvT-loop
 Inv-loop src starts dst₀ n t ts base stride extent window s ss i₀ dst i = (i ≤ n) × (length dst ≡ length dst₀) × (dst ≡ inOrder (cellAt (pos 0) (ruleI32 R.Add) src (line (toZ w64 s) (toZ w64 ss)) (clampedAt starts (line (toZ w64 t) (toZ w64 ts)) (toZ w64 base) (toZ w64 stride) extent window)) i dst₀)
@@ -45,104 +41,79 @@ module _ (c : tie.After-clamp-window-start Inv-loop μ-loop) where
       ≡ clampedAt (start (c .before .before) .args .starts .now) (line (read (start (c .before .before) .args .t)) (read (start (c .before .before) .args .ts))) (read (start (c .before .before) .args .base)) (read (start (c .before .before) .args .stride)) (start (c .before .before) .args .extent) (start (c .before .before) .args .window) (c .before .before .before .loop .i)
   by-start = let a = start (c .before .before) in clamped-is (a .args .starts .now) (a .args .t) (a .args .ts) (a .args .base) (a .args .stride) (a .args .extent) (a .args .window) _ _ _ _ (starts-at (c .before .before)) (sfits-of (c .before .x .given)) clamped-at (c .clamp-window-start .ensures)
 
--- src/lib.rt:62:5
 loop-holds : tie.Need-loop-holds Inv-loop μ-loop
 loop-holds c = (omega arith, refl, none _ 0 (c .args .dst .now) refl)
 
--- src/lib.rt:63:17
 cast-k : tie.Need-cast-k Inv-loop μ-loop
 cast-k c = starts-at c .count
 
--- src/lib.rt:64:22
 mul-p : tie.Need-mul-p Inv-loop μ-loop
 mul-p c = starts-at c .multiple
 
--- src/lib.rt:64:18
 add-p : tie.Need-add-p Inv-loop μ-loop
 add-p c = starts-at c .fits
 
--- src/lib.rt:64:17
 cast-p : tie.Need-cast-p Inv-loop μ-loop
 cast-p c = starts-at c .cast
 
--- src/lib.rt:65:17
 mul-x : tie.Need-mul-x Inv-loop μ-loop
 mul-x c = omega (arith, starts-at c .below, start c .good .1 .0 .1)
 
--- src/lib.rt:65:17
 shared-slice-copy-out-x : tie.Need-shared-slice-copy-out-x Inv-loop μ-loop
 shared-slice-copy-out-x c = starts-at c .below
 
--- src/lib.rt:66:13
 clamp-window-start-requires : tie.Need-clamp-window-start-requires Inv-loop μ-loop
 clamp-window-start-requires c κs = search needs
 
--- src/lib.rt:67:17
 cast-c : tie.Need-cast-c Inv-loop μ-loop
 cast-c c = clamped-at c .count
 
--- src/lib.rt:68:25
 mul-b : tie.Need-mul-b Inv-loop μ-loop
 mul-b c = clamped-at c .multiple
 
--- src/lib.rt:68:18
 add-b : tie.Need-add-b Inv-loop μ-loop
 add-b c = clamped-at c .fits
 
--- src/lib.rt:68:17
 cast-b : tie.Need-cast-b Inv-loop μ-loop
 cast-b c = clamped-at c .cast
 
--- src/lib.rt:69:22
 mul-a : tie.Need-mul-a Inv-loop μ-loop
 mul-a c = plain-at (c .before .before) .multiple
 
--- src/lib.rt:69:18
 add-a : tie.Need-add-a Inv-loop μ-loop
 add-a c = plain-at (c .before .before) .fits
 
--- src/lib.rt:69:17
 cast-a : tie.Need-cast-a Inv-loop μ-loop
 cast-a c = plain-at (c .before .before) .cast
 
--- src/lib.rt:70:43
 mul-wrapping-add-i32 : tie.Need-mul-wrapping-add-i32 Inv-loop μ-loop
 mul-wrapping-add-i32 c = omega (arith, clamped-at c .below, start (c .before .before) .good .1 .1 .0 .1)
 
--- src/lib.rt:70:43
 slice-copy-out-wrapping-add-i32 : tie.Need-slice-copy-out-wrapping-add-i32 Inv-loop μ-loop
 slice-copy-out-wrapping-add-i32 c = omega (arith, clamped-at c .below, c .before .before .before .loop .inv .1)
 
--- src/lib.rt:70:51
 mul-wrapping-add-i32-2 : tie.Need-mul-wrapping-add-i32-2 Inv-loop μ-loop
 mul-wrapping-add-i32-2 c = omega (arith, plain-at (c .before .before .before) .below, start (c .before .before .before) .good .0 .1)
 
--- src/lib.rt:70:51
 shared-slice-copy-out-wrapping-add-i32 :
     tie.Need-shared-slice-copy-out-wrapping-add-i32 Inv-loop μ-loop
 shared-slice-copy-out-wrapping-add-i32 c = plain-at (c .before .before .before) .below
 
--- src/lib.rt:70:13
 wrapping-add-i32-requires : tie.Need-wrapping-add-i32-requires Inv-loop μ-loop
 wrapping-add-i32-requires c κs = search needs
 
--- src/lib.rt:71:9
 mul-v : tie.Need-mul-v Inv-loop μ-loop
 mul-v c = omega (arith, clamped-at (c .before .before .before) .below, start (c .before .before .before .before .before) .good .1 .1 .0 .1)
 
--- src/lib.rt:71:9
 slice-set-from-v : tie.Need-slice-set-from-v Inv-loop μ-loop
 slice-set-from-v c = omega (arith, clamped-at (c .before .before .before) .below, c .before .before .before .before .before .before .loop .inv .1)
 
--- src/lib.rt:72:9
 add-i : tie.Need-add-i Inv-loop μ-loop
 add-i c = omega arith
 
--- src/lib.rt:62:5
 loop-less : tie.Need-loop-less Inv-loop μ-loop
 loop-less c = omega arith
 
--- src/lib.rt:62:5
 loop-again : tie.Need-loop-again Inv-loop μ-loop
 loop-again c = let q = c .before .before .before in
     let d = q .before .before in
@@ -155,11 +126,9 @@ loop-again c = let q = c .before .before .before in
       cell-more (pos 0) (ruleI32 R.Add) (a .args .src .now) (line (read (a .args .s)) (read (a .args .ss))) (clampedAt (a .args .starts .now) (line (read (a .args .t)) (read (a .args .ts))) (read (a .args .base)) (read (a .args .stride)) (a .args .extent) (a .args .window)) (a .args .dst .now) (h .loop .dst) (h .loop .i) from to _ (h .loop .inv .2) (plain-at d .index-is) (by-start q) (stored R.Add (getD (h .loop .dst) to (pos 0)) (getD (a .args .src .now) from (pos 0)) (c .wrapping-add-i32 .result) (sfits-of (c .before .before .wrapping-add-i32-arg .given)) (sfits-of (c .before .wrapping-add-i32-arg2 .given)) (c .wrapping-add-i32 .ensures)),
     )
 
--- src/lib.rt:44:1
 same-length : tie.Need-same-length Inv-loop μ-loop
 same-length c = c .before .loop .inv .1
 
--- src/lib.rt:44:1
 returns : tie.Need-returns Inv-loop μ-loop
 returns c = let h = c .before in
     let a = h .before in

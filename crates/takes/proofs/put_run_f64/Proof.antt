@@ -1,5 +1,5 @@
 use mathlib.Core.Path.{_≡_, refl, _∙_}
-use Prim.Native.Nat.{ℕ, _*_, _-_, _<_, _≤_, _^_}
+use Prim.Native.Nat.{_-_, _≤_}
 use native.Mathlib.Omega.{arith}
 use borrow.Author.Needs.{needs, sfits-of}
 use lib.ListN.{length, length-set}
@@ -16,9 +16,6 @@ use Rattle.takes.specs.Takes.{clampedAt}
 use Rattle.takes.proofs.Places.{start-step, plain-step, clamped-step, clamped-is, put-end}
 use Rattle.takes.proofs.put_run_f64.Statement.{statement}
 use Rattle.takes.proofs.put_run_f64.Tie as tie
-use Rattle.takes.proofs.put_run_f64.Reads as reads
-use Rattle.takes.proofs.put_run_f64.Lts as lts
-use Rattle.layout.proofs.clamp_window_start.Reads as clamp-window-start-reads
 
 abbrev Inv-loop : tie.InvT-loop
 Inv-loop src starts dst₀ n t ts base stride extent window s ss i₀ dst i = (i ≤ n) × (length dst ≡ length dst₀) × (dst ≡ inOrder (cellAt nan (ruleF64 R.Add) src (line (toZ w64 s) (toZ w64 ss)) (clampedAt starts (line (toZ w64 t) (toZ w64 ts)) (toZ w64 base) (toZ w64 stride) extent window)) i dst₀)
@@ -44,99 +41,75 @@ module _ (c : tie.After-clamp-window-start Inv-loop μ-loop) where
       ≡ clampedAt (start (c .before .before) .args .starts .now) (line (read (start (c .before .before) .args .t)) (read (start (c .before .before) .args .ts))) (read (start (c .before .before) .args .base)) (read (start (c .before .before) .args .stride)) (start (c .before .before) .args .extent) (start (c .before .before) .args .window) (c .before .before .before .loop .i)
   by-start = let a = start (c .before .before) in clamped-is (a .args .starts .now) (a .args .t) (a .args .ts) (a .args .base) (a .args .stride) (a .args .extent) (a .args .window) _ _ _ _ (starts-at (c .before .before)) (sfits-of (c .before .x .given)) clamped-at (c .clamp-window-start .ensures)
 
--- src/lib.rt:129:5
 loop-holds : tie.Need-loop-holds Inv-loop μ-loop
 loop-holds c = (omega arith, refl, none _ 0 (c .before .before .args .dst .now) refl)
 
--- src/lib.rt:130:17
 cast-k : tie.Need-cast-k Inv-loop μ-loop
 cast-k c = starts-at c .count
 
--- src/lib.rt:131:22
 mul-p : tie.Need-mul-p Inv-loop μ-loop
 mul-p c = starts-at c .multiple
 
--- src/lib.rt:131:18
 add-p : tie.Need-add-p Inv-loop μ-loop
 add-p c = starts-at c .fits
 
--- src/lib.rt:131:17
 cast-p : tie.Need-cast-p Inv-loop μ-loop
 cast-p c = starts-at c .cast
 
--- src/lib.rt:132:17
 mul-x : tie.Need-mul-x Inv-loop μ-loop
 mul-x c = omega (arith, starts-at c .below, start c .good .1 .0 .1)
 
--- src/lib.rt:132:17
 shared-slice-copy-out-x : tie.Need-shared-slice-copy-out-x Inv-loop μ-loop
 shared-slice-copy-out-x c = starts-at c .below
 
--- src/lib.rt:133:13
 clamp-window-start-requires : tie.Need-clamp-window-start-requires Inv-loop μ-loop
 clamp-window-start-requires c κs = search needs
 
--- src/lib.rt:134:17
 cast-c : tie.Need-cast-c Inv-loop μ-loop
 cast-c c = clamped-at c .count
 
--- src/lib.rt:135:25
 mul-b : tie.Need-mul-b Inv-loop μ-loop
 mul-b c = clamped-at c .multiple
 
--- src/lib.rt:135:18
 add-b : tie.Need-add-b Inv-loop μ-loop
 add-b c = clamped-at c .fits
 
--- src/lib.rt:135:17
 cast-b : tie.Need-cast-b Inv-loop μ-loop
 cast-b c = clamped-at c .cast
 
--- src/lib.rt:136:22
 mul-a : tie.Need-mul-a Inv-loop μ-loop
 mul-a c = plain-at (c .before .before) .multiple
 
--- src/lib.rt:136:18
 add-a : tie.Need-add-a Inv-loop μ-loop
 add-a c = plain-at (c .before .before) .fits
 
--- src/lib.rt:136:17
 cast-a : tie.Need-cast-a Inv-loop μ-loop
 cast-a c = plain-at (c .before .before) .cast
 
--- src/lib.rt:137:17
 mul-v : tie.Need-mul-v Inv-loop μ-loop
 mul-v c = omega (arith, clamped-at c .below, start (c .before .before) .good .1 .1 .0 .1)
 
--- src/lib.rt:137:17
 slice-read-v : tie.Need-slice-read-v Inv-loop μ-loop
 slice-read-v c = omega (arith, clamped-at (c .before) .below, c .before .before .before .before .loop .inv .1)
 
--- src/lib.rt:137:26
 mul-v-2 : tie.Need-mul-v-2 Inv-loop μ-loop
 mul-v-2 c = omega (arith, plain-at (c .before .before .before) .below, start (c .before .before .before) .good .0 .1)
 
--- src/lib.rt:137:26
 shared-slice-read-v : tie.Need-shared-slice-read-v Inv-loop μ-loop
 shared-slice-read-v c = plain-at (c .before .before .before .before) .below
 
--- src/lib.rt:138:9
 mul-dst : tie.Need-mul-dst Inv-loop μ-loop
 mul-dst c = omega (arith, clamped-at (c .before .before) .below, start (c .before .before .before .before) .good .1 .1 .0 .1)
 
--- src/lib.rt:138:9
 slice-write-dst : tie.Need-slice-write-dst Inv-loop μ-loop
 slice-write-dst c = omega (arith, clamped-at (c .before .before) .below, c .before .before .before .before .before .loop .inv .1)
 
--- src/lib.rt:139:9
 add-i : tie.Need-add-i Inv-loop μ-loop
 add-i c = omega arith
 
--- src/lib.rt:129:5
 loop-less : tie.Need-loop-less Inv-loop μ-loop
 loop-less c = omega arith
 
--- src/lib.rt:129:5
 loop-again : tie.Need-loop-again Inv-loop μ-loop
 loop-again c = let q = c .before .before in
     let d = q .before .before in
@@ -147,11 +120,9 @@ loop-again c = let q = c .before .before in
       cell-more nan (ruleF64 R.Add) (a .args .src .now) (line (read (a .args .s)) (read (a .args .ss))) (clampedAt (a .args .starts .now) (line (read (a .args .t)) (read (a .args .ts))) (read (a .args .base)) (read (a .args .stride)) (a .args .extent) (a .args .window)) (a .args .dst .now) (h .loop .dst) (h .loop .i) (natAbs (machine (a .args .s) (a .args .ss) (h .loop .i))) (natAbs (machine (a .args .base) (a .args .stride) (q .clamp-window-start .result))) _ (h .loop .inv .2) (plain-at d .index-is) (by-start q) (refl),
     )
 
--- src/lib.rt:111:1
 same-length : tie.Need-same-length Inv-loop μ-loop
 same-length c = c .before .loop .inv .1
 
--- src/lib.rt:111:1
 returns : tie.Need-returns Inv-loop μ-loop
 returns c = let h = c .before in
     let a = h .before .before .before in

@@ -1,5 +1,5 @@
 use mathlib.Core.Path.{_≡_, refl, _∙_}
-use Prim.Native.Nat.{ℕ, _*_, _-_, _<_, _≤_, _^_}
+use Prim.Native.Nat.{_-_, _≤_}
 use native.Mathlib.Omega.{arith}
 use borrow.Author.Needs.{needs, sfits-of}
 use lib.ListN.{length, length-set}
@@ -16,9 +16,6 @@ use Rattle.takes.specs.Takes.{clampedAt}
 use Rattle.takes.proofs.Places.{start-step, plain-step, clamped-step, clamped-is, take-end}
 use Rattle.takes.proofs.take_run.Statement.{statement}
 use Rattle.takes.proofs.take_run.Tie as tie
-use Rattle.takes.proofs.take_run.Reads as reads
-use Rattle.takes.proofs.take_run.Lts as lts
-use Rattle.layout.proofs.clamp_window_start.Reads as clamp-window-start-reads
 
 abbrev Inv-loop : tie.InvT-loop
 Inv-loop src starts dst₀ n t ts base stride extent window d ds i₀ dst i = (i ≤ n) × (length dst ≡ length dst₀) × (dst ≡ inOrder (cellAt (pos 0) (ruleI32 R.Copy) src (clampedAt starts (line (toZ w64 t) (toZ w64 ts)) (toZ w64 base) (toZ w64 stride) extent window) (line (toZ w64 d) (toZ w64 ds))) i dst₀)
@@ -44,91 +41,69 @@ module _ (c : tie.After-clamp-window-start Inv-loop μ-loop) where
       ≡ clampedAt (start (c .before .before) .args .starts .now) (line (read (start (c .before .before) .args .t)) (read (start (c .before .before) .args .ts))) (read (start (c .before .before) .args .base)) (read (start (c .before .before) .args .stride)) (start (c .before .before) .args .extent) (start (c .before .before) .args .window) (c .before .before .before .loop .i)
   by-start = let a = start (c .before .before) in clamped-is (a .args .starts .now) (a .args .t) (a .args .ts) (a .args .base) (a .args .stride) (a .args .extent) (a .args .window) _ _ _ _ (starts-at (c .before .before)) (sfits-of (c .before .x .given)) clamped-at (c .clamp-window-start .ensures)
 
--- src/lib.rt:30:5
 loop-holds : tie.Need-loop-holds Inv-loop μ-loop
 loop-holds c = (omega arith, refl, none _ 0 (c .args .dst .now) refl)
 
--- src/lib.rt:31:17
 cast-k : tie.Need-cast-k Inv-loop μ-loop
 cast-k c = starts-at c .count
 
--- src/lib.rt:32:22
 mul-p : tie.Need-mul-p Inv-loop μ-loop
 mul-p c = starts-at c .multiple
 
--- src/lib.rt:32:18
 add-p : tie.Need-add-p Inv-loop μ-loop
 add-p c = starts-at c .fits
 
--- src/lib.rt:32:17
 cast-p : tie.Need-cast-p Inv-loop μ-loop
 cast-p c = starts-at c .cast
 
--- src/lib.rt:33:17
 mul-x : tie.Need-mul-x Inv-loop μ-loop
 mul-x c = omega (arith, starts-at c .below, start c .good .1 .0 .1)
 
--- src/lib.rt:33:17
 shared-slice-copy-out-x : tie.Need-shared-slice-copy-out-x Inv-loop μ-loop
 shared-slice-copy-out-x c = starts-at c .below
 
--- src/lib.rt:34:13
 clamp-window-start-requires : tie.Need-clamp-window-start-requires Inv-loop μ-loop
 clamp-window-start-requires c κs = search needs
 
--- src/lib.rt:35:17
 cast-c : tie.Need-cast-c Inv-loop μ-loop
 cast-c c = clamped-at c .count
 
--- src/lib.rt:36:25
 mul-a : tie.Need-mul-a Inv-loop μ-loop
 mul-a c = clamped-at c .multiple
 
--- src/lib.rt:36:18
 add-a : tie.Need-add-a Inv-loop μ-loop
 add-a c = clamped-at c .fits
 
--- src/lib.rt:36:17
 cast-a : tie.Need-cast-a Inv-loop μ-loop
 cast-a c = clamped-at c .cast
 
--- src/lib.rt:37:22
 mul-b : tie.Need-mul-b Inv-loop μ-loop
 mul-b c = plain-at (c .before .before) .multiple
 
--- src/lib.rt:37:18
 add-b : tie.Need-add-b Inv-loop μ-loop
 add-b c = plain-at (c .before .before) .fits
 
--- src/lib.rt:37:17
 cast-b : tie.Need-cast-b Inv-loop μ-loop
 cast-b c = plain-at (c .before .before) .cast
 
--- src/lib.rt:38:18
 mul-dst : tie.Need-mul-dst Inv-loop μ-loop
 mul-dst c = omega (arith, clamped-at c .below, start (c .before .before) .good .0 .1)
 
--- src/lib.rt:38:18
 shared-slice-copy-out-dst : tie.Need-shared-slice-copy-out-dst Inv-loop μ-loop
 shared-slice-copy-out-dst c = clamped-at c .below
 
--- src/lib.rt:38:9
 mul-t28 : tie.Need-mul-t28 Inv-loop μ-loop
 mul-t28 c = omega (arith, plain-at (c .before .before .before) .below, start (c .before .before .before) .good .1 .1 .0 .1)
 
--- src/lib.rt:38:9
 slice-set-from-dst : tie.Need-slice-set-from-dst Inv-loop μ-loop
 slice-set-from-dst c = omega (arith, plain-at (c .before .before .before) .below, c .before .before .before .before .loop .inv .1)
 
--- src/lib.rt:39:9
 add-i : tie.Need-add-i Inv-loop μ-loop
 add-i c = omega arith
 
--- src/lib.rt:30:5
 loop-less : tie.Need-loop-less Inv-loop μ-loop
 loop-less c = omega arith
 
--- src/lib.rt:30:5
 loop-again : tie.Need-loop-again Inv-loop μ-loop
 loop-again c = let q = c .before in
     let d = q .before .before in
@@ -139,11 +114,9 @@ loop-again c = let q = c .before in
       cell-more (pos 0) (ruleI32 R.Copy) (a .args .src .now) (clampedAt (a .args .starts .now) (line (read (a .args .t)) (read (a .args .ts))) (read (a .args .base)) (read (a .args .stride)) (a .args .extent) (a .args .window)) (line (read (a .args .d)) (read (a .args .ds))) (a .args .dst .now) (h .loop .dst) (h .loop .i) (natAbs (machine (a .args .base) (a .args .stride) (q .clamp-window-start .result))) (natAbs (machine (a .args .d) (a .args .ds) (h .loop .i))) _ (h .loop .inv .2) (by-start q) (plain-at d .index-is) (back (sfits-of (c .dst .given))),
     )
 
--- src/lib.rt:12:1
 same-length : tie.Need-same-length Inv-loop μ-loop
 same-length c = c .before .loop .inv .1
 
--- src/lib.rt:12:1
 returns : tie.Need-returns Inv-loop μ-loop
 returns c = let h = c .before in
     let a = h .before in

@@ -1,5 +1,5 @@
 use mathlib.Core.Path.{_≡_, refl, sym, subst, _∙_}
-use Prim.Native.Nat.{ℕ, suc, _+_, _*_, _-_, _<_, _≤_, _^_}
+use Prim.Native.Nat.{ℕ, suc, _+_, _-_, _<_, _≤_, _^_}
 use native.Mathlib.Omega.{arith}
 use borrow.Author.Needs.{needs, sfits-of}
 use borrow.Fn.Kinds.{In}
@@ -148,7 +148,7 @@ module _ (t : ℕ) where
   returns-2 c =
       let B = c .before .before .before .before .before .before .before .before in
       let a = start B in
-      plane-end _ _ _ _ _ _ _ _ _ _ (top-is B) (a .pre .1) (pos 0) (ruleI32 (a .args .rule)) (a .args .src .now) (a .fits .s) (a .fits .d) (a-fits B) (b-fits B) (a .args .dst .now) _ (plane-is B (c .before .before .before .before .before .before .if2 .taken))
+      plane-end _ _ _ _ _ _ _ _ _ _ (top-is B) (a .pre .1) (pos 0) (ruleI32 (a .args .rule)) (a .args .src .now) (a .fits .s) (a .fits .d) (a-fits B) (b-fits B) (a .args .dst .now) (c .before .plane .last .1 .1 .0) (plane-is B (c .before .before .before .before .before .before .if2 .taken))
       (sfits-of (c .before .before .before .before .x .given)) (sfits-of (c .before .before .before .y .given)) (c .before .plane .ensures)
 
   loop-holds : lts.Need-loop-holds (claims t) (at t) axes.Post Inv μ
@@ -157,17 +157,17 @@ module _ (t : ℕ) where
   cast-k : lts.Need-cast-k (claims t) (at t) axes.Post Inv μ
   cast-k c = from (c .before .before .before .before) (c .before .loop .j) (c .loop-test .taken) .count
 
-  mul-axes : lts.Need-mul-axes (claims t) (at t) axes.Post Inv μ
-  mul-axes c = from (c .before .before .before .before .before) (c .before .before .loop .j) (c .before .loop-test .taken) .multiple
+  mul-p : lts.Need-mul-p (claims t) (at t) axes.Post Inv μ
+  mul-p c = from (c .before .before .before .before) (c .before .loop .j) (c .loop-test .taken) .multiple
 
-  add-axes : lts.Need-add-axes (claims t) (at t) axes.Post Inv μ
-  add-axes c = from (c .before .before .before .before .before) (c .before .before .loop .j) (c .before .loop-test .taken) .fits
+  add-p : lts.Need-add-p (claims t) (at t) axes.Post Inv μ
+  add-p c = from (c .before .before .before .before) (c .before .loop .j) (c .loop-test .taken) .fits
 
-  mul-axes-2 : lts.Need-mul-axes-2 (claims t) (at t) axes.Post Inv μ
-  mul-axes-2 c = to (c .before .before .before .before .before) (c .before .before .loop .j) (c .before .loop-test .taken) .multiple
+  mul-q : lts.Need-mul-q (claims t) (at t) axes.Post Inv μ
+  mul-q c = to (c .before .before .before .before) (c .before .loop .j) (c .loop-test .taken) .multiple
 
-  add-axes-2 : lts.Need-add-axes-2 (claims t) (at t) axes.Post Inv μ
-  add-axes-2 c = to (c .before .before .before .before .before) (c .before .before .loop .j) (c .before .loop-test .taken) .fits
+  add-q : lts.Need-add-q (claims t) (at t) axes.Post Inv μ
+  add-q c = to (c .before .before .before .before) (c .before .loop .j) (c .loop-test .taken) .fits
 
   axes-requires : lts.Need-axes-requires (claims t) (at t) axes.Post Inv μ
   axes-requires c κs =
@@ -230,10 +230,10 @@ pub +axes-spec : {M : Type 1} → statement M
     (returns-2 t)
     (loop-holds t)
     (cast-k t)
-    (mul-axes t)
-    (add-axes t)
-    (mul-axes-2 t)
-    (add-axes-2 t)
+    (mul-p t)
+    (add-p t)
+    (mul-q t)
+    (add-q t)
     (axes-requires t)
     (add-j t)
     (loop-less t)

@@ -5,19 +5,13 @@ use Rattle.windows.proofs.Levels.{window-end}
 use borrow.Author.Needs.{needs}
 use Rattle.windows.proofs.copy_window.Statement.{statement}
 use Rattle.windows.proofs.copy_window.Tie as tie
-use Rattle.windows.proofs.copy_window.Reads as reads
-use Rattle.windows.proofs.copy_window.Lts as lts
-use Rattle.windows.proofs.window.Reads as window-reads
 
--- src/lib.rt:108:5
 window-requires : tie.Need-window-requires
 window-requires c κs = search needs
 
--- src/lib.rt:95:1
 same-length : tie.Need-same-length
 same-length c = search needs
 
--- src/lib.rt:95:1
 returns : tie.Need-returns
 returns c = let a = c .before .before .before in window-end (pos 0) (ruleI32 R.Copy) (a .args .src .now) (a .args .s) (a .args .d) (a .args .extents .now) (a .args .ss .now) (a .args .ds .now) (a .args .rank) (a .args .dst .now) _ (a .fits .s) (a .fits .d) (c .before .window .ensures)
 

@@ -6,8 +6,6 @@ use lib.ListN.{getD}
 use Rattle.windows.specs.Windows.{Units}
 use Rattle.windows.proofs.run_axis.Statement.{statement}
 use Rattle.windows.proofs.run_axis.Tie as tie
-use Rattle.windows.proofs.run_axis.Reads as reads
-use Rattle.windows.proofs.run_axis.Lts as lts
 
 abbrev Inv-loop : tie.InvT-loop
 Inv-loop extents rank low₀ low = (low < rank) × Units low extents
@@ -15,39 +13,30 @@ Inv-loop extents rank low₀ low = (low < rank) × Units low extents
 abbrev μ-loop : tie.MeasureT-loop
 μ-loop extents rank low₀ low = rank - low
 
--- src/lib.rt:21:5
 loop-holds : tie.Need-loop-holds Inv-loop μ-loop
 loop-holds c = (omega arith, below-none _)
 
--- src/lib.rt:21:11
 add-loop : tie.Need-add-loop Inv-loop μ-loop
 add-loop c = omega arith
 
--- src/lib.rt:22:12
 mul-if1 : tie.Need-mul-if1 Inv-loop μ-loop
 mul-if1 c = omega arith
 
--- src/lib.rt:22:12
 element-copy-out-if1 : tie.Need-element-copy-out-if1 Inv-loop μ-loop
 element-copy-out-if1 c = omega arith
 
--- src/lib.rt:23:13
 returns : tie.Need-returns Inv-loop μ-loop
 returns c = let h = c .before .before .before in record { below = h .loop .inv .0; units = h .loop .inv .1; long = λ _ e. omega (arith, e) }
 
--- src/lib.rt:25:9
 add-low : tie.Need-add-low Inv-loop μ-loop
 add-low c = omega arith
 
--- src/lib.rt:21:5
 loop-less : tie.Need-loop-less Inv-loop μ-loop
 loop-less c = omega arith
 
--- src/lib.rt:21:5
 loop-again : tie.Need-loop-again Inv-loop μ-loop
 loop-again c = let h = c .before .before .before in (omega arith, below-more (λ k. getD (h .before .args .extents .now) k 0 ≡ 1) _ (h .loop .inv .1) (omega arith))
 
--- src/lib.rt:16:1
 returns-2 : tie.Need-returns-2 Inv-loop μ-loop
 returns-2 c = let h = c .before in record { below = h .loop .inv .0; units = h .loop .inv .1; long = λ l _. omega (arith, l) }
 

@@ -1,5 +1,5 @@
 use mathlib.Core.Path.{_≡_, refl, sym, subst, _∙_}
-use Prim.Native.Nat.{ℕ, suc, _+_, _*_, _-_, _<_, _≤_, _^_}
+use Prim.Native.Nat.{ℕ, suc, _+_, _-_, _<_, _≤_, _^_}
 use native.Mathlib.Omega.{arith}
 use borrow.Author.Needs.{needs, sfits-of}
 use borrow.Fn.Kinds.{In}
@@ -149,7 +149,7 @@ module _ (t : ℕ) where
   returns-2 c =
       let B = c .before .before .before .before .before .before .before .before .before in
       let a = start B in
-      plane-end _ _ _ _ _ _ _ _ _ _ (top-is B) (a .pre .1) nan (ruleF64 (a .args .rule)) (a .args .src .now) (a .fits .s) (a .fits .d) (a-fits B) (b-fits B) (a .args .dst .now) _ (plane-is B (c .before .before .before .before .before .before .before .if2 .taken))
+      plane-end _ _ _ _ _ _ _ _ _ _ (top-is B) (a .pre .1) nan (ruleF64 (a .args .rule)) (a .args .src .now) (a .fits .s) (a .fits .d) (a-fits B) (b-fits B) (a .args .dst .now) (c .before .before .plane-f64 .last .1 .1 .0) (plane-is B (c .before .before .before .before .before .before .before .if2 .taken))
       (sfits-of (c .before .before .before .before .before .x .given)) (sfits-of (c .before .before .before .before .y .given)) (c .before .before .plane-f64 .ensures)
 
   loop-holds : lts.Need-loop-holds (claims t) (at t) axes-f64.Post Inv μ
@@ -158,17 +158,17 @@ module _ (t : ℕ) where
   cast-k : lts.Need-cast-k (claims t) (at t) axes-f64.Post Inv μ
   cast-k c = from (c .before .before .before .before) (c .before .loop .j) (c .loop-test .taken) .count
 
-  mul-axes-f64 : lts.Need-mul-axes-f64 (claims t) (at t) axes-f64.Post Inv μ
-  mul-axes-f64 c = from (c .before .before .before .before .before) (c .before .before .loop .j) (c .before .loop-test .taken) .multiple
+  mul-p : lts.Need-mul-p (claims t) (at t) axes-f64.Post Inv μ
+  mul-p c = from (c .before .before .before .before) (c .before .loop .j) (c .loop-test .taken) .multiple
 
-  add-axes-f64 : lts.Need-add-axes-f64 (claims t) (at t) axes-f64.Post Inv μ
-  add-axes-f64 c = from (c .before .before .before .before .before) (c .before .before .loop .j) (c .before .loop-test .taken) .fits
+  add-p : lts.Need-add-p (claims t) (at t) axes-f64.Post Inv μ
+  add-p c = from (c .before .before .before .before) (c .before .loop .j) (c .loop-test .taken) .fits
 
-  mul-axes-f64-2 : lts.Need-mul-axes-f64-2 (claims t) (at t) axes-f64.Post Inv μ
-  mul-axes-f64-2 c = to (c .before .before .before .before .before) (c .before .before .loop .j) (c .before .loop-test .taken) .multiple
+  mul-q : lts.Need-mul-q (claims t) (at t) axes-f64.Post Inv μ
+  mul-q c = to (c .before .before .before .before) (c .before .loop .j) (c .loop-test .taken) .multiple
 
-  add-axes-f64-2 : lts.Need-add-axes-f64-2 (claims t) (at t) axes-f64.Post Inv μ
-  add-axes-f64-2 c = to (c .before .before .before .before .before) (c .before .before .loop .j) (c .before .loop-test .taken) .fits
+  add-q : lts.Need-add-q (claims t) (at t) axes-f64.Post Inv μ
+  add-q c = to (c .before .before .before .before) (c .before .loop .j) (c .loop-test .taken) .fits
 
   axes-f64-requires : lts.Need-axes-f64-requires (claims t) (at t) axes-f64.Post Inv μ
   axes-f64-requires c κs =
@@ -231,10 +231,10 @@ pub +axes-f64-spec : {M : Type 1} → statement M
     (returns-2 t)
     (loop-holds t)
     (cast-k t)
-    (mul-axes-f64 t)
-    (add-axes-f64 t)
-    (mul-axes-f64-2 t)
-    (add-axes-f64-2 t)
+    (mul-p t)
+    (add-p t)
+    (mul-q t)
+    (add-q t)
     (axes-f64-requires t)
     (add-j t)
     (loop-less t)

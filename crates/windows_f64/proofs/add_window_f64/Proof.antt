@@ -5,19 +5,13 @@ use Rattle.windows.proofs.Levels.{window-end}
 use borrow.Author.Needs.{needs}
 use Rattle.windows_f64.proofs.add_window_f64.Statement.{statement}
 use Rattle.windows_f64.proofs.add_window_f64.Tie as tie
-use Rattle.windows_f64.proofs.add_window_f64.Reads as reads
-use Rattle.windows_f64.proofs.add_window_f64.Lts as lts
-use Rattle.windows_f64.proofs.window_f64.Reads as window-f64-reads
 
--- src/lib.rt:116:5
 window-f64-requires : tie.Need-window-f64-requires
 window-f64-requires c κs = search needs
 
--- src/lib.rt:103:1
 same-length : tie.Need-same-length
 same-length c = search needs
 
--- src/lib.rt:103:1
 returns : tie.Need-returns
 returns c = let a = c .before .before .before .before .before .before in window-end nan (ruleF64 R.Add) (a .args .src .now) (a .args .s) (a .args .d) (a .args .extents .now) (a .args .ss .now) (a .args .ds .now) (a .args .rank) (a .args .dst .now) _ (a .fits .s) (a .fits .d) (c .before .before .window-f64 .ensures)
 
