@@ -1,0 +1,169 @@
+// Runs along one axis of two strided slices. What each leaves is the plain loop, cell by cell: `inOrder` of `cellAt`.
+ghost use mathlib.Core.Path.{_≡_};
+ghost use Prim.Native.Nat.{_<_};
+ghost use lib.IntN.{pos};
+ghost use lib.ListN.{length};
+ghost use Rattle.indexing.specs.Loops.{inOrder};
+ghost use Rattle.runs.specs.Runs.{ruleI32, cellAt, line, Run, Plane, runAt};
+ghost use Rattle.runs.specs.declared.Rule.the-variants as R;
+
+// What is done at a cell: the source's element replaces what is there, or is added to it.
+pub enum Rule {
+    Copy,
+    Add,
+}
+
+pub fn apply(rule: Rule, x: i32, u: i32) -> i32
+    ensures { λ r. ⌜ r ≡ ruleI32 rule x u ⌝ }
+{
+    match rule {
+        Rule::Copy => u,
+        Rule::Add => integer::wrapping_add_i32(x, u),
+    }
+}
+
+// Two slices of one length, element by element.
+pub fn ones(rule: Rule, src: &[i32], dst: &mut [i32])
+    requires { ⌜ length (now src) ≡ length (now dst) ⌝ }
+    ensures { λ _. ⌜ now (dst .exit) ≡ inOrder (cellAt (pos 0) (ruleI32 rule) (now (src .entry)) pos pos) (length (now (dst .entry))) (now (dst .entry)) ⌝ }
+{
+    let mut at: usize = 0;
+    while at < dst.len() {
+        let v = apply(rule, dst[at], src[at]);
+        dst[at] = v;
+        at += 1;
+    }
+}
+
+// n cells of stride 1 on both sides, from the places s and d: on the parts of the slices that they are.
+pub fn row(rule: Rule, src: &[i32], dst: &mut [i32], n: usize, s: i64, d: i64)
+    requires { ⌜ (0 < n) × Run s d (pos 1) (pos 1) n (length (now src)) (length (now dst)) ⌝ }
+    ensures { λ _. ⌜ now (dst .exit) ≡ inOrder (cellAt (pos 0) (ruleI32 rule) (now (src .entry)) (line s (pos 1)) (line d (pos 1))) n (now (dst .entry)) ⌝ }
+{
+    let a = s as usize;
+    let b = d as usize;
+    let e = a + n;
+    let f = b + n;
+    ones(rule, &src[a..e], &mut dst[b..f]);
+}
+
+// n cells, from the places s and d by the strides ss and ds.
+pub fn strided(rule: Rule, src: &[i32], dst: &mut [i32], n: usize, s: i64, d: i64, ss: i64, ds: i64)
+    requires { ⌜ Run s d ss ds n (length (now src)) (length (now dst)) ⌝ }
+    ensures { λ _. ⌜ now (dst .exit) ≡ inOrder (cellAt (pos 0) (ruleI32 rule) (now (src .entry)) (line s ss) (line d ds)) n (now (dst .entry)) ⌝ }
+{
+    let mut i: usize = 0;
+    while i < n {
+        let k = i as i64;
+        let a = (s + ss * k) as usize;
+        let b = (d + ds * k) as usize;
+        let v = apply(rule, dst[b], src[a]);
+        dst[b] = v;
+        i += 1;
+    }
+}
+
+// The same, with a way of its own for strides of 1 on both sides.
+pub fn run(rule: Rule, src: &[i32], dst: &mut [i32], n: usize, s: i64, d: i64, ss: i64, ds: i64)
+    requires { ⌜ Run s d ss ds n (length (now src)) (length (now dst)) ⌝ }
+    ensures { λ _. ⌜ now (dst .exit) ≡ inOrder (cellAt (pos 0) (ruleI32 rule) (now (src .entry)) (line s ss) (line d ds)) n (now (dst .entry)) ⌝ }
+{
+    if n == 0 {
+        return;
+    }
+    if ss == 1 {
+        if ds == 1 {
+            row(rule, src, dst, n, s, d);
+            return;
+        }
+    }
+    strided(rule, src, dst, n, s, d, ss, ds);
+}
+
+// m rows of n cells each: those of row j from places moved by j times st and dt.
+pub fn rows(
+    rule: Rule,
+    src: &[i32],
+    dst: &mut [i32],
+    n: usize,
+    m: u64,
+    s: i64,
+    d: i64,
+    st: i64,
+    dt: i64,
+)
+    requires { ⌜ Plane s d (pos 1) (pos 1) st dt n m (length (now src)) (length (now dst)) ⌝ }
+    ensures { λ _. ⌜ now (dst .exit) ≡ inOrder (runAt (pos 0) (ruleI32 rule) (now (src .entry)) s d (pos 1) (pos 1) st dt n) m (now (dst .entry)) ⌝ }
+{
+    let mut j: u64 = 0;
+    while j < m {
+        let k = j as i64;
+        row(rule, src, dst, n, s + st * k, d + dt * k);
+        j += 1;
+    }
+}
+
+// m runs of n cells each, by strides.
+pub fn strided_rows(
+    rule: Rule,
+    src: &[i32],
+    dst: &mut [i32],
+    n: usize,
+    m: u64,
+    s: i64,
+    d: i64,
+    ss: i64,
+    ds: i64,
+    st: i64,
+    dt: i64,
+)
+    requires { ⌜ Plane s d ss ds st dt n m (length (now src)) (length (now dst)) ⌝ }
+    ensures { λ _. ⌜ now (dst .exit) ≡ inOrder (runAt (pos 0) (ruleI32 rule) (now (src .entry)) s d ss ds st dt n) m (now (dst .entry)) ⌝ }
+{
+    let mut j: u64 = 0;
+    while j < m {
+        let k = j as i64;
+        strided(rule, src, dst, n, s + st * k, d + dt * k, ss, ds);
+        j += 1;
+    }
+}
+
+// The same, with a way of its own for strides of 1 on both sides.
+pub fn plane(
+    rule: Rule,
+    src: &[i32],
+    dst: &mut [i32],
+    n: usize,
+    m: u64,
+    s: i64,
+    d: i64,
+    ss: i64,
+    ds: i64,
+    st: i64,
+    dt: i64,
+)
+    requires { ⌜ Plane s d ss ds st dt n m (length (now src)) (length (now dst)) ⌝ }
+    ensures { λ _. ⌜ now (dst .exit) ≡ inOrder (runAt (pos 0) (ruleI32 rule) (now (src .entry)) s d ss ds st dt n) m (now (dst .entry)) ⌝ }
+{
+    if ss == 1 {
+        if ds == 1 {
+            rows(rule, src, dst, n, m, s, d, st, dt);
+            return;
+        }
+    }
+    strided_rows(rule, src, dst, n, m, s, d, ss, ds, st, dt);
+}
+
+pub fn copy_run(src: &[i32], dst: &mut [i32], n: usize, s: i64, d: i64, ss: i64, ds: i64)
+    requires { ⌜ Run s d ss ds n (length (now src)) (length (now dst)) ⌝ }
+    ensures { λ _. ⌜ now (dst .exit) ≡ inOrder (cellAt (pos 0) (ruleI32 R.Copy) (now (src .entry)) (line s ss) (line d ds)) n (now (dst .entry)) ⌝ }
+{
+    run(Rule::Copy, src, dst, n, s, d, ss, ds);
+}
+
+pub fn add_run(src: &[i32], dst: &mut [i32], n: usize, s: i64, d: i64, ss: i64, ds: i64)
+    requires { ⌜ Run s d ss ds n (length (now src)) (length (now dst)) ⌝ }
+    ensures { λ _. ⌜ now (dst .exit) ≡ inOrder (cellAt (pos 0) (ruleI32 R.Add) (now (src .entry)) (line s ss) (line d ds)) n (now (dst .entry)) ⌝ }
+{
+    run(Rule::Add, src, dst, n, s, d, ss, ds);
+}

@@ -1,0 +1,46 @@
+use mathlib.Core.Path.{refl}
+use lib.Ieee.{nan}
+use Rattle.runs.specs.Runs.{ruleF64}
+use Rattle.runs.proofs.Turns.{none}
+use Rattle.runs.proofs.Runs.{row-asks, row-end, ends}
+use borrow.Author.Needs.{needs}
+use Rattle.runs_f64.proofs.run_f64.Statement.{statement}
+use Rattle.runs_f64.proofs.run_f64.Tie as tie
+
+returns : tie.Need-returns
+returns c = let a = c .before .before .before in none _ (a .args .n) (a .args .dst .now) (c .if1 .taken)
+
+row-f64-requires : tie.Need-row-f64-requires
+row-f64-requires c κs = let t = c .before in
+    let a = t .before .before .before .before .before in
+    row-asks _ _ (a .fits .ss) (a .fits .ds) (t .before .if2 .taken) (t .if3 .taken) _ _ _ _ _ (a .fits .s) (a .fits .d) (t .before .before .if1 .left) (a .pre)
+
+same-length : tie.Need-same-length
+same-length c = search needs
+
+returns-2 : tie.Need-returns-2
+returns-2 c = let t = c .before .before .before .before in
+    let a = t .before .before .before .before .before in
+    row-end (a .args .ss) (a .args .ds) (a .fits .ss) (a .fits .ds) (t .before .if2 .taken) (t .if3 .taken) nan (ruleF64 (a .args .rule)) (a .args .src .now) (a .args .s) (a .args .d) (a .args .n) (a .args .dst .now) _ (a .fits .s) (a .fits .d) (c .before .before .row-f64 .ensures)
+
+strided-f64-requires : tie.Need-strided-f64-requires
+strided-f64-requires c κs = search needs
+
+same-length-2 : tie.Need-same-length-2
+same-length-2 c = search needs
+
+returns-3 : tie.Need-returns-3
+returns-3 c = let a = c .before .before .before .before .before .before .before .before in
+    ends nan (ruleF64 (a .args .rule)) (a .args .src .now) (a .args .s) (a .args .d) (a .args .ss) (a .args .ds) (a .args .n) (a .args .n) (a .args .dst .now) _ (a .fits .s) (a .fits .d) (a .fits .ss) (a .fits .ds) refl (c .before .before .strided-f64 .ensures)
+
+pub run-f64-spec : {M : Type 1} → statement M
+run-f64-spec =
+    tie.close
+    (tie.spec
+    returns
+    row-f64-requires
+    same-length
+    returns-2
+    strided-f64-requires
+    same-length-2
+    returns-3)

@@ -1,0 +1,174 @@
+// Runs over f64: those of `runs`, for another element.
+ghost use mathlib.Core.Path.{_≡_};
+ghost use Prim.Native.Nat.{_<_};
+ghost use lib.Ieee.{nan};
+ghost use lib.IntN.{pos};
+ghost use lib.ListN.{length};
+ghost use Rattle.indexing.specs.Loops.{inOrder};
+ghost use Rattle.runs.specs.Runs.{ruleF64, cellAt, line, Run, Plane, runAt};
+ghost use Rattle.runs.specs.declared.Rule.the-variants as R;
+use runs::Rule;
+
+pub fn apply_f64(rule: Rule, x: f64, u: f64) -> f64
+    ensures { λ r. ⌜ r ≡ ruleF64 rule x u ⌝ }
+{
+    match rule {
+        Rule::Copy => u,
+        Rule::Add => x + u,
+    }
+}
+
+// Two slices of one length, element by element.
+pub fn ones_f64(rule: Rule, src: &[f64], dst: &mut [f64])
+    requires { ⌜ length (now src) ≡ length (now dst) ⌝ }
+    ensures { λ _. ⌜ now (dst .exit) ≡ inOrder (cellAt nan (ruleF64 rule) (now (src .entry)) pos pos) (length (now (dst .entry))) (now (dst .entry)) ⌝ }
+{
+    let mut at: usize = 0;
+    while at < dst.len() {
+        let v = apply_f64(rule, dst[at], src[at]);
+        dst[at] = v;
+        at += 1;
+    }
+}
+
+// n cells of stride 1 on both sides, from the places s and d: on the parts of the slices that they are.
+pub fn row_f64(rule: Rule, src: &[f64], dst: &mut [f64], n: usize, s: i64, d: i64)
+    requires { ⌜ (0 < n) × Run s d (pos 1) (pos 1) n (length (now src)) (length (now dst)) ⌝ }
+    ensures { λ _. ⌜ now (dst .exit) ≡ inOrder (cellAt nan (ruleF64 rule) (now (src .entry)) (line s (pos 1)) (line d (pos 1))) n (now (dst .entry)) ⌝ }
+{
+    let a = s as usize;
+    let b = d as usize;
+    let e = a + n;
+    let f = b + n;
+    ones_f64(rule, &src[a..e], &mut dst[b..f]);
+}
+
+// n cells, from the places s and d by the strides ss and ds.
+pub fn strided_f64(
+    rule: Rule,
+    src: &[f64],
+    dst: &mut [f64],
+    n: usize,
+    s: i64,
+    d: i64,
+    ss: i64,
+    ds: i64,
+)
+    requires { ⌜ Run s d ss ds n (length (now src)) (length (now dst)) ⌝ }
+    ensures { λ _. ⌜ now (dst .exit) ≡ inOrder (cellAt nan (ruleF64 rule) (now (src .entry)) (line s ss) (line d ds)) n (now (dst .entry)) ⌝ }
+{
+    let mut i: usize = 0;
+    while i < n {
+        let k = i as i64;
+        let a = (s + ss * k) as usize;
+        let b = (d + ds * k) as usize;
+        let v = apply_f64(rule, dst[b], src[a]);
+        dst[b] = v;
+        i += 1;
+    }
+}
+
+// The same, with a way of its own for strides of 1 on both sides.
+pub fn run_f64(rule: Rule, src: &[f64], dst: &mut [f64], n: usize, s: i64, d: i64, ss: i64, ds: i64)
+    requires { ⌜ Run s d ss ds n (length (now src)) (length (now dst)) ⌝ }
+    ensures { λ _. ⌜ now (dst .exit) ≡ inOrder (cellAt nan (ruleF64 rule) (now (src .entry)) (line s ss) (line d ds)) n (now (dst .entry)) ⌝ }
+{
+    if n == 0 {
+        return;
+    }
+    if ss == 1 {
+        if ds == 1 {
+            row_f64(rule, src, dst, n, s, d);
+            return;
+        }
+    }
+    strided_f64(rule, src, dst, n, s, d, ss, ds);
+}
+
+// m rows of n cells each: those of row j from places moved by j times st and dt.
+pub fn rows_f64(
+    rule: Rule,
+    src: &[f64],
+    dst: &mut [f64],
+    n: usize,
+    m: u64,
+    s: i64,
+    d: i64,
+    st: i64,
+    dt: i64,
+)
+    requires { ⌜ Plane s d (pos 1) (pos 1) st dt n m (length (now src)) (length (now dst)) ⌝ }
+    ensures { λ _. ⌜ now (dst .exit) ≡ inOrder (runAt nan (ruleF64 rule) (now (src .entry)) s d (pos 1) (pos 1) st dt n) m (now (dst .entry)) ⌝ }
+{
+    let mut j: u64 = 0;
+    while j < m {
+        let k = j as i64;
+        row_f64(rule, src, dst, n, s + st * k, d + dt * k);
+        j += 1;
+    }
+}
+
+// m runs of n cells each, by strides.
+pub fn strided_rows_f64(
+    rule: Rule,
+    src: &[f64],
+    dst: &mut [f64],
+    n: usize,
+    m: u64,
+    s: i64,
+    d: i64,
+    ss: i64,
+    ds: i64,
+    st: i64,
+    dt: i64,
+)
+    requires { ⌜ Plane s d ss ds st dt n m (length (now src)) (length (now dst)) ⌝ }
+    ensures { λ _. ⌜ now (dst .exit) ≡ inOrder (runAt nan (ruleF64 rule) (now (src .entry)) s d ss ds st dt n) m (now (dst .entry)) ⌝ }
+{
+    let mut j: u64 = 0;
+    while j < m {
+        let k = j as i64;
+        strided_f64(rule, src, dst, n, s + st * k, d + dt * k, ss, ds);
+        j += 1;
+    }
+}
+
+// The same, with a way of its own for strides of 1 on both sides.
+pub fn plane_f64(
+    rule: Rule,
+    src: &[f64],
+    dst: &mut [f64],
+    n: usize,
+    m: u64,
+    s: i64,
+    d: i64,
+    ss: i64,
+    ds: i64,
+    st: i64,
+    dt: i64,
+)
+    requires { ⌜ Plane s d ss ds st dt n m (length (now src)) (length (now dst)) ⌝ }
+    ensures { λ _. ⌜ now (dst .exit) ≡ inOrder (runAt nan (ruleF64 rule) (now (src .entry)) s d ss ds st dt n) m (now (dst .entry)) ⌝ }
+{
+    if ss == 1 {
+        if ds == 1 {
+            rows_f64(rule, src, dst, n, m, s, d, st, dt);
+            return;
+        }
+    }
+    strided_rows_f64(rule, src, dst, n, m, s, d, ss, ds, st, dt);
+}
+
+pub fn copy_run_f64(src: &[f64], dst: &mut [f64], n: usize, s: i64, d: i64, ss: i64, ds: i64)
+    requires { ⌜ Run s d ss ds n (length (now src)) (length (now dst)) ⌝ }
+    ensures { λ _. ⌜ now (dst .exit) ≡ inOrder (cellAt nan (ruleF64 R.Copy) (now (src .entry)) (line s ss) (line d ds)) n (now (dst .entry)) ⌝ }
+{
+    run_f64(Rule::Copy, src, dst, n, s, d, ss, ds);
+}
+
+pub fn add_run_f64(src: &[f64], dst: &mut [f64], n: usize, s: i64, d: i64, ss: i64, ds: i64)
+    requires { ⌜ Run s d ss ds n (length (now src)) (length (now dst)) ⌝ }
+    ensures { λ _. ⌜ now (dst .exit) ≡ inOrder (cellAt nan (ruleF64 R.Add) (now (src .entry)) (line s ss) (line d ds)) n (now (dst .entry)) ⌝ }
+{
+    run_f64(Rule::Add, src, dst, n, s, d, ss, ds);
+}
