@@ -6,6 +6,7 @@ original=$(dirname -- "$root")/shared/docs/src/strided-basic/src/gather_plan.rs
 bin=$root/target/differential/release
 work=$root/target/differential/work
 archive=$root/target/staticlib/libstrided.a
+packed=$root/crates/stored_cases/data/cases.bin
 
 say() { printf '%s\n' "$*" >&2; }
 

@@ -22,6 +22,12 @@ pub fn open_at_cases() -> i32 {
     fd
 }
 
+// Whether no byte is left.
+pub fn is_ended(fd: i32) -> bool {
+    let mut one = [0u8; 1];
+    io::read_full(fd, &mut one) == 0
+}
+
 // Bytes that were read: how many, their sum, the sum of the sums after each, and whether they end here.
 struct Sums {
     bytes: u64,

@@ -150,7 +150,11 @@ fn replay_all(cases: u64) {
     let mut counts = [0u64; 33];
     let fd = file::open_at_cases();
     if replay(fd, cases, &mut counts) {
-        report::summary(&counts);
+        if file::is_ended(fd) {
+            report::summary(&counts);
+        } else {
+            report::line(b"more is stored than the cases of the header: ", cases);
+        }
     }
     libc::close(fd);
 }
