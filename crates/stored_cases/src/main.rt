@@ -94,44 +94,58 @@ fn verdict(head: &[u8], words: &[u64], numbers: &[i64]) -> usize {
     }
 }
 
-// Answers the case of this head and these words.
-fn take_case(index: u64, head: &[u8], bytes: &[u8], counts: &mut [u64]) -> bool {
-    let mut words = [0u64; 512];
-    let mut numbers = [0i64; 512];
-    packed::decode(bytes, &mut words);
-    packed::decode_signed(&words, &mut numbers);
-    if !packed::is_case(head, &numbers) {
+// Answers the case of this head, these words, and the same as signed numbers.
+fn take_case(index: u64, head: &[u8], words: &[u64], numbers: &[i64], counts: &mut [u64]) -> bool {
+    if !packed::is_case(head, numbers) {
         report::line(b"a field has no listed value: case ", index);
         return false;
     }
-    let row = verdict(head, &words, &numbers);
+    let row = verdict(head, words, numbers);
     report::count(counts, row, packed::number(head), index);
     true
 }
 
+fn take_words(index: u64, head: &[u8], words: &[u64], counts: &mut [u64]) -> bool {
+    let mut numbers = [0i64; 512];
+    packed::decode_signed(words, &mut numbers);
+    take_case(index, head, words, &numbers, counts)
+}
+
+fn take_bytes(index: u64, head: &[u8], bytes: &[u8], counts: &mut [u64]) -> bool {
+    let mut words = [0u64; 512];
+    packed::decode(bytes, &mut words);
+    take_words(index, head, &words, counts)
+}
+
+fn read_bytes(fd: i32, index: u64, head: &[u8], counts: &mut [u64]) -> bool {
+    let mut bytes = [0u8; 4096];
+    if file::fill_part(fd, &mut bytes, packed::size(head)) {
+        take_bytes(index, head, &bytes, counts)
+    } else {
+        report::line(b"the file ends inside case ", index);
+        false
+    }
+}
+
 // Reads the words of a case, and answers it.
 fn read_words(fd: i32, index: u64, head: &[u8], counts: &mut [u64]) -> bool {
-    let mut bytes = [0u8; 4096];
-    let room = packed::size(head);
-    if room > 4096 {
+    if packed::size(head) <= 4096 {
+        read_bytes(fd, index, head, counts)
+    } else {
         report::line(b"longer than the buffer of 512 words: case ", index);
-        return false;
+        false
     }
-    if !file::fill_part(fd, &mut bytes, room) {
-        report::line(b"the file ends inside case ", index);
-        return false;
-    }
-    take_case(index, head, &bytes, counts)
 }
 
 // Reads and answers the next case; false where it cannot be read, which is said.
 fn next_case(fd: i32, index: u64, counts: &mut [u64]) -> bool {
     let mut head = [0u8; 32];
-    if !file::fill_part(fd, &mut head, 32) {
+    if file::fill_part(fd, &mut head, 32) {
+        read_words(fd, index, &head, counts)
+    } else {
         report::line(b"the file ends before case ", index);
-        return false;
+        false
     }
-    read_words(fd, index, &head, counts)
 }
 
 fn replay(fd: i32, cases: u64, counts: &mut [u64]) -> bool {
@@ -159,17 +173,22 @@ fn replay_all(cases: u64) {
     libc::close(fd);
 }
 
-fn main() {
+// Replays the cases if the whole file is as it was stored.
+fn replay_undamaged(fd: i32) {
     let mut header = [0u8; 40];
-    let fd = file::open();
-    if fd < 0 {
-        report::put(b"cases.bin cannot be opened\n");
-        return;
-    }
     if file::fill_part(fd, &mut header, 40) && file::is_undamaged(fd, &header) {
         replay_all(packed::word(&header, 8));
     } else {
         report::put(b"cases.bin is cut short or damaged\n");
     }
-    libc::close(fd);
+}
+
+fn main() {
+    let fd = file::open();
+    if fd < 0 {
+        report::put(b"cases.bin cannot be opened\n");
+    } else {
+        replay_undamaged(fd);
+        libc::close(fd);
+    }
 }

@@ -72,15 +72,19 @@ fn put_rows(counts: &[u64]) {
     }
 }
 
+fn put_answered(answered: u64, equal: u64, different: u64) {
+    line(b"answered: ", answered);
+    line(b"equal: ", equal);
+    line(b"different: ", different);
+}
+
 fn put_totals(equal: u64, different: u64, not_reached: u64) {
     let answered = std::num::wrapping_add_u64(equal, different);
     line(
         b"stored cases: ",
         std::num::wrapping_add_u64(answered, not_reached),
     );
-    line(b"answered: ", answered);
-    line(b"equal: ", equal);
-    line(b"different: ", different);
+    put_answered(answered, equal, different);
     line(b"not reached by the library yet: ", not_reached);
 }
 
