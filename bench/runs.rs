@@ -9,10 +9,60 @@ type Strides = [i64; 8];
 
 #[link(name = "runs_c", kind = "static")]
 extern "C" {
-    fn bench_run_i32(add: bool, src: *const i32, sn: usize, dst: *mut i32, dn: usize, n: u64, s: i64, d: i64, ss: i64, ds: i64, times: u64) -> bool;
-    fn bench_run_f64(add: bool, src: *const f64, sn: usize, dst: *mut f64, dn: usize, n: u64, s: i64, d: i64, ss: i64, ds: i64, times: u64) -> bool;
-    fn bench_window_i32(add: bool, src: *const i32, sn: usize, dst: *mut i32, dn: usize, extents: &Axes, ss: &Strides, ds: &Strides, rank: usize, s: i64, d: i64, times: u64) -> bool;
-    fn bench_window_f64(add: bool, src: *const f64, sn: usize, dst: *mut f64, dn: usize, extents: &Axes, ss: &Strides, ds: &Strides, rank: usize, s: i64, d: i64, times: u64) -> bool;
+    fn bench_run_i32(
+        add: bool,
+        src: *const i32,
+        sn: usize,
+        dst: *mut i32,
+        dn: usize,
+        n: u64,
+        s: i64,
+        d: i64,
+        ss: i64,
+        ds: i64,
+        times: u64,
+    ) -> bool;
+    fn bench_run_f64(
+        add: bool,
+        src: *const f64,
+        sn: usize,
+        dst: *mut f64,
+        dn: usize,
+        n: u64,
+        s: i64,
+        d: i64,
+        ss: i64,
+        ds: i64,
+        times: u64,
+    ) -> bool;
+    fn bench_window_i32(
+        add: bool,
+        src: *const i32,
+        sn: usize,
+        dst: *mut i32,
+        dn: usize,
+        extents: &Axes,
+        ss: &Strides,
+        ds: &Strides,
+        rank: usize,
+        s: i64,
+        d: i64,
+        times: u64,
+    ) -> bool;
+    fn bench_window_f64(
+        add: bool,
+        src: *const f64,
+        sn: usize,
+        dst: *mut f64,
+        dn: usize,
+        extents: &Axes,
+        ss: &Strides,
+        ds: &Strides,
+        rank: usize,
+        s: i64,
+        d: i64,
+        times: u64,
+    ) -> bool;
 }
 
 // What is measured: a window of `rank` axes, or a run along one axis (`run`), made `times` times.
@@ -46,9 +96,23 @@ impl Element for i32 {
     unsafe fn rattle(add: bool, src: &[i32], dst: &mut [i32], j: &Job) -> bool {
         let (sp, sn, dp, dn) = (src.as_ptr(), src.len(), dst.as_mut_ptr(), dst.len());
         if j.run {
-            bench_run_i32(add, sp, sn, dp, dn, j.extents[0], j.s, j.d, j.ss[0], j.ds[0], j.times)
+            bench_run_i32(
+                add,
+                sp,
+                sn,
+                dp,
+                dn,
+                j.extents[0],
+                j.s,
+                j.d,
+                j.ss[0],
+                j.ds[0],
+                j.times,
+            )
         } else {
-            bench_window_i32(add, sp, sn, dp, dn, j.extents, j.ss, j.ds, j.rank, j.s, j.d, j.times)
+            bench_window_i32(
+                add, sp, sn, dp, dn, j.extents, j.ss, j.ds, j.rank, j.s, j.d, j.times,
+            )
         }
     }
 }
@@ -65,9 +129,23 @@ impl Element for f64 {
     unsafe fn rattle(add: bool, src: &[f64], dst: &mut [f64], j: &Job) -> bool {
         let (sp, sn, dp, dn) = (src.as_ptr(), src.len(), dst.as_mut_ptr(), dst.len());
         if j.run {
-            bench_run_f64(add, sp, sn, dp, dn, j.extents[0], j.s, j.d, j.ss[0], j.ds[0], j.times)
+            bench_run_f64(
+                add,
+                sp,
+                sn,
+                dp,
+                dn,
+                j.extents[0],
+                j.s,
+                j.d,
+                j.ss[0],
+                j.ds[0],
+                j.times,
+            )
         } else {
-            bench_window_f64(add, sp, sn, dp, dn, j.extents, j.ss, j.ds, j.rank, j.s, j.d, j.times)
+            bench_window_f64(
+                add, sp, sn, dp, dn, j.extents, j.ss, j.ds, j.rank, j.s, j.d, j.times,
+            )
         }
     }
 }
@@ -75,7 +153,15 @@ impl Element for f64 {
 // ---- the same loops, raw pointers
 
 #[inline(always)]
-unsafe fn run_raw<T: Element, const ADD: bool>(src: *const T, dst: *mut T, n: u64, s: i64, d: i64, ss: i64, ds: i64) {
+unsafe fn run_raw<T: Element, const ADD: bool>(
+    src: *const T,
+    dst: *mut T,
+    n: u64,
+    s: i64,
+    d: i64,
+    ss: i64,
+    ds: i64,
+) {
     if ss == 1 && ds == 1 {
         let (from, to) = (src.offset(s as isize), dst.offset(d as isize));
         for i in 0..n as usize {
@@ -91,8 +177,18 @@ unsafe fn run_raw<T: Element, const ADD: bool>(src: *const T, dst: *mut T, n: u6
     }
 }
 
+#[allow(clippy::too_many_arguments)]
 #[inline(never)]
-unsafe fn cells_raw<T: Element, const ADD: bool>(src: *const T, dst: *mut T, e: &Axes, ss: &Strides, ds: &Strides, rank: usize, s: i64, d: i64) {
+unsafe fn cells_raw<T: Element, const ADD: bool>(
+    src: *const T,
+    dst: *mut T,
+    e: &Axes,
+    ss: &Strides,
+    ds: &Strides,
+    rank: usize,
+    s: i64,
+    d: i64,
+) {
     match rank {
         1 => run_raw::<T, ADD>(src, dst, e[0], s, d, ss[0], ds[0]),
         2 => {
@@ -103,7 +199,15 @@ unsafe fn cells_raw<T: Element, const ADD: bool>(src: *const T, dst: *mut T, e: 
         _ => {
             for k in 0..e[2] as i64 {
                 for j in 0..e[1] as i64 {
-                    run_raw::<T, ADD>(src, dst, e[0], s + ss[2] * k + ss[1] * j, d + ds[2] * k + ds[1] * j, ss[0], ds[0]);
+                    run_raw::<T, ADD>(
+                        src,
+                        dst,
+                        e[0],
+                        s + ss[2] * k + ss[1] * j,
+                        d + ds[2] * k + ds[1] * j,
+                        ss[0],
+                        ds[0],
+                    );
                 }
             }
         }
@@ -113,7 +217,15 @@ unsafe fn cells_raw<T: Element, const ADD: bool>(src: *const T, dst: *mut T, e: 
 // ---- the same loops, slices
 
 #[inline(always)]
-unsafe fn run_slices<T: Element, const ADD: bool>(src: &[T], dst: &mut [T], n: u64, s: i64, d: i64, ss: i64, ds: i64) {
+unsafe fn run_slices<T: Element, const ADD: bool>(
+    src: &[T],
+    dst: &mut [T],
+    n: u64,
+    s: i64,
+    d: i64,
+    ss: i64,
+    ds: i64,
+) {
     if ss == 1 && ds == 1 {
         for i in 0..n as usize {
             let u = *src.get_unchecked(s as usize + i);
@@ -129,8 +241,18 @@ unsafe fn run_slices<T: Element, const ADD: bool>(src: &[T], dst: &mut [T], n: u
     }
 }
 
+#[allow(clippy::too_many_arguments)]
 #[inline(never)]
-unsafe fn cells_slices<T: Element, const ADD: bool>(src: &[T], dst: &mut [T], e: &Axes, ss: &Strides, ds: &Strides, rank: usize, s: i64, d: i64) {
+unsafe fn cells_slices<T: Element, const ADD: bool>(
+    src: &[T],
+    dst: &mut [T],
+    e: &Axes,
+    ss: &Strides,
+    ds: &Strides,
+    rank: usize,
+    s: i64,
+    d: i64,
+) {
     match rank {
         1 => run_slices::<T, ADD>(src, dst, e[0], s, d, ss[0], ds[0]),
         2 => {
@@ -141,7 +263,15 @@ unsafe fn cells_slices<T: Element, const ADD: bool>(src: &[T], dst: &mut [T], e:
         _ => {
             for k in 0..e[2] as i64 {
                 for j in 0..e[1] as i64 {
-                    run_slices::<T, ADD>(src, dst, e[0], s + ss[2] * k + ss[1] * j, d + ds[2] * k + ds[1] * j, ss[0], ds[0]);
+                    run_slices::<T, ADD>(
+                        src,
+                        dst,
+                        e[0],
+                        s + ss[2] * k + ss[1] * j,
+                        d + ds[2] * k + ds[1] * j,
+                        ss[0],
+                        ds[0],
+                    );
                 }
             }
         }
@@ -153,7 +283,52 @@ fn median(times: &mut [f64]) -> f64 {
     times[times.len() / 2]
 }
 
-fn measure<T: Element, const ADD: bool>(name: &str, run: bool, extents: &[u64], steps: [i64; 2], rounds: usize) {
+// Makes a job: 0 by Rattle, 1 by raw pointers, 2 by slices.
+fn make<T: Element, const ADD: bool>(which: usize, src: &[T], dst: &mut [T], j: &Job) {
+    let (e, ss, ds) = (j.extents, j.ss, j.ds);
+    unsafe {
+        match which {
+            0 => assert!(T::rattle(ADD, black_box(src), dst, black_box(j)), "refused"),
+            1 => {
+                for _ in 0..j.times {
+                    let from = black_box(src.as_ptr());
+                    cells_raw::<T, ADD>(
+                        from,
+                        dst.as_mut_ptr(),
+                        black_box(e),
+                        ss,
+                        ds,
+                        j.rank,
+                        j.s,
+                        j.d,
+                    );
+                }
+            }
+            _ => {
+                for _ in 0..j.times {
+                    cells_slices::<T, ADD>(
+                        black_box(src),
+                        dst,
+                        black_box(e),
+                        ss,
+                        ds,
+                        j.rank,
+                        j.s,
+                        j.d,
+                    );
+                }
+            }
+        }
+    }
+}
+
+fn measure<T: Element, const ADD: bool>(
+    name: &str,
+    run: bool,
+    extents: &[u64],
+    steps: [i64; 2],
+    rounds: usize,
+) {
     let rank = extents.len();
     let (mut e, mut ss, mut ds): (Axes, Strides, Strides) = ([1; 8], [0; 8], [0; 8]);
     // the source's rows stand apart, the destination's follow each other
@@ -164,37 +339,50 @@ fn measure<T: Element, const ADD: bool>(name: &str, run: bool, extents: &[u64], 
         to *= *n as i64;
     }
     let cells: u64 = extents.iter().product();
-    let job = Job { run, extents: &e, ss: &ss, ds: &ds, rank, s: 5, d: 9, times: (100_000 / cells).max(4) };
+    let job = Job {
+        run,
+        extents: &e,
+        ss: &ss,
+        ds: &ds,
+        rank,
+        s: 5,
+        d: 9,
+        times: (100_000 / cells).max(4),
+    };
     let src: Vec<T> = (0..from as usize + 8).map(|i| T::of(i % 1000)).collect();
-    let mut slices: [Vec<T>; 3] = std::array::from_fn(|_| vec![T::of(0); to as usize + 16]);
+    let room = to as usize + 16;
+    // each way once on a slice of its own: they leave the same
+    let left: [Vec<T>; 3] = std::array::from_fn(|which| {
+        let mut dst = vec![T::of(0); room];
+        make::<T, ADD>(which, &src, &mut dst, &job);
+        dst
+    });
+    assert!(
+        left[0] == left[1] && left[0] == left[2],
+        "{name}: the loops leave different slices"
+    );
+    // then in turn on one slice, so that where it lies in memory favours none
+    let mut dst = vec![T::of(0); room];
     let mut times: [Vec<f64>; 3] = Default::default();
     for round in 0..rounds {
         for turn in 0..3 {
             let which = (round + turn) % 3;
-            let dst = &mut slices[which];
             let start = Instant::now();
-            unsafe {
-                match which {
-                    0 => assert!(T::rattle(ADD, black_box(&src), dst, black_box(&job)), "refused"),
-                    1 => {
-                        for _ in 0..job.times {
-                            cells_raw::<T, ADD>(black_box(src.as_ptr()), dst.as_mut_ptr(), black_box(&e), &ss, &ds, rank, job.s, job.d);
-                        }
-                    }
-                    _ => {
-                        for _ in 0..job.times {
-                            cells_slices::<T, ADD>(black_box(&src), dst, black_box(&e), &ss, &ds, rank, job.s, job.d);
-                        }
-                    }
-                }
-            }
+            make::<T, ADD>(which, &src, &mut dst, &job);
             times[which].push(start.elapsed().as_secs_f64());
         }
     }
-    assert!(slices[0] == slices[1] && slices[0] == slices[2], "{name}: the loops leave different slices");
     let [mut a, mut b, mut c] = times;
     let rattle = median(&mut a);
-    println!("| {name} | {} | {} | {}/{} | {:.2} | {:.2} |", T::NAME, if ADD { "add" } else { "copy" }, steps[0], steps[1], rattle / median(&mut b), rattle / median(&mut c));
+    println!(
+        "| {name} | {} | {} | {}/{} | {:.2} | {:.2} |",
+        T::NAME,
+        if ADD { "add" } else { "copy" },
+        steps[0],
+        steps[1],
+        rattle / median(&mut b),
+        rattle / median(&mut c)
+    );
 }
 
 fn each<T: Element>(name: &str, run: bool, extents: &[u64], steps: [i64; 2], rounds: usize) {
@@ -203,7 +391,10 @@ fn each<T: Element>(name: &str, run: bool, extents: &[u64], steps: [i64; 2], rou
 }
 
 fn main() {
-    let rounds = std::env::var("BENCH_ROUNDS").ok().and_then(|v| v.parse().ok()).unwrap_or(201);
+    let rounds = std::env::var("BENCH_ROUNDS")
+        .ok()
+        .and_then(|v| v.parse().ok())
+        .unwrap_or(201);
     println!("Rattle's time over Rust's, medians of {rounds} rounds");
     println!("| shape | element | what | strides | raw pointers | slices |");
     println!("|---|---|---|---|---|---|");
@@ -213,7 +404,12 @@ fn main() {
             each::<f64>(&format!("run {n}"), true, &[n], steps, rounds);
         }
     }
-    for (name, extents) in [("4×4", &[4, 4][..]), ("4×1024", &[4, 1024]), ("64×64", &[64, 64]), ("8×8×8", &[8, 8, 8])] {
+    for (name, extents) in [
+        ("4×4", &[4, 4][..]),
+        ("4×1024", &[4, 1024]),
+        ("64×64", &[64, 64]),
+        ("8×8×8", &[8, 8, 8]),
+    ] {
         each::<i32>(name, false, extents, [1, 1], rounds);
         each::<f64>(name, false, extents, [1, 1], rounds);
     }
