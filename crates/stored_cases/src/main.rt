@@ -10,7 +10,7 @@ use packed::signed_list;
 use packed::word_at;
 
 fn answer_gather(head: &[u8], words: &[u64], numbers: &[i64]) -> Answer {
-    gather::gather_refusal(
+    gather_checks::gather_refusal(
         list(words, head, 0),
         signed_list(numbers, head, 1),
         list(words, head, 2),

@@ -9,8 +9,8 @@ use lib.IntN.{ℤ}
 use Rattle.layout.specs.declared.Answer.{Answer}
 use Rattle.layout.specs.Answers.{isDone, orElse}
 use Rattle.layout.specs.Layouts.{layoutFrom, extentsOf, stridesOf, strideLength, rankAtMost}
-use Rattle.gather.specs.Refusals.{layoutsRefusal}
-use Rattle.gather.proofs.Made.{or-done, made-extents, made-strides}
+use Rattle.gather_checks.specs.Refusals.{layoutsRefusal}
+use Rattle.gather_checks.proofs.Made.{or-done, made-extents, made-strides}
 use Rattle.strided.specs.Prefix.{scatterNumbers, scatterPrefix}
 
 -- what comes after a refusal does not count

@@ -2,7 +2,7 @@
 // gets an answer: lists of extents and strides of unequal length, ranks above 8, lists of any length.
 ghost use mathlib.Core.Path.{_≡_};
 ghost use mathlib.Core.Bool.{true};
-ghost use Rattle.gather.specs.Refusals.{gatherFrom, refusalOf};
+ghost use Rattle.gather_checks.specs.Refusals.{gatherFrom, refusalOf};
 ghost use Rattle.layout.specs.Layouts.{extentsOf, stridesOf, layoutFrom};
 ghost use Rattle.strided.specs.Prefix.{words, scatterNumbers, scatterPrefix};
 use layout::Answer;
@@ -44,7 +44,7 @@ pub fn scatter_prefix(
 ) -> Answer
     ensures { λ r. ⌜ r ≡ scatterPrefix (now («index_extents» .entry)) (now («index_strides» .entry)) (now («updates_extents» .entry)) (now («updates_strides» .entry)) (now («dest_extents» .entry)) (now («dest_strides» .entry)) ⌝ }
 {
-    let layouts = gather::check_layouts(
+    let layouts = gather_checks::check_layouts(
         index_extents.len(),
         index_strides.len(),
         updates_extents.len(),
@@ -87,7 +87,7 @@ pub extern "C" fn strided_gather_refusal(
 )
     ensures { λ _. ⌜ now (answer .exit) ≡ words (refusalOf true (gatherFrom (now («operand_extents» .entry)) (now («operand_strides» .entry)) (now («index_extents» .entry)) (now («index_strides» .entry)) (now («dest_extents» .entry)) (now («dest_strides» .entry)) (now («offset_dims» .entry)) (now («collapsed_slice_dims» .entry)) (now («start_index_map» .entry)) «index_vector_dim» (now («slice_sizes» .entry)))) ⌝ }
 {
-    let r = gather::gather_refusal(
+    let r = gather_checks::gather_refusal(
         operand_extents,
         operand_strides,
         index_extents,

@@ -1,0 +1,41 @@
+use Rattle.integer.specs.Z.{back}
+use borrow.Author.Needs.{needs}
+use Rattle.gather_checks.proofs.check_axis.Statement.{statement}
+use Rattle.gather_checks.proofs.check_axis.Tie as tie
+
+-- src/lib.rt:89:9
+check-reset-requires : tie.Need-check-reset-requires
+check-reset-requires c κs = search needs
+
+-- src/lib.rt:90:9
+check-reset-requires-2 : tie.Need-check-reset-requires-2
+check-reset-requires-2 c κs = search needs
+
+-- src/lib.rt:91:9
+check-reset-requires-3 : tie.Need-check-reset-requires-3
+check-reset-requires-3 c κs = search needs
+
+-- src/lib.rt:92:24
+or-else-requires : tie.Need-or-else-requires
+or-else-requires c κs = search needs
+
+-- src/lib.rt:92:5
+or-else-requires-2 : tie.Need-or-else-requires-2
+or-else-requires-2 c κs = search needs
+
+-- src/lib.rt:86:1
+returns : tie.Need-returns
+returns c =
+    let s = c .before .before .before .before .before in
+    rw (c .or-else2 .ensures, c .before .or-else .ensures, c .before .before .check-reset3 .ensures, c .before .before .before .check-reset2 .ensures, c .before .before .before .before .check-reset .ensures, back (s .fits .dest), back (s .fits .window), back (s .fits .batch))
+
+pub check-axis-spec : {M : Type 1} → statement M
+check-axis-spec =
+    tie.close
+    (tie.spec
+    check-reset-requires
+    check-reset-requires-2
+    check-reset-requires-3
+    or-else-requires
+    or-else-requires-2
+    returns)
