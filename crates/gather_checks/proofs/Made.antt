@@ -22,14 +22,14 @@ or-done x y e = go (isDone x) refl e
     go true f h = (f, h)
     go false f h = let z : _≡_ {A = ℕ} 0 1 = cc in absurd (omega arith)
 
-same-length : (n m : ℕ) → isDone (strideLength n m) ≡ true → m ≡ n
+pub same-length : (n m : ℕ) → isDone (strideLength n m) ≡ true → m ≡ n
 same-length n m e = go (eqb m n) refl e
   where
     go : (t : Bool) → eqb m n ≡ t → isDone (cond t A.Done A.StrideLengthMismatch) ≡ true → m ≡ n
     go true f h = eqb-true m n f
     go false f h = let z : _≡_ {A = ℕ} 0 1 = cc in absurd (omega arith)
 
-few-axes : (n : ℕ) → isDone (rankAtMost n) ≡ true → n ≤ rankLimit
+pub few-axes : (n : ℕ) → isDone (rankAtMost n) ≡ true → n ≤ rankLimit
 few-axes n e = go (leb n rankLimit) refl e
   where
     go : (t : Bool) → leb n rankLimit ≡ t → isDone (cond t A.Done (A.RankTooLarge n rankLimit)) ≡ true → n ≤ rankLimit
@@ -37,7 +37,7 @@ few-axes n e = go (leb n rankLimit) refl e
     go false f h = let z : _≡_ {A = ℕ} 0 1 = cc in absurd (omega arith)
 
 module _ (es : List ℕ) (ss : List ℤ) (m : MadeLayout) (e : m ≡ layoutFrom es ss) (p : isDone (strideLength (length es) (length ss)) ≡ true) (q : isDone (rankAtMost (length es)) ≡ true) where
-  made : m .layout ≡ layoutOf es ss
+  pub made : m .layout ≡ layoutOf es ss
   unfolding layoutFrom
   made = ap (λ (r : MadeLayout). r .layout) e ∙ rw (p, q)
 

@@ -242,7 +242,7 @@ fn check_shape(
 }
 
 // What each axis of the destination adds to the place in the operand: the stride of the axis that it shows, or 0.
-fn window_steps(operand: Layout, dest: Layout, offset_dims: &[u64], collapsed: &[u64]) -> Steps
+pub fn window_steps(operand: Layout, dest: Layout, offset_dims: &[u64], collapsed: &[u64]) -> Steps
     ensures { λ r. ⌜ r ≡ heldSteps (spread (pos 0) (length (extentsOf dest)) (now («offset_dims» .entry)) (pick (pos 0) (others (length (extentsOf operand)) (now (collapsed .entry))) (stridesOf operand))) ⌝ }
 {
     let kept = axis_lists::other_axes(operand.rank, collapsed);
@@ -253,7 +253,7 @@ fn window_steps(operand: Layout, dest: Layout, offset_dims: &[u64], collapsed: &
 }
 
 // What each axis of the destination adds to the place in the index view: the stride of its batch axis, or 0.
-fn batch_steps(index: Layout, dest: Layout, offset_dims: &[u64], vector: u64) -> Steps
+pub fn batch_steps(index: Layout, dest: Layout, offset_dims: &[u64], vector: u64) -> Steps
     ensures { λ r. ⌜ r ≡ heldSteps (spread (pos 0) (length (extentsOf dest)) (others (length (extentsOf dest)) (now («offset_dims» .entry))) (without vector (stridesOf index))) ⌝ }
 {
     let axes = axis_lists::other_axes(dest.rank, offset_dims);

@@ -1,0 +1,4 @@
+pub mod Compare
+pub mod Roles
+pub mod Lists
+pub mod Accepted

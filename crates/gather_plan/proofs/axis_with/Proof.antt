@@ -1,0 +1,31 @@
+use mir.Syntax.{w64}
+use mir.Val.{SFits}
+use Rattle.integer.specs.Z.{back}
+use borrow.Author.Needs.{needs}
+use Rattle.gather_plan.proofs.axis_with.Statement.{statement}
+use Rattle.gather_plan.proofs.axis_with.Tie as tie
+
+-- src/lib.rt:170:9
+reset-value-requires : tie.Need-reset-value-requires
+reset-value-requires c κs = search needs
+
+-- src/lib.rt:171:9
+reset-value-requires-2 : tie.Need-reset-value-requires-2
+reset-value-requires-2 c κs = search needs
+
+-- src/lib.rt:172:9
+reset-value-requires-3 : tie.Need-reset-value-requires-3
+reset-value-requires-3 c κs = search needs
+
+-- src/lib.rt:167:1
+returns : tie.Need-returns
+returns c =
+    let s = c .before .before .before in
+    let f : SFits w64 (c .reset-value3 .result) = search needs in
+    let g : SFits w64 (c .before .reset-value2 .result) = search needs in
+    let h : SFits w64 (c .before .before .reset-value .result) = search needs in
+    rw (back f, back g, back h, c .reset-value3 .ensures, c .before .reset-value2 .ensures, c .before .before .reset-value .ensures, back (s .fits .dest), back (s .fits .window), back (s .fits .batch))
+
+pub axis-with-spec : {M : Type 1} → statement M
+axis-with-spec =
+    tie.close (tie.spec reset-value-requires reset-value-requires-2 reset-value-requires-3 returns)

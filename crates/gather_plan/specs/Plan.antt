@@ -1,0 +1,113 @@
+-- The plan of a gather by value, and what compile gives: document 01, "The window read". Definitions only.
+use mathlib.Core.Bool.{Bool, cond}
+use mathlib.Core.List.{List, [], _∷_}
+use Prim.Native.Nat.{ℕ, _-_}
+use lib.Dec.{eqb}
+use lib.ListN.{length, getD, replicate}
+use lib.IntN.{ℤ, pos, negℤ, _*ℤ_}
+use Rattle.indexing.specs.Coordinates.{View, rank, product, pick, tabulate}
+use Rattle.indexing.specs.Gather.{Gather, shownDims}
+use Rattle.indexing.specs.Steps.{vectorStride, windowSteps, batchSteps}
+use Rattle.layout.specs.declared.Answer.{Answer}
+use Rattle.layout.specs.declared.Layout.{Layout}
+use Rattle.layout.specs.Answers.{isDone}
+use Rattle.layout.specs.Layouts.{rankLimit, padded, layoutOf, extentsOf, stridesOf}
+use Rattle.axis_lists.specs.Held.{numbersOf, heldNumbers, heldSteps}
+use Rattle.axis_lists.specs.declared.Numbers.{Numbers}
+use Rattle.axis_lists.specs.declared.Steps.{Steps}
+use Rattle.gather_checks.specs.Refusals.{gatherFrom, refusalOf}
+use Rattle.gather_plan.specs.declared.Role.{Role}
+use Rattle.gather_plan.specs.declared.Role.the-variants.{Batch, Window}
+use Rattle.gather_plan.specs.declared.Axis.{Axis}
+use Rattle.gather_plan.specs.declared.GatherPlan.{GatherPlan}
+use Rattle.gather_plan.specs.declared.CompiledGather.{CompiledGather}
+
+-- "Each destination axis has a role": "axes in `offset_dims` show, in list order, the operand axes that are not collapsed; the rest are batch axes"
+unfoldable pub roleOf : List ℕ → List ℕ → ℕ → Role
+roleOf [] shown a = Batch
+roleOf (b ∷ offsets) [] a = Batch
+roleOf (b ∷ offsets) (k ∷ shown) a = cond (eqb b a) (Window k) (roleOf offsets shown a)
+
+-- Reset: extent − 1 times the stride, negated; 0 at extent 0
+abbrev pub reset : ℕ → ℤ → ℤ
+reset d s = negℤ (s *ℤ pos (d - 1))
+
+-- an axis: its role, and its steps in the destination, in the operand and in the index view, with the reset of each at its extent
+abbrev pub axisWith : (ℕ → ℤ → ℤ) → Role → ℕ → ℤ → ℤ → ℤ → Axis
+axisWith back role d s w b =
+    record {
+      role = role;
+      «dest_step» = s;
+      «dest_reset» = back d s;
+      «window_step» = w;
+      «window_reset» = back d w;
+      «batch_step» = b;
+      «batch_reset» = back d b;
+    }
+
+-- axis a of a gather's destination
+abbrev pub axisOf : Gather → ℕ → Axis
+axisOf g a = axisWith reset (roleOf (g .spec .offset-dims) (shownDims g) a) (getD (g .result .extents) a 0) (getD (g .result .strides) a (pos 0)) (getD (windowSteps g) a (pos 0)) (getD (batchSteps g) a (pos 0))
+
+-- what stands past the last axis
+abbrev pub noAxis : Axis
+noAxis = record { role = Batch; «dest_step» = pos 0; «dest_reset» = pos 0; «window_step» = pos 0; «window_reset» = pos 0; «batch_step» = pos 0; «batch_reset» = pos 0 }
+
+-- THE PLAN of a gather: its layouts, its spec, its axes; of each component the vector axis's stride times c, and the operand's stride
+-- on the axis that it starts the window on; how many cells the destination has
+abbrev pub planOf : Gather → GatherPlan
+planOf g =
+    record {
+      operand = layoutOf (g .operand .extents) (g .operand .strides);
+      index = layoutOf (g .indices .extents) (g .indices .strides);
+      dest = layoutOf (g .result .extents) (g .result .strides);
+      «offset_dims» = heldNumbers (g .spec .offset-dims);
+      «collapsed_slice_dims» = heldNumbers (g .spec .collapsed-slice-dims);
+      «start_index_map» = heldNumbers (g .spec .start-index-map);
+      «index_vector_dim» = g .spec .index-vector-dim;
+      «slice_sizes» = heldNumbers (g .spec .slice-sizes);
+      axes = padded rankLimit noAxis (tabulate (rank (g .result)) (axisOf g));
+      «component_offsets» = heldSteps (tabulate (length (g .spec .start-index-map)) (λ c. vectorStride (g .indices) (g .spec .index-vector-dim) *ℤ pos c));
+      «component_strides» = heldSteps (pick (pos 0) (g .spec .start-index-map) (g .operand .strides));
+      total = product (g .result .extents);
+    }
+
+-- "no plan is given": what stands in its place, of no axes
+abbrev pub noLayout : Layout
+noLayout = record { rank = 0; extents = replicate rankLimit 1; strides = replicate rankLimit (pos 0) }
+
+abbrev pub noNumbers : Numbers
+noNumbers = record { count = 0; entries = replicate rankLimit 0 }
+
+abbrev pub noSteps : Steps
+noSteps = record { count = 0; entries = replicate rankLimit (pos 0) }
+
+abbrev pub refusedPlan : GatherPlan
+refusedPlan =
+    record {
+      operand = noLayout;
+      index = noLayout;
+      dest = noLayout;
+      «offset_dims» = noNumbers;
+      «collapsed_slice_dims» = noNumbers;
+      «start_index_map» = noNumbers;
+      «index_vector_dim» = 0;
+      «slice_sizes» = noNumbers;
+      axes = replicate rankLimit noAxis;
+      «component_offsets» = noSteps;
+      «component_strides» = noSteps;
+      total = 0;
+    }
+
+abbrev pub refusedGather : Answer → CompiledGather
+refusedGather x = record { answer = x; plan = refusedPlan }
+
+-- what compile gives: the first refusal, or done with the plan; 4 is tried where `nested` says so
+unfoldable pub compiledGather : Bool → Gather → CompiledGather
+compiledGather nested g = record { answer = refusalOf nested g; plan = cond (isDone (refusalOf nested g)) (planOf g) refusedPlan }
+
+-- the gather that the layouts and the spec in a plan describe
+abbrev pub heldGather : GatherPlan → Gather
+heldGather p =
+    gatherFrom (extentsOf (p .operand)) (stridesOf (p .operand)) (extentsOf (p .index)) (stridesOf (p .index)) (extentsOf (p .dest)) (stridesOf (p .dest))
+    (numbersOf (p .«offset_dims»)) (numbersOf (p .«collapsed_slice_dims»)) (numbersOf (p .«start_index_map»)) (p .«index_vector_dim») (numbersOf (p .«slice_sizes»))
