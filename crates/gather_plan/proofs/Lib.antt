@@ -2,3 +2,4 @@ pub mod Compare
 pub mod Roles
 pub mod Lists
 pub mod Accepted
+pub mod Compiled

@@ -526,42 +526,42 @@ pub fn same_plan(a: GatherPlan, b: GatherPlan) -> bool
 pub fn compiled_again(plan: GatherPlan) -> CompiledGather
     ensures { λ r. ⌜ r ≡ compiledGather false (heldGather plan) ⌝ }
 {
-    let a = plan.operand;
-    let b = plan.index;
-    let c = plan.dest;
-    let d = plan.offset_dims;
-    let e = plan.collapsed_slice_dims;
-    let f = plan.start_index_map;
-    let g = plan.slice_sizes;
-    let a1 = a.extents;
-    let a2 = a.strides;
-    let b1 = b.extents;
-    let b2 = b.strides;
-    let c1 = c.extents;
-    let c2 = c.strides;
-    let d1 = d.entries;
-    let e1 = e.entries;
-    let f1 = f.entries;
-    let g1 = g.entries;
-    let an = layout::axis_count(a.rank);
-    let bn = layout::axis_count(b.rank);
-    let cn = layout::axis_count(c.rank);
-    let dn = layout::axis_count(d.count);
-    let en = layout::axis_count(e.count);
-    let fn_ = layout::axis_count(f.count);
-    let gn = layout::axis_count(g.count);
+    let operand = plan.operand;
+    let index = plan.index;
+    let dest = plan.dest;
+    let offsets = plan.offset_dims;
+    let collapsed = plan.collapsed_slice_dims;
+    let map = plan.start_index_map;
+    let sizes = plan.slice_sizes;
+    let operand_extents = operand.extents;
+    let operand_strides = operand.strides;
+    let index_extents = index.extents;
+    let index_strides = index.strides;
+    let dest_extents = dest.extents;
+    let dest_strides = dest.strides;
+    let offset_axes = offsets.entries;
+    let collapsed_axes = collapsed.entries;
+    let mapped_axes = map.entries;
+    let windows = sizes.entries;
+    let n = layout::axis_count(operand.rank);
+    let m = layout::axis_count(index.rank);
+    let k = layout::axis_count(dest.rank);
+    let u = layout::axis_count(offsets.count);
+    let v = layout::axis_count(collapsed.count);
+    let w = layout::axis_count(map.count);
+    let x = layout::axis_count(sizes.count);
     compile(
-        &a1[0..an],
-        &a2[0..an],
-        &b1[0..bn],
-        &b2[0..bn],
-        &c1[0..cn],
-        &c2[0..cn],
-        &d1[0..dn],
-        &e1[0..en],
-        &f1[0..fn_],
+        &operand_extents[0..n],
+        &operand_strides[0..n],
+        &index_extents[0..m],
+        &index_strides[0..m],
+        &dest_extents[0..k],
+        &dest_strides[0..k],
+        &offset_axes[0..u],
+        &collapsed_axes[0..v],
+        &mapped_axes[0..w],
         plan.index_vector_dim,
-        &g1[0..gn],
+        &windows[0..x],
         false,
     )
 }
