@@ -1,7 +1,7 @@
 -- What is known of a gather that is not refused: its lists fit, its numbers fit, and what the code makes is its plan. Assumes nothing.
 use mathlib.Core.Path.{_≡_, refl, sym, ap, _∙_}
 use mathlib.Core.Bool.{Bool, true, false, cond}
-use mathlib.Core.List.{List, [], _∷_}
+use mathlib.Core.List.{List, []}
 use Prim.Native.Nat.{ℕ, zero, suc, _+_, _<_, _≤_, min}
 use native.Mathlib.Omega.{arith}
 use borrow.Author.Tests.{eqb-true, eq-eqb, le-leb}
@@ -13,21 +13,21 @@ use Rattle.integer.specs.declared.Checked.{Checked}
 use Rattle.integer.specs.declared.Checked.the-variants as C
 use Rattle.integer.specs.declared.CheckedU.{CheckedU}
 use Rattle.integer.specs.declared.CheckedU.the-variants as U
-use Rattle.indexing.specs.Coordinates.{View, rank, product, pick, spread, others, tabulate}
+use Rattle.indexing.specs.Coordinates.{product, pick, spread, others, tabulate}
 use Rattle.indexing.specs.Start.{without}
 use Rattle.indexing.specs.Gather.{Gather, shownDims, batchDims}
-use Rattle.indexing.specs.Steps.{vectorStride, windowSteps, batchSteps}
+use Rattle.indexing.specs.Steps.{windowSteps, batchSteps}
 use Rattle.layout.specs.declared.Answer.{Answer}
 use Rattle.layout.specs.declared.Answer.the-variants as A
-use Rattle.layout.specs.Answers.{isDone, orElse}
+use Rattle.layout.specs.Answers.{isDone}
 use Rattle.layout.specs.Layouts.{rankLimit, padded, layoutOf, extentsOf, stridesOf, strideLength, rankAtMost}
 use Rattle.layout.specs.Lists.{uniqueAxes}
 use Rattle.layout.specs.Spans.{totalOf, resetOf, offsetAdd}
 use Rattle.layout.specs.Laws.{total-is, reset-is, offset-add-is}
-use Rattle.axis_lists.specs.Held.{numbersOf, heldNumbers, heldSteps}
+use Rattle.axis_lists.specs.Held.{heldNumbers, heldSteps}
 use Rattle.axis_lists.proofs.Filling.{read-back, length-others}
 use Rattle.checks.specs.Checks.{firstOf, totalFits, sameCount, componentsOf}
-use Rattle.gather_checks.specs.Refusals.{gatherFrom, numberFits, resetsAt, offsetFits, layoutsRefusal, numbersRefusal, listsRefusal, countsRefusal, shapeRefusal, resetsRefusal, refusalOf}
+use Rattle.gather_checks.specs.Refusals.{gatherFrom, numberFits, resetsAt, offsetFits, layoutsRefusal, numbersRefusal, listsRefusal, countsRefusal, shapeRefusal, refusalOf}
 use Rattle.gather_checks.proofs.Made.{or-done, same-length, few-axes}
 use Rattle.gather_plan.specs.declared.Axis.{Axis}
 use Rattle.gather_plan.specs.declared.GatherPlan.{GatherPlan}

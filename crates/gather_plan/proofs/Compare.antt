@@ -1,5 +1,5 @@
 -- Tests for the same lists, axes and plans: entry by entry, and that they decide. Assumes nothing.
-use mathlib.Core.Path.{_≡_, refl, sym, ap, ap₂, subst, _∙_}
+use mathlib.Core.Path.{_≡_, refl, sym, ap, ap₂, subst}
 use mathlib.Core.Bool.{Bool, true, false, _&&_}
 use mathlib.Core.List.{List, [], _∷_}
 use Prim.Native.Nat.{ℕ, _+_, _<_, _≤_}
@@ -76,20 +76,20 @@ pair-decides r s p q make left right =
       no = λ e. and-both r s (p .no (left e)) (q .no (right e));
     }
 
-none-of : {A : Type 0} (d : A) (xs : List A) → A
-none-of d [] = d
-none-of d (x ∷ xs) = x
+first-or : {A : Type 0} (d : A) (xs : List A) → A
+first-or d [] = d
+first-or d (x ∷ xs) = x
 
 rest-of : {A : Type 0} → List A → List A
 rest-of [] = []
 rest-of (x ∷ xs) = xs
 
 lists-decide : {A : Type 0} (test : A → A → Bool) → ((a b : A) → Decides (test a b) a b) → (xs ys : List A) → Decides (sameBy test xs ys) xs ys
-unfolding sameBy none-of rest-of
+unfolding sameBy first-or rest-of
 lists-decide test p [] [] = record { yes = λ e. refl; no = λ e. refl }
 lists-decide test p [] (b ∷ ys) = record { yes = λ e. let z : _≡_ {A = ℕ} 0 1 = cc in absurd (omega arith); no = λ e. let z : _≡_ {A = ℕ} 0 1 = cc in absurd (omega arith) }
 lists-decide test p (a ∷ xs) [] = record { yes = λ e. let z : _≡_ {A = ℕ} 0 1 = cc in absurd (omega arith); no = λ e. let z : _≡_ {A = ℕ} 0 1 = cc in absurd (omega arith) }
-lists-decide test p (a ∷ xs) (b ∷ ys) = pair-decides (test a b) (sameBy test xs ys) (p a b) (lists-decide test p xs ys) (λ e f. ap₂ _∷_ e f) (ap (none-of a)) (ap rest-of)
+lists-decide test p (a ∷ xs) (b ∷ ys) = pair-decides (test a b) (sameBy test xs ys) (p a b) (lists-decide test p xs ys) (λ e f. ap₂ _∷_ e f) (ap (first-or a)) (ap rest-of)
 
 layouts-decide : (a b : Layout) → Decides (sameLayout a b) a b
 layouts-decide a b =

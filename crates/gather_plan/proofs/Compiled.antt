@@ -1,9 +1,8 @@
 -- A compiled plan is the plan of an accepted gather, and what compile gives is compiled. Assumes nothing.
-use mathlib.Core.Path.{_≡_, refl, sym, ap, subst, _∙_}
-use mathlib.Core.Bool.{Bool, true, false, cond, _&&_}
-use mathlib.Core.List.{List, [], _∷_}
+use mathlib.Core.Path.{_≡_, refl, sym, ap, _∙_}
+use mathlib.Core.Bool.{Bool, true, false, cond}
+use mathlib.Core.List.{List}
 use Prim.Native.Nat.{ℕ}
-use native.Mathlib.Omega.{arith}
 use lib.ListN.{length}
 use lib.IntN.{ℤ}
 use Rattle.indexing.specs.Coordinates.{rank, othersFrom}
@@ -13,13 +12,12 @@ use Rattle.layout.specs.Answers.{isDone, orElse}
 use Rattle.layout.specs.Lists.{uniqueAxes}
 use Rattle.layout.specs.Spans.{totalFrom, totalOf, spanFrom, spanned}
 use Rattle.axis_lists.proofs.Filling.{read-back}
-use Rattle.checks.specs.Checks.{totalFits, spanFits, nestedIf, windowsFrom}
+use Rattle.checks.specs.Checks.{totalFits, spanFits, windowsFrom}
 use Rattle.gather_checks.specs.Refusals.{gatherFrom, layoutsRefusal, numbersRefusal, collapsedOne, refusalOf}
 use Rattle.gather_checks.proofs.Made.{or-done}
 use Rattle.gather_plan.specs.declared.GatherPlan.{GatherPlan}
-use Rattle.gather_plan.specs.declared.CompiledGather.{CompiledGather}
 use Rattle.gather_plan.specs.Plan.{planOf, refusedPlan, compiledGather, heldGather}
-use Rattle.gather_plan.specs.Same.{samePlan, isCompiled}
+use Rattle.gather_plan.specs.Same.{isCompiled}
 use Rattle.gather_plan.proofs.Compare.{and-true, and-both, same-plan-decides}
 use Rattle.gather_plan.proofs.Accepted.{Accepted, accepted, operand-extents-read, operand-strides-read, index-extents-read, index-strides-read, dest-extents-read, dest-strides-read}
 

@@ -2,16 +2,15 @@
 use mathlib.Core.Path.{_≡_, refl, sym, ap, subst, _∙_}
 use mathlib.Core.Bool.{Bool, true, false, cond, _||_, true≢false}
 use mathlib.Core.List.{List, [], _∷_, _++_, append-nil}
-use Prim.Native.Nat.{ℕ, zero, suc, _+_, _-_, _<_, _≤_, min}
+use Prim.Native.Nat.{ℕ, zero, suc, _-_, _<_, _≤_, min}
 use native.Mathlib.Omega.{arith}
-use borrow.Author.Tests.{eqb-true, eqb-false, eq-eqb, ne-eqb, leb-false}
+use borrow.Author.Tests.{eqb-true, eqb-false, leb-false}
 use lib.Dec.{eqb, leb}
 use lib.ListN.{length, take, drop}
 use lib.Seq.{append-snoc}
 use Rattle.indexing.specs.Coordinates.{has, tabulate}
 use Rattle.indexing.specs.Axes.{Axes, or-left, or-right, or-none, axes-append}
 use Rattle.axis_lists.proofs.Filling.{take-count}
-use Rattle.layout.specs.declared.Answer.{Answer}
 use Rattle.layout.specs.declared.Answer.the-variants as A
 use Rattle.layout.specs.Answers.{isDone}
 use Rattle.layout.specs.Lists.{uniqueAxes}
@@ -64,24 +63,21 @@ has-cut a (x ∷ xs) b e = go (eqb x a) (has-cut a xs b (or-right (eqb x b) (has
     go true h = or-right (eqb x b) (has xs b) e
     go false h = or-none (eqb x b) (has (cut a xs) b) (or-left (eqb x b) (has xs b) e) h
 
+below : (y m : ℕ) → y < suc m → (y ≡ m → ⊥) → y < m
+below y m h k = omega arith
+
 lower : (n : ℕ) (xs : List ℕ) → Axes (suc n) xs → has xs n ≡ false → Axes n xs
 unfolding Axes has
 lower n [] p e = tt
 lower n (x ∷ xs) p e =
     let d : x ≡ n → ⊥ = eqb-false x n (or-left (eqb x n) (has xs n) e) in
     (below x n (p .0) d, p .1, lower n xs (p .2) (or-right (eqb x n) (has xs n) e))
-  where
-    below : (y m : ℕ) → y < suc m → (y ≡ m → ⊥) → y < m
-    below y m h k = omega arith
 
 cut-axes : (n : ℕ) (xs : List ℕ) → Axes (suc n) xs → Axes n (cut n xs)
 unfolding Axes cut
 cut-axes n [] p = tt
 cut-axes n (x ∷ xs) p = go (eqb x n) refl (cut-axes n xs (p .2))
   where
-    below : (y m : ℕ) → y < suc m → (y ≡ m → ⊥) → y < m
-    below y m h k = omega arith
-
     go : (t : Bool) → eqb x n ≡ t → Axes n (cut n xs) → Axes n (cond t xs (x ∷ cut n xs))
     go true e ih = lower n xs (p .2) (ap (has xs) (sym (eqb-true x n e)) ∙ p .1)
     go false e ih = (below x n (p .0) (eqb-false x n e), has-cut n xs x (p .1), ih)

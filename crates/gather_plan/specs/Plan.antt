@@ -5,7 +5,7 @@ use Prim.Native.Nat.{ℕ, _-_}
 use lib.Dec.{eqb}
 use lib.ListN.{length, getD, replicate}
 use lib.IntN.{ℤ, pos, negℤ, _*ℤ_}
-use Rattle.indexing.specs.Coordinates.{View, rank, product, pick, tabulate}
+use Rattle.indexing.specs.Coordinates.{rank, product, pick, tabulate}
 use Rattle.indexing.specs.Gather.{Gather, shownDims}
 use Rattle.indexing.specs.Steps.{vectorStride, windowSteps, batchSteps}
 use Rattle.layout.specs.declared.Answer.{Answer}

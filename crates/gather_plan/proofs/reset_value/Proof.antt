@@ -1,5 +1,4 @@
 use mathlib.Core.Path.{sym, ap, _∙_}
-use lib.IntN.{ℤ, pos}
 use Rattle.integer.specs.Z.{back}
 use Rattle.layout.specs.Spans.{resetOf}
 use Rattle.gather_plan.specs.Made.{valueOf}
