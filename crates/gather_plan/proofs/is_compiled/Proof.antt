@@ -1,4 +1,8 @@
-use Rattle.gather_plan.specs.Same.{isCompiled}
+use mathlib.Core.Path.{ap, ap₂, _∙_}
+use mathlib.Core.Bool.{_&&_}
+use Rattle.layout.specs.Answers.{isDone}
+use Rattle.gather_plan.specs.declared.CompiledGather.{CompiledGather}
+use Rattle.gather_plan.specs.Same.{samePlan, isCompiled}
 use borrow.Author.Needs.{needs}
 use Rattle.gather_plan.proofs.is_compiled.Statement.{statement}
 use Rattle.gather_plan.proofs.is_compiled.Tie as tie
@@ -22,7 +26,11 @@ both-requires c κs = search needs
 -- src/lib.rt:570:1
 returns : tie.Need-returns
 unfolding isCompiled
-returns c = rw (c .both .ensures, c .before .same-plan .ensures, c .before .before .is-done .ensures, c .before .before .before .before .compiled-again .ensures)
+returns c =
+    let s = c .before .before .before .before .before in
+    let e = c .before .before .before .before .compiled-again .ensures in
+    c .both .ensures
+    ∙ ap₂ _&&_ (c .before .before .is-done .ensures ∙ ap (λ (r : CompiledGather). isDone (r .answer)) e) (c .before .same-plan .ensures ∙ ap (λ (r : CompiledGather). samePlan (s .args .plan) (r .plan)) e)
 
 pub is-compiled-spec : {M : Type 1} → statement M
 is-compiled-spec =
