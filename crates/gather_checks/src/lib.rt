@@ -119,7 +119,7 @@ fn check_axes(extents: Numbers, dest: Steps, window: Steps, batch: Steps) -> Ans
 }
 
 // 3 for the offsets of the components.
-fn check_components(stride: i64, count: u64) -> Answer
+pub fn check_components(stride: i64, count: u64) -> Answer
     ensures { λ r. ⌜ r ≡ firstOf (offsetFits stride) count 0 ⌝ }
 {
     let mut i: u64 = 0;

@@ -27,7 +27,7 @@ fn answer_gather(head: &[u8], words: &[u64], numbers: &[i64]) -> Answer {
 }
 
 fn answer_scatter(head: &[u8], words: &[u64], numbers: &[i64]) -> Answer {
-    strided::scatter_prefix(
+    scatter_checks::scatter_refusal(
         list(words, head, 0),
         signed_list(numbers, head, 1),
         list(words, head, 2),
@@ -38,6 +38,7 @@ fn answer_scatter(head: &[u8], words: &[u64], numbers: &[i64]) -> Answer {
         list(words, head, 7),
         list(words, head, 8),
         word_at(words, packed::VECTOR_AXIS),
+        true,
     )
 }
 
@@ -48,18 +49,14 @@ fn is_stored(answer: Answer, head: &[u8], words: &[u64]) -> bool {
         && layout::second_number(answer) == word_at(words, packed::B)
 }
 
-// Whether the library has all the checks that give this refusal: of compile 1 to 7 for a gather, 1, 2 and 4 for a scatter.
-fn is_whole(gathers: bool, number: u64) -> bool {
-    if gathers {
-        1 <= number && number <= 7
-    } else {
-        number == 1 || number == 2 || number == 4
-    }
+// Whether the library has all the checks that give this refusal: those of compile, 1 to 7.
+fn is_whole(number: u64) -> bool {
+    1 <= number && number <= 7
 }
 
 // Where no check of the library refuses, the rest of the call is not reached.
-fn judge_passed(gathers: bool, number: u64) -> usize {
-    if is_whole(gathers, number) {
+fn judge_passed(number: u64) -> usize {
+    if is_whole(number) {
         report::DIFFERENT
     } else {
         report::NOT_REACHED
@@ -79,7 +76,7 @@ fn judge_refused(answer: Answer, head: &[u8], words: &[u64]) -> usize {
 
 fn judge(answer: Answer, head: &[u8], words: &[u64]) -> usize {
     if layout::is_done(answer) {
-        judge_passed(packed::is_gather(head), packed::number(head))
+        judge_passed(packed::number(head))
     } else {
         judge_refused(answer, head, words)
     }

@@ -1,1 +1,1 @@
-pub mod Prefix
+pub mod Words

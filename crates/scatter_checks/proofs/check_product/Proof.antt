@@ -1,0 +1,22 @@
+use borrow.Author.Needs.{needs}
+use Rattle.scatter_checks.proofs.check_product.Statement.{statement}
+use Rattle.scatter_checks.proofs.check_product.Tie as tie
+
+checked-total-len-requires : tie.Need-checked-total-len-requires
+checked-total-len-requires c κs = search needs
+
+enum-told : tie.Need-enum-told
+enum-told c = search needs
+
+enum-told-2 : tie.Need-enum-told-2
+enum-told-2 c = search needs
+
+returns : tie.Need-returns
+returns c = rw (← c .before .before .checked-total-len .ensures, c .enum-told .given .1)
+
+returns-2 : tie.Need-returns-2
+returns-2 c = rw (← c .before .before .checked-total-len .ensures, c .enum-told2 .given .1)
+
+pub check-product-spec : {M : Type 1} → statement M
+check-product-spec =
+    tie.close (tie.spec checked-total-len-requires enum-told enum-told-2 returns returns-2)
