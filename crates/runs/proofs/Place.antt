@@ -17,10 +17,10 @@ abbrev pub read : ℤ → ℤ
 read z = toZ w64 (ofZ w64 z)
 
 -- ---- a place inside a slice
-in-fits : (z : ℤ) (m : ℕ) → InSlice m z → m < 2 ^ 63 → SFits w64 z
+pub in-fits : (z : ℤ) (m : ℕ) → InSlice m z → m < 2 ^ 63 → SFits w64 z
 in-fits z m (l, h) r = simp znorm (simp zflat (omega (arith, zfacts)))
 
-gap-fits : (b p : ℤ) (m : ℕ) → InSlice m b → InSlice m (b +ℤ p) → m < 2 ^ 63 → SFits w64 p
+pub gap-fits : (b p : ℤ) (m : ℕ) → InSlice m b → InSlice m (b +ℤ p) → m < 2 ^ 63 → SFits w64 p
 gap-fits b p m (h, k) (l, n) r = simp znorm (simp zflat (omega (arith, zfacts, simp zflat at (simp znorm at l), simp zflat at (simp znorm at n))))
 
 -- cast to an index
@@ -56,11 +56,9 @@ pub record Step (base stride : ℤ) (i m : ℕ) : Type 0 where
 pub line-zero : (base stride : ℤ) → line base stride 0 ≡ base
 line-zero base stride = ap (λ (x : ℤ). base +ℤ x) (*ℤ-zero stride) ∙ +ℤ-idr base
 
-pub step : (base stride : ℤ) (n m : ℕ) → SFits w64 base → SFits w64 stride → Line base stride n m → m < 2 ^ 63 → (i : ℕ) → i < n → Step base stride i m
-step base stride n m fb fs l r i h =
-    let b : InSlice m base = subst (InSlice m) (line-zero base stride) (l .inside 0 (omega arith)) in
-    let k : InSlice m (line base stride i) = l .inside i h in
-    let fi : SFits w64 (pos i) = record { sfits = omega (arith, l .few) } in
+-- where the base and the place of i lie inside the slice
+pub step-at : (base stride : ℤ) (m : ℕ) → SFits w64 base → SFits w64 stride → m < 2 ^ 63 → (i : ℕ) → SFits w64 (pos i) → InSlice m base → InSlice m (line base stride i) → Step base stride i m
+step-at base stride m fb fs r i fi b k =
     let e : read stride *ℤ toZ w64 i ≡ stride *ℤ pos i = ap₂ _*ℤ_ (back fs) (back fi) in
     let p : SFits w64 (read stride *ℤ toZ w64 i) = subst (SFits w64) (sym e) (gap-fits base (stride *ℤ pos i) m b k r) in
     let f : sum base stride i ≡ line base stride i = ap₂ _+ℤ_ (back fb) (back p ∙ e) in
@@ -68,3 +66,7 @@ step base stride n m fb fs l r i h =
     let g : line base stride i ≡ line (read base) (read stride) i = sym (ap₂ (λ (x y : ℤ). line x y i) (back fb) (back fs)) in
     let x : Index (sum base stride i) m = index (sum base stride i) m (subst (InSlice m) (sym f) k) r in
     record { count = fi; multiple = p; fits = q; is = back q ∙ f; read-is = back q ∙ f ∙ g; cast = x .cast; below = x .below; index-is = x .is ∙ f ∙ g }
+
+pub step : (base stride : ℤ) (n m : ℕ) → SFits w64 base → SFits w64 stride → Line base stride n m → m < 2 ^ 63 → (i : ℕ) → i < n → Step base stride i m
+step base stride n m fb fs l r i h =
+    step-at base stride m fb fs r i (record { sfits = omega (arith, l .few) }) (subst (InSlice m) (line-zero base stride) (l .inside 0 (omega arith))) (l .inside i h)

@@ -1,17 +1,48 @@
 -- Places by clamped starts. Definitions only.
 use mathlib.Core.List.{List}
-use Prim.Native.Nat.{ℕ, _+_, _-_}
+use Prim.Native.Nat.{ℕ, _-_, _<_, _≤_, _^_}
+use lib.ListN.{length, getD}
 use lib.IntN.{ℤ, pos, _+ℤ_, _*ℤ_}
-use Rattle.indexing.specs.Coordinates.{elementAt}
+use Rattle.indexing.specs.Coordinates.{InSlice, elementAt}
 use Rattle.indexing.specs.Start.{clamp}
-use Rattle.runs.specs.Runs.{Line}
+use Rattle.indexing.specs.Axes.{sumOf}
+use Rattle.layout.specs.Layouts.{rankLimit}
+use Rattle.runs.specs.Runs.{line, Line}
 
--- the place of cell k: the start at `at k`, clamped, times the stride
-abbrev pub clampedAt : List ℤ → (ℕ → ℤ) → ℤ → ℤ → ℕ → ℕ → ℕ → ℤ
-clampedAt starts at base stride extent window k = base +ℤ stride *ℤ clamp (elementAt (pos 0) starts (at k)) extent window
+-- what component j of the start read at t adds to a place: its stride times the component, clamped to 0 .. limit
+abbrev pub componentAt : List ℤ → List ℤ → List ℤ → List ℕ → ℤ → ℕ → ℤ
+componentAt starts offsets strides limits t j = getD strides j (pos 0) *ℤ clamp (elementAt (pos 0) starts (t +ℤ getD offsets j (pos 0))) (getD limits j 0) 0
 
--- inside their slices lie the n starts, every place that a clamped start can give, and the n places of the other side
-pub record Clamped (t ts base stride other step : ℤ) (extent window n tn cn pn : ℕ) : Type 0 where
-  pub starts : Line t ts n tn
-  pub clamped : Line base stride (extent - window + 1) cn
+-- and what the first c components add
+abbrev pub startAt : List ℤ → List ℤ → List ℤ → List ℕ → ℤ → ℕ → ℤ
+startAt starts offsets strides limits t c = sumOf c (componentAt starts offsets strides limits t)
+
+-- the components of the start at t lie inside their slice, and s moved by the first of them, whatever their number, inside one of m elements
+pub record Starting (starts offsets strides : List ℤ) (limits : List ℕ) (s t : ℤ) (count m : ℕ) : Type 0 where
+  pub few : count ≤ rankLimit
+  pub small : (c : ℕ) → c < count → getD limits c 0 < 2 ^ 63
+  pub reads : (c : ℕ) → c < count → InSlice (length starts) (t +ℤ getD offsets c (pos 0))
+  pub partly : (c : ℕ) → c ≤ count → InSlice m (s +ℤ startAt starts offsets strides limits t c)
+
+-- the place f k, moved by the start that is read at g k
+abbrev pub movedAt : List ℤ → List ℤ → List ℤ → List ℕ → ℕ → (ℕ → ℤ) → (ℕ → ℤ) → ℕ → ℤ
+movedAt starts offsets strides limits count f g k = f k +ℤ startAt starts offsets strides limits (g k) count
+
+-- inside their slices lie the places of n cells: of the source, of the starts and of the destination. Places of starts are below 2 ^ 63 - 1 where none is read
+pub record Taking (starts offsets strides : List ℤ) (limits : List ℕ) (count : ℕ) (s t d ss ts ds : ℤ) (n sn dn : ℕ) : Type 0 where
+  pub source : Line s ss n sn
+  pub index : Line t ts n (2 ^ 63 - 1)
+  pub dest : Line d ds n dn
+  pub starting : (k : ℕ) → k < n → Starting starts offsets strides limits (line s ss k) (line t ts k) count sn
+
+-- the place of cell k where there is one component: the start at `at k`, clamped, times the stride
+abbrev pub clampedAt : List ℤ → (ℕ → ℤ) → ℤ → ℤ → ℕ → ℕ → ℤ
+clampedAt starts at base stride limit k = base +ℤ stride *ℤ clamp (elementAt (pos 0) starts (at k)) limit 0
+
+-- inside their slices lie the n starts, the base and the places that the starts give, and the n places of the other side
+pub record Clamped (starts : List ℤ) (t ts base stride other step : ℤ) (limit n cn pn : ℕ) : Type 0 where
+  pub small : limit < 2 ^ 63
+  pub starting : Line t ts n (length starts)
+  pub first : InSlice cn base
+  pub clamped : (k : ℕ) → k < n → InSlice cn (clampedAt starts (line t ts) base stride limit k)
   pub plain : Line other step n pn

@@ -24,7 +24,7 @@ use Rattle.windows.proofs.Last.{product-top, positive-top, place-top, d
 -- ---- where the cells lie
 module _ (base : ℤ) (shape : List ℕ) (strides : List ℤ) (top m : ℕ) (w : Region base shape strides (suc top) m) where
   -- below each place of the last axis
-  region-below : AllPos (take top shape) → (j : ℕ) → j < getD shape top 0 → Region (line base (getD strides top (pos 0)) j) shape strides top m
+  pub region-below : AllPos (take top shape) → (j : ℕ) → j < getD shape top 0 → Region (line base (getD strides top (pos 0)) j) shape strides top m
   region-below p j h =
       let le = w .extents in
       let ls = w .strided in
@@ -47,7 +47,7 @@ module _ (base : ℤ) (shape : List ℕ) (strides : List ℤ) (top m : ℕ) (w :
       }
 
   -- the bases of the windows below are places themselves
-  region-bases : AllPos (take top shape) → Line base (getD strides top (pos 0)) (getD shape top 0) m
+  pub region-bases : AllPos (take top shape) → Line base (getD strides top (pos 0)) (getD shape top 0) m
   region-bases p =
       let le = w .extents in
       record {

@@ -18,28 +18,28 @@ use Rattle.takes.proofs.put_run_f64.Statement.{statement}
 use Rattle.takes.proofs.put_run_f64.Tie as tie
 
 abbrev Inv-loop : tie.InvT-loop
-Inv-loop src starts dst₀ n t ts base stride extent window s ss i₀ dst i = (i ≤ n) × (length dst ≡ length dst₀) × (dst ≡ inOrder (cellAt nan (ruleF64 R.Add) src (line (toZ w64 s) (toZ w64 ss)) (clampedAt starts (line (toZ w64 t) (toZ w64 ts)) (toZ w64 base) (toZ w64 stride) extent window)) i dst₀)
+Inv-loop src starts dst₀ n t ts base stride limit s ss i₀ dst i = (i ≤ n) × (length dst ≡ length dst₀) × (dst ≡ inOrder (cellAt nan (ruleF64 R.Add) src (line (toZ w64 s) (toZ w64 ss)) (clampedAt starts (line (toZ w64 t) (toZ w64 ts)) (toZ w64 base) (toZ w64 stride) limit)) i dst₀)
 
 abbrev μ-loop : tie.MeasureT-loop
-μ-loop src starts dst₀ n t ts base stride extent window s ss i₀ dst i = n - i
+μ-loop src starts dst₀ n t ts base stride limit s ss i₀ dst i = n - i
 
 abbrev start : tie.In-loop Inv-loop μ-loop → tie.Start Inv-loop μ-loop
 start d = d .before .before .before .before
 
 starts-at : (d : tie.In-loop Inv-loop μ-loop) → Step (start d .args .t) (start d .args .ts) (d .before .loop .i) (length (start d .args .starts .now))
-starts-at d = let a = start d in start-step _ _ _ _ _ _ _ _ _ _ _ _ (a .pre) (a .fits .t) (a .fits .ts) (omega (arith, a .good .1 .0 .1)) _ (d .loop-test .taken)
+starts-at d = let a = start d in start-step _ _ _ _ _ _ _ _ _ _ _ (a .pre) (a .fits .t) (a .fits .ts) (omega (arith, a .good .1 .0 .1)) _ (d .loop-test .taken)
 
 plain-at : (d : tie.In-loop Inv-loop μ-loop) → Step (start d .args .s) (start d .args .ss) (d .before .loop .i) (length (start d .args .src .now))
-plain-at d = let a = start d in plain-step _ _ _ _ _ _ _ _ _ _ _ _ (a .pre) (a .fits .s) (a .fits .ss) (omega (arith, a .good .0 .1)) _ (d .loop-test .taken)
+plain-at d = let a = start d in plain-step _ _ _ _ _ _ _ _ _ _ _ (a .pre) (a .fits .s) (a .fits .ss) (omega (arith, a .good .0 .1)) _ (d .loop-test .taken)
 
 module _ (c : tie.After-clamp-window-start Inv-loop μ-loop) where
   clamped-at : Step (start (c .before .before) .args .base) (start (c .before .before) .args .stride) (c .clamp-window-start .result) (length (start (c .before .before) .args .dst .now))
-  clamped-at = let a = start (c .before .before) in clamped-step _ _ _ _ _ _ _ _ _ _ _ _ (a .pre) (a .fits .base) (a .fits .stride) (omega (arith, a .good .1 .1 .0 .1)) _ _ (c .clamp-window-start .ensures)
+  clamped-at = let a = start (c .before .before) in clamped-step _ _ _ _ _ _ _ _ _ _ _ (a .pre) (a .fits .t) (a .fits .ts) (a .fits .base) (a .fits .stride) (omega (arith, a .good .1 .1 .0 .1)) _ (c .before .before .loop-test .taken) (starts-at (c .before .before)) (sfits-of (c .before .x .given)) _ (c .clamp-window-start .ensures)
 
   -- the place is by the start
   by-start : pos (natAbs (machine (start (c .before .before) .args .base) (start (c .before .before) .args .stride) (c .clamp-window-start .result)))
-      ≡ clampedAt (start (c .before .before) .args .starts .now) (line (read (start (c .before .before) .args .t)) (read (start (c .before .before) .args .ts))) (read (start (c .before .before) .args .base)) (read (start (c .before .before) .args .stride)) (start (c .before .before) .args .extent) (start (c .before .before) .args .window) (c .before .before .before .loop .i)
-  by-start = let a = start (c .before .before) in clamped-is (a .args .starts .now) (a .args .t) (a .args .ts) (a .args .base) (a .args .stride) (a .args .extent) (a .args .window) _ _ _ _ (starts-at (c .before .before)) (sfits-of (c .before .x .given)) clamped-at (c .clamp-window-start .ensures)
+      ≡ clampedAt (start (c .before .before) .args .starts .now) (line (read (start (c .before .before) .args .t)) (read (start (c .before .before) .args .ts))) (read (start (c .before .before) .args .base)) (read (start (c .before .before) .args .stride)) (start (c .before .before) .args .limit) (c .before .before .before .loop .i)
+  by-start = let a = start (c .before .before) in clamped-is (a .args .starts .now) (a .args .t) (a .args .ts) (a .args .base) (a .args .stride) (a .args .limit) _ _ _ _ (starts-at (c .before .before)) (sfits-of (c .before .x .given)) clamped-at (c .clamp-window-start .ensures)
 
 loop-holds : tie.Need-loop-holds Inv-loop μ-loop
 loop-holds c = (omega arith, refl, none _ 0 (c .before .before .args .dst .now) refl)
@@ -117,7 +117,7 @@ loop-again c = let q = c .before .before in
     let a = start d in (
       omega arith,
       length-set (h .loop .dst) _ _ ∙ h .loop .inv .1,
-      cell-more nan (ruleF64 R.Add) (a .args .src .now) (line (read (a .args .s)) (read (a .args .ss))) (clampedAt (a .args .starts .now) (line (read (a .args .t)) (read (a .args .ts))) (read (a .args .base)) (read (a .args .stride)) (a .args .extent) (a .args .window)) (a .args .dst .now) (h .loop .dst) (h .loop .i) (natAbs (machine (a .args .s) (a .args .ss) (h .loop .i))) (natAbs (machine (a .args .base) (a .args .stride) (q .clamp-window-start .result))) _ (h .loop .inv .2) (plain-at d .index-is) (by-start q) (refl),
+      cell-more nan (ruleF64 R.Add) (a .args .src .now) (line (read (a .args .s)) (read (a .args .ss))) (clampedAt (a .args .starts .now) (line (read (a .args .t)) (read (a .args .ts))) (read (a .args .base)) (read (a .args .stride)) (a .args .limit)) (a .args .dst .now) (h .loop .dst) (h .loop .i) (natAbs (machine (a .args .s) (a .args .ss) (h .loop .i))) (natAbs (machine (a .args .base) (a .args .stride) (q .clamp-window-start .result))) _ (h .loop .inv .2) (plain-at d .index-is) (by-start q) (refl),
     )
 
 same-length : tie.Need-same-length Inv-loop μ-loop
@@ -126,7 +126,7 @@ same-length c = c .before .loop .inv .1
 returns : tie.Need-returns Inv-loop μ-loop
 returns c = let h = c .before in
     let a = h .before .before .before in
-    put-end nan (ruleF64 R.Add) (a .args .src .now) (a .args .starts .now) (a .args .t) (a .args .ts) (a .args .base) (a .args .stride) (a .args .s) (a .args .ss) (a .args .extent) (a .args .window) (h .loop .i) (a .args .n) (a .args .dst .now) (h .loop .dst) (a .fits .t) (a .fits .ts) (a .fits .base) (a .fits .stride) (a .fits .s) (a .fits .ss) (omega arith) (h .loop .inv .2)
+    put-end nan (ruleF64 R.Add) (a .args .src .now) (a .args .starts .now) (a .args .t) (a .args .ts) (a .args .base) (a .args .stride) (a .args .s) (a .args .ss) (a .args .limit) (h .loop .i) (a .args .n) (a .args .dst .now) (h .loop .dst) (a .fits .t) (a .fits .ts) (a .fits .base) (a .fits .stride) (a .fits .s) (a .fits .ss) (omega arith) (h .loop .inv .2)
 
 pub put-run-f64-spec : {M : Type 1} → statement M
 put-run-f64-spec =

@@ -1,0 +1,4 @@
+pub mod Levels
+pub mod Single
+pub mod Stills
+pub mod Whole

@@ -1,0 +1,207 @@
+// The cells of a gather over f64: as `gather_windows` over i32.
+ghost use mathlib.Core.Path.{_≡_};
+ghost use lib.Ieee.{nan};
+ghost use lib.ListN.{length};
+ghost use Rattle.indexing.specs.Loops.{inOrder};
+ghost use Rattle.runs.specs.Runs.{ruleF64, cellAt, line};
+ghost use Rattle.runs.specs.declared.Rule.the-variants as R;
+ghost use Rattle.takes.specs.Takes.{movedAt, Taking};
+ghost use Rattle.gather_windows.specs.Gathering.{gatheredBy, Gathering, GatherLevel};
+use layout::RAW_FUSED_RANK_LIMIT;
+use runs::Rule;
+
+// One run: windows of one cell, whose start is read at each.
+pub fn gather_run_f64(
+    src: &[f64],
+    starts: &[i64],
+    dst: &mut [f64],
+    n: usize,
+    s: i64,
+    t: i64,
+    d: i64,
+    ss: i64,
+    ts: i64,
+    ds: i64,
+    count: usize,
+    offsets: &[i64; RAW_FUSED_RANK_LIMIT],
+    strides: &[i64; RAW_FUSED_RANK_LIMIT],
+    limits: &[u64; RAW_FUSED_RANK_LIMIT],
+)
+    requires { ⌜ Taking (now starts) (now offsets) (now strides) (now limits) count s t d ss ts ds n (length (now src)) (length (now dst)) ⌝ }
+    ensures { λ _. ⌜ now (dst .exit) ≡ inOrder (cellAt nan (ruleF64 R.Copy) (now (src .entry)) (movedAt (now (starts .entry)) (now (offsets .entry)) (now (strides .entry)) (now (limits .entry)) count (line s ss) (line t ts)) (line d ds)) n (now (dst .entry)) ⌝ }
+{
+    if n == 0 {
+        return;
+    }
+    if count == 1 {
+        if ss == 0 {
+            let at = t + offsets[0];
+            takes::take_run_f64(src, starts, dst, n, at, ts, s, strides[0], limits[0], d, ds);
+            return;
+        }
+    }
+    takes::take_cells_f64(
+        src,
+        starts,
+        dst,
+        n,
+        s,
+        t,
+        d,
+        ss,
+        ts,
+        ds,
+        count,
+        offsets,
+        strides,
+        limits,
+    );
+}
+
+// The cells of the first `rank` axes. There are some, the axes before `low` have one place each, and those before `wide` move no
+// start: where only such axes are left, the start is read once, and what is left is a window.
+pub fn gather_axes_f64(
+    src: &[f64],
+    starts: &[i64],
+    dst: &mut [f64],
+    extents: &[u64; RAW_FUSED_RANK_LIMIT],
+    ss: &[i64; RAW_FUSED_RANK_LIMIT],
+    ts: &[i64; RAW_FUSED_RANK_LIMIT],
+    ds: &[i64; RAW_FUSED_RANK_LIMIT],
+    count: usize,
+    offsets: &[i64; RAW_FUSED_RANK_LIMIT],
+    strides: &[i64; RAW_FUSED_RANK_LIMIT],
+    limits: &[u64; RAW_FUSED_RANK_LIMIT],
+    low: usize,
+    wide: usize,
+    rank: usize,
+    s: i64,
+    t: i64,
+    d: i64,
+)
+    requires { ⌜ GatherLevel (now starts) (now offsets) (now strides) (now limits) count s t d (now extents) (now ss) (now ts) (now ds) low wide rank (length (now src)) (length (now dst)) ⌝ }
+    ensures { λ _. ⌜ now (dst .exit) ≡ gatheredBy nan (ruleF64 R.Copy) (now (src .entry)) (now (starts .entry)) (now (offsets .entry)) (now (strides .entry)) (now (limits .entry)) count s t d (now (extents .entry)) (now (ss .entry)) (now (ts .entry)) (now (ds .entry)) rank (now (dst .entry)) ⌝ }
+{
+    if rank <= wide {
+        let a = takes::started(starts, s, t, count, offsets, strides, limits);
+        windows_f64::axes_f64(Rule::Copy, src, dst, extents, ss, ds, low, rank, a, d);
+        return;
+    }
+    let top = rank - 1;
+    let n = extents[top];
+    let x = ss[top];
+    let y = ts[top];
+    let z = ds[top];
+    if top == low {
+        gather_run_f64(
+            src,
+            starts,
+            dst,
+            n as usize,
+            s,
+            t,
+            d,
+            x,
+            y,
+            z,
+            count,
+            offsets,
+            strides,
+            limits,
+        );
+        return;
+    }
+    let mut j: u64 = 0;
+    while j < n {
+        let k = j as i64;
+        let p = s + x * k;
+        let q = t + y * k;
+        let r = d + z * k;
+        gather_axes_f64(
+            src,
+            starts,
+            dst,
+            extents,
+            ss,
+            ts,
+            ds,
+            count,
+            offsets,
+            strides,
+            limits,
+            low,
+            wide,
+            top,
+            p,
+            q,
+            r,
+        );
+        j += 1;
+    }
+}
+
+// The cells of the first `rank` axes, of which there may be none.
+pub fn gather_window_f64(
+    src: &[f64],
+    starts: &[i64],
+    dst: &mut [f64],
+    extents: &[u64; RAW_FUSED_RANK_LIMIT],
+    ss: &[i64; RAW_FUSED_RANK_LIMIT],
+    ts: &[i64; RAW_FUSED_RANK_LIMIT],
+    ds: &[i64; RAW_FUSED_RANK_LIMIT],
+    count: usize,
+    offsets: &[i64; RAW_FUSED_RANK_LIMIT],
+    strides: &[i64; RAW_FUSED_RANK_LIMIT],
+    limits: &[u64; RAW_FUSED_RANK_LIMIT],
+    rank: usize,
+    s: i64,
+    t: i64,
+    d: i64,
+)
+    requires { ⌜ Gathering (now starts) (now offsets) (now strides) (now limits) count s t d (now extents) (now ss) (now ts) (now ds) rank (length (now src)) (length (now dst)) ⌝ }
+    ensures { λ _. ⌜ now (dst .exit) ≡ gatheredBy nan (ruleF64 R.Copy) (now (src .entry)) (now (starts .entry)) (now (offsets .entry)) (now (strides .entry)) (now (limits .entry)) count s t d (now (extents .entry)) (now (ss .entry)) (now (ts .entry)) (now (ds .entry)) rank (now (dst .entry)) ⌝ }
+{
+    if rank == 0 {
+        gather_run_f64(
+            src,
+            starts,
+            dst,
+            1,
+            s,
+            t,
+            d,
+            0,
+            0,
+            0,
+            count,
+            offsets,
+            strides,
+            limits,
+        );
+        return;
+    }
+    if layout::has_zero(*extents, rank) {
+        return;
+    }
+    let low = windows::run_axis(extents, rank);
+    let wide = gather_windows::still_axes(extents, ts, rank);
+    gather_axes_f64(
+        src,
+        starts,
+        dst,
+        extents,
+        ss,
+        ts,
+        ds,
+        count,
+        offsets,
+        strides,
+        limits,
+        low,
+        wide,
+        rank,
+        s,
+        t,
+        d,
+    );
+}
