@@ -64,10 +64,10 @@ first-done f zero i e k h = absurd (omega arith)
 first-done f (suc n) i e zero h = let z : i + 0 ≡ i = omega arith in ap (λ (m : ℕ). isDone (f m)) z ∙ or-done (f i) (firstOf f n (suc i)) e .0
 first-done f (suc n) i e (suc k) h = let z : i + suc k ≡ suc i + k = omega arith in ap (λ (m : ℕ). isDone (f m)) z ∙ first-done f n (suc i) (or-done (f i) (firstOf f n (suc i)) e .1) k (omega arith)
 
-first-each : (f : ℕ → Answer) (n : ℕ) → isDone (firstOf f n 0) ≡ true → (k : ℕ) → k < n → isDone (f k) ≡ true
+pub first-each : (f : ℕ → Answer) (n : ℕ) → isDone (firstOf f n 0) ≡ true → (k : ℕ) → k < n → isDone (f k) ≡ true
 first-each f n e k h = let z : k ≡ 0 + k = omega arith in ap (λ (m : ℕ). isDone (f m)) z ∙ first-done f n 0 e k h
 
-same-count : (a b : ℕ) → isDone (sameCount a b) ≡ true → a ≡ b
+pub same-count : (a b : ℕ) → isDone (sameCount a b) ≡ true → a ≡ b
 same-count a b e = go (eqb a b) refl e
   where
     go : (t : Bool) → eqb a b ≡ t → isDone (cond t A.Done (A.RankMismatch a b)) ≡ true → a ≡ b

@@ -65,11 +65,11 @@ and-both false s e f = e
 pub numbers-decide : (x y : ℕ) → Decides (eqb x y) x y
 numbers-decide x y = record { yes = eqb-true x y; no = eq-eqb x y }
 
-ints-decide : (x y : ℤ) → Decides (eqZ x y) x y
+pub ints-decide : (x y : ℤ) → Decides (eqZ x y) x y
 ints-decide x y = record { yes = eqZ-true x y; no = λ e. subst (λ (z : ℤ). eqZ x z ≡ true) e (eqZ-refl x) }
 
 -- two parts that decide, of a whole that they make up
-pair-decides : {A B C : Type 0} (r s : Bool) {x y : A} {u v : B} {a b : C} → Decides r x y → Decides s u v → (x ≡ y → u ≡ v → a ≡ b) → (a ≡ b → x ≡ y) → (a ≡ b → u ≡ v) → Decides (r && s) a b
+pub pair-decides : {A B C : Type 0} (r s : Bool) {x y : A} {u v : B} {a b : C} → Decides r x y → Decides s u v → (x ≡ y → u ≡ v → a ≡ b) → (a ≡ b → x ≡ y) → (a ≡ b → u ≡ v) → Decides (r && s) a b
 pair-decides r s p q make left right =
     record {
       yes = λ e. let t = and-true r s e in make (p .yes (t .0)) (q .yes (t .1));
@@ -84,14 +84,14 @@ rest-of : {A : Type 0} → List A → List A
 rest-of [] = []
 rest-of (x ∷ xs) = xs
 
-lists-decide : {A : Type 0} (test : A → A → Bool) → ((a b : A) → Decides (test a b) a b) → (xs ys : List A) → Decides (sameBy test xs ys) xs ys
+pub lists-decide : {A : Type 0} (test : A → A → Bool) → ((a b : A) → Decides (test a b) a b) → (xs ys : List A) → Decides (sameBy test xs ys) xs ys
 unfolding sameBy first-or rest-of
 lists-decide test p [] [] = record { yes = λ e. refl; no = λ e. refl }
 lists-decide test p [] (b ∷ ys) = record { yes = λ e. let z : _≡_ {A = ℕ} 0 1 = cc in absurd (omega arith); no = λ e. let z : _≡_ {A = ℕ} 0 1 = cc in absurd (omega arith) }
 lists-decide test p (a ∷ xs) [] = record { yes = λ e. let z : _≡_ {A = ℕ} 0 1 = cc in absurd (omega arith); no = λ e. let z : _≡_ {A = ℕ} 0 1 = cc in absurd (omega arith) }
 lists-decide test p (a ∷ xs) (b ∷ ys) = pair-decides (test a b) (sameBy test xs ys) (p a b) (lists-decide test p xs ys) (λ e f. ap₂ _∷_ e f) (ap (first-or a)) (ap rest-of)
 
-layouts-decide : (a b : Layout) → Decides (sameLayout a b) a b
+pub layouts-decide : (a b : Layout) → Decides (sameLayout a b) a b
 layouts-decide a b =
     record {
       yes = λ e.
@@ -107,12 +107,12 @@ layouts-decide a b =
           (lists-decide eqZ ints-decide (a .strides) (b .strides) .no (ap (λ (l : Layout). l .strides) e)));
     }
 
-held-decide : (a b : Numbers) → Decides (sameNumbers a b) a b
+pub held-decide : (a b : Numbers) → Decides (sameNumbers a b) a b
 held-decide a b =
     pair-decides (eqb (a .count) (b .count)) (sameBy eqb (a .entries) (b .entries)) (numbers-decide (a .count) (b .count)) (lists-decide eqb numbers-decide (a .entries) (b .entries))
     (λ h k i. record { count = h i; entries = k i }) (ap (λ (l : Numbers). l .count)) (ap (λ (l : Numbers). l .entries))
 
-steps-decide : (a b : Steps) → Decides (sameSteps a b) a b
+pub steps-decide : (a b : Steps) → Decides (sameSteps a b) a b
 steps-decide a b =
     pair-decides (eqb (a .count) (b .count)) (sameBy eqZ (a .entries) (b .entries)) (numbers-decide (a .count) (b .count)) (lists-decide eqZ ints-decide (a .entries) (b .entries))
     (λ h k i. record { count = h i; entries = k i }) (ap (λ (l : Steps). l .count)) (ap (λ (l : Steps). l .entries))

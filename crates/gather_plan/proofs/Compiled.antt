@@ -44,10 +44,10 @@ unfolding isCompiled compiledGather refusalOf totalFrom spanFrom uniqueAxes wind
 refused-not-compiled = refl
 
 -- ---- 4 is not tried again
-or-later : (x y z : Answer) → (isDone y ≡ true → isDone z ≡ true) → isDone (orElse x y) ≡ true → isDone (orElse x z) ≡ true
+pub or-later : (x y z : Answer) → (isDone y ≡ true → isDone z ≡ true) → isDone (orElse x y) ≡ true → isDone (orElse x z) ≡ true
 or-later x y z f e = let t = or-done x y e in ap (λ (b : Bool). isDone (cond b z x)) (t .0) ∙ f (t .1)
 
-or-first : (x y z : Answer) → (isDone x ≡ true → isDone y ≡ true) → isDone (orElse x z) ≡ true → isDone (orElse y z) ≡ true
+pub or-first : (x y z : Answer) → (isDone x ≡ true → isDone y ≡ true) → isDone (orElse x z) ≡ true → isDone (orElse y z) ≡ true
 or-first x y z f e = let t = or-done x z e in ap (λ (b : Bool). isDone (cond b z y)) (f (t .0)) ∙ t .1
 
 numbers-again : (nested : Bool) (oe : List ℕ) (os : List ℤ) (ie : List ℕ) (is : List ℤ) (de : List ℕ) (ds : List ℤ) → isDone (numbersRefusal nested oe os ie is de ds) ≡ true → isDone (numbersRefusal false oe os ie is de ds) ≡ true

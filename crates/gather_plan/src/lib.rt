@@ -230,7 +230,7 @@ fn dest_axes(
 }
 
 // The vector axis's stride times each component, of at most eight.
-fn component_offsets(stride: i64, count: usize) -> Steps
+pub fn component_offsets(stride: i64, count: usize) -> Steps
     ensures { λ r. ⌜ r ≡ heldSteps (tabulate (min count rankLimit) (offsetOr stride)) ⌝ }
 {
     let n = layout::axis_count(count);
@@ -247,7 +247,7 @@ fn component_offsets(stride: i64, count: usize) -> Steps
 }
 
 // The operand's stride on the axis of each component, of at most eight.
-fn component_strides(operand: Layout, map: &[u64]) -> Steps
+pub fn component_strides(operand: Layout, map: &[u64]) -> Steps
     ensures { λ r. ⌜ r ≡ heldSteps (pick (pos 0) (take rankLimit (now (map .entry))) (stridesOf operand)) ⌝ }
 {
     let axes = axis_lists::numbers_from(map);
@@ -347,14 +347,14 @@ pub fn compile(
     CompiledGather { answer, plan }
 }
 
-fn both(a: bool, b: bool) -> bool
+pub fn both(a: bool, b: bool) -> bool
     ensures { λ r. ⌜ r ≡ (a && b) ⌝ }
 {
     if a { b } else { false }
 }
 
 // Whether two arrays are the same, past any count as well.
-fn same_u64s(a: [u64; RAW_FUSED_RANK_LIMIT], b: [u64; RAW_FUSED_RANK_LIMIT]) -> bool
+pub fn same_u64s(a: [u64; RAW_FUSED_RANK_LIMIT], b: [u64; RAW_FUSED_RANK_LIMIT]) -> bool
     ensures { λ r. ⌜ r ≡ sameBy eqb a b ⌝ }
 {
     let mut i: usize = 0;
@@ -367,13 +367,13 @@ fn same_u64s(a: [u64; RAW_FUSED_RANK_LIMIT], b: [u64; RAW_FUSED_RANK_LIMIT]) -> 
     true
 }
 
-fn same_i64(a: i64, b: i64) -> bool
+pub fn same_i64(a: i64, b: i64) -> bool
     ensures { λ r. ⌜ r ≡ eqZ a b ⌝ }
 {
     a == b
 }
 
-fn same_i64s(a: [i64; RAW_FUSED_RANK_LIMIT], b: [i64; RAW_FUSED_RANK_LIMIT]) -> bool
+pub fn same_i64s(a: [i64; RAW_FUSED_RANK_LIMIT], b: [i64; RAW_FUSED_RANK_LIMIT]) -> bool
     ensures { λ r. ⌜ r ≡ sameBy eqZ a b ⌝ }
 {
     let mut i: usize = 0;
@@ -445,7 +445,7 @@ pub fn same_layout(a: Layout, b: Layout) -> bool
     both(a.rank == b.rank, both(extents, strides))
 }
 
-fn same_numbers(a: Numbers, b: Numbers) -> bool
+pub fn same_numbers(a: Numbers, b: Numbers) -> bool
     ensures { λ r. ⌜ r ≡ sameNumbers a b ⌝ }
 {
     let x = a.entries;
@@ -454,7 +454,7 @@ fn same_numbers(a: Numbers, b: Numbers) -> bool
     both(a.count == b.count, entries)
 }
 
-fn same_steps(a: Steps, b: Steps) -> bool
+pub fn same_steps(a: Steps, b: Steps) -> bool
     ensures { λ r. ⌜ r ≡ sameSteps a b ⌝ }
 {
     let x = a.entries;

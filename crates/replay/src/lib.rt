@@ -166,7 +166,7 @@ fn join(before: WindowReplayAxis, extent: u64, source: i64, dest: i64) -> Joined
     }
 }
 
-fn refused_replay() -> CompiledReplay
+pub fn refused_replay() -> CompiledReplay
     ensures { λ r. ⌜ r ≡ refusedReplay ⌝ }
 {
     let empty = no_axis();

@@ -103,7 +103,7 @@ fn check_counts(
 }
 
 // A layout's extents on the axes that the list has not.
-fn other_extents(layout: Layout, list: &[u64]) -> Numbers
+pub fn other_extents(layout: Layout, list: &[u64]) -> Numbers
     ensures { λ r. ⌜ r ≡ heldNumbers (pick 0 (others (length (extentsOf layout)) (now (list .entry))) (extentsOf layout)) ⌝ }
 {
     let axes = axis_lists::other_axes(layout.rank, list);
@@ -121,7 +121,7 @@ fn other_steps(layout: Layout, list: &[u64]) -> Steps
 }
 
 // A layout's extents on the axes of the list, in its order.
-fn listed_extents(layout: Layout, list: &[u64]) -> Numbers
+pub fn listed_extents(layout: Layout, list: &[u64]) -> Numbers
     requires { ⌜ length (now list) ≤ rankLimit ⌝ }
     ensures { λ r. ⌜ r ≡ heldNumbers (pick 0 (now (list .entry)) (extentsOf layout)) ⌝ }
 {

@@ -35,6 +35,12 @@ pub record Taking (starts offsets strides : List ℤ) (limits : List ℕ) (count
   pub dest : Line d ds n dn
   pub starting : (k : ℕ) → k < n → Starting starts offsets strides limits (line s ss k) (line t ts k) count sn
 
+-- the same where the destination's place is moved, from one base d
+pub record Putting (starts offsets strides : List ℤ) (limits : List ℕ) (count : ℕ) (s t d ss ts : ℤ) (n sn dn : ℕ) : Type 0 where
+  pub source : Line s ss n sn
+  pub index : Line t ts n (2 ^ 63 - 1)
+  pub starting : (k : ℕ) → k < n → Starting starts offsets strides limits d (line t ts k) count dn
+
 -- the place of cell k where there is one component: the start at `at k`, clamped, times the stride
 abbrev pub clampedAt : List ℤ → (ℕ → ℤ) → ℤ → ℤ → ℕ → ℕ → ℤ
 clampedAt starts at base stride limit k = base +ℤ stride *ℤ clamp (elementAt (pos 0) starts (at k)) limit 0

@@ -7,7 +7,7 @@ ghost use lib.ListN.{length};
 ghost use Rattle.indexing.specs.Loops.{inOrder};
 ghost use Rattle.runs.specs.Runs.{ruleI32, ruleF64, cellAt, line};
 ghost use Rattle.runs.specs.declared.Rule.the-variants as R;
-ghost use Rattle.takes.specs.Takes.{startAt, Starting, movedAt, Taking, clampedAt, Clamped};
+ghost use Rattle.takes.specs.Takes.{startAt, Starting, movedAt, Taking, Putting, clampedAt, Clamped};
 use layout::RAW_FUSED_RANK_LIMIT;
 
 // s, moved by the components of the start that is read at t: each is clamped, and times its stride.
@@ -96,6 +96,38 @@ pub fn take_run(
         let a = (base + stride * c) as usize;
         let b = (d + ds * k) as usize;
         dst[b] = src[a];
+        i += 1;
+    }
+}
+
+// n cells: the source's place from s by ss; the destination's is d, moved by the start read at t by ts. Each is added.
+pub fn put_cells(
+    src: &[i32],
+    starts: &[i64],
+    dst: &mut [i32],
+    n: usize,
+    s: i64,
+    t: i64,
+    d: i64,
+    ss: i64,
+    ts: i64,
+    count: usize,
+    offsets: &[i64; RAW_FUSED_RANK_LIMIT],
+    strides: &[i64; RAW_FUSED_RANK_LIMIT],
+    limits: &[u64; RAW_FUSED_RANK_LIMIT],
+)
+    requires { ⌜ Putting (now starts) (now offsets) (now strides) (now limits) count s t d ss ts n (length (now src)) (length (now dst)) ⌝ }
+    ensures { λ _. ⌜ now (dst .exit) ≡ inOrder (cellAt (pos 0) (ruleI32 R.Add) (now (src .entry)) (line s ss) (movedAt (now (starts .entry)) (now (offsets .entry)) (now (strides .entry)) (now (limits .entry)) count (λ _. d) (line t ts))) n (now (dst .entry)) ⌝ }
+{
+    let mut i: usize = 0;
+    while i < n {
+        let k = i as i64;
+        let q = t + ts * k;
+        let m = started(starts, d, q, count, offsets, strides, limits);
+        let b = m as usize;
+        let a = (s + ss * k) as usize;
+        let v = integer::wrapping_add_i32(dst[b], src[a]);
+        dst[b] = v;
         i += 1;
     }
 }
@@ -194,6 +226,38 @@ pub fn take_run_f64(
         let a = (base + stride * c) as usize;
         let b = (d + ds * k) as usize;
         dst[b] = src[a];
+        i += 1;
+    }
+}
+
+// n cells: the source's place from s by ss; the destination's is d, moved by the start read at t by ts. Each is added.
+pub fn put_cells_f64(
+    src: &[f64],
+    starts: &[i64],
+    dst: &mut [f64],
+    n: usize,
+    s: i64,
+    t: i64,
+    d: i64,
+    ss: i64,
+    ts: i64,
+    count: usize,
+    offsets: &[i64; RAW_FUSED_RANK_LIMIT],
+    strides: &[i64; RAW_FUSED_RANK_LIMIT],
+    limits: &[u64; RAW_FUSED_RANK_LIMIT],
+)
+    requires { ⌜ Putting (now starts) (now offsets) (now strides) (now limits) count s t d ss ts n (length (now src)) (length (now dst)) ⌝ }
+    ensures { λ _. ⌜ now (dst .exit) ≡ inOrder (cellAt nan (ruleF64 R.Add) (now (src .entry)) (line s ss) (movedAt (now (starts .entry)) (now (offsets .entry)) (now (strides .entry)) (now (limits .entry)) count (λ _. d) (line t ts))) n (now (dst .entry)) ⌝ }
+{
+    let mut i: usize = 0;
+    while i < n {
+        let k = i as i64;
+        let q = t + ts * k;
+        let m = started(starts, d, q, count, offsets, strides, limits);
+        let b = m as usize;
+        let a = (s + ss * k) as usize;
+        let v = dst[b] + src[a];
+        dst[b] = v;
         i += 1;
     }
 }

@@ -1,0 +1,4 @@
+pub mod Compare
+pub mod Accepted
+pub mod Valid
+pub mod Compiled

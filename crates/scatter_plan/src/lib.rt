@@ -1,0 +1,459 @@
+// The plan of a scatter by value: compile, the test for the same plan, and compiling again what a plan holds. The rows of
+// its two walks stand beside it.
+ghost use mathlib.Core.Path.{_≡_};
+ghost use mathlib.Core.Bool.{false};
+ghost use Prim.Native.Nat.{_≤_};
+ghost use lib.ListN.{length};
+ghost use Rattle.integer.specs.Defs.{eqZ};
+ghost use Rattle.indexing.specs.Coordinates.{pick, spread, others};
+ghost use Rattle.layout.specs.Layouts.{rankLimit, extentsOf, stridesOf};
+ghost use Rattle.axis_lists.specs.Held.{numbersOf, heldNumbers};
+ghost use Rattle.gather_plan.specs.Made.{totalOr};
+ghost use Rattle.gather_plan.specs.Same.{sameBy};
+ghost use Rattle.scatter_checks.specs.Refusals.{scatterFrom, Counted};
+ghost use Rattle.scatter_plan.specs.Plan.{refusedScatter, compiledScatter, heldScatter};
+ghost use Rattle.scatter_plan.specs.Made.{planMade};
+ghost use Rattle.scatter_plan.specs.Same.{sameStep, sameSpans, sameReplay, sameRows, sameLayouts, sameSpec, sameWalks, sameStarts, samePlan, hasRows, isCompiled};
+use axis_lists::Numbers;
+use axis_lists::Steps;
+use integer::CheckedU;
+use layout::Answer;
+use layout::Layout;
+use layout::RAW_FUSED_RANK_LIMIT;
+use replay::ReplaySpans;
+use replay::WindowReplay;
+use replay::WindowReplayAxis;
+
+// `windows` is the window's extent on each operand axis, `batches` and `cells` how many batches and cells of a window there are.
+pub struct ScatterPlan {
+    pub index: Layout,
+    pub updates: Layout,
+    pub dest: Layout,
+    pub update_window_dims: Numbers,
+    pub inserted_window_dims: Numbers,
+    pub scatter_dims_to_operand_dims: Numbers,
+    pub index_vector_dim: u64,
+    pub batch: WindowReplay,
+    pub window: WindowReplay,
+    pub windows: Numbers,
+    pub component_offsets: Steps,
+    pub component_strides: Steps,
+    pub batches: u64,
+    pub cells: u64,
+}
+
+// A plan; where the scatter is refused, the one of no axes.
+pub struct CompiledScatter {
+    pub answer: Answer,
+    pub plan: ScatterPlan,
+}
+
+fn refused(answer: Answer) -> CompiledScatter
+    ensures { λ r. ⌜ r ≡ refusedScatter answer ⌝ }
+{
+    let extents = [1u64; RAW_FUSED_RANK_LIMIT];
+    let strides = [0i64; RAW_FUSED_RANK_LIMIT];
+    let zeros = [0u64; RAW_FUSED_RANK_LIMIT];
+    let none = replay::refused_replay();
+    let walk = none.replay;
+    let l = Layout {
+        rank: 0,
+        extents,
+        strides,
+    };
+    let numbers = Numbers {
+        count: 0,
+        entries: zeros,
+    };
+    let steps = Steps {
+        count: 0,
+        entries: strides,
+    };
+    CompiledScatter {
+        answer,
+        plan: ScatterPlan {
+            index: l,
+            updates: l,
+            dest: l,
+            update_window_dims: numbers,
+            inserted_window_dims: numbers,
+            scatter_dims_to_operand_dims: numbers,
+            index_vector_dim: 0,
+            batch: walk,
+            window: walk,
+            windows: numbers,
+            component_offsets: steps,
+            component_strides: steps,
+            batches: 0,
+            cells: 0,
+        },
+    }
+}
+
+// The product of a list, and 0 where it does not fit.
+fn product_value(list: Numbers) -> u64
+    ensures { λ r. ⌜ r ≡ totalOr (numbersOf list) ⌝ }
+{
+    let entries = list.entries;
+    let total = layout::checked_total_len(entries, list.count);
+    match total {
+        CheckedU::Fits(n) => n,
+        CheckedU::Overflow => 0,
+    }
+}
+
+// How many batches: the product of the updates' extents on their other axes.
+fn batch_count(updates: Layout, window: &[u64]) -> u64
+    ensures { λ r. ⌜ r ≡ totalOr (pick 0 (others (length (extentsOf updates)) (now (window .entry))) (extentsOf updates)) ⌝ }
+{
+    let shape = scatter_checks::other_extents(updates, window);
+    product_value(shape)
+}
+
+// How many cells a window has.
+fn cell_count(updates: Layout, window: &[u64]) -> u64
+    requires { ⌜ length (now window) ≤ rankLimit ⌝ }
+    ensures { λ r. ⌜ r ≡ totalOr (pick 0 (now (window .entry)) (extentsOf updates)) ⌝ }
+{
+    let shape = scatter_checks::listed_extents(updates, window);
+    product_value(shape)
+}
+
+// The window's extent on each operand axis, 1 on inserted ones.
+fn windows_of(updates: Layout, dest: Layout, window: &[u64], inserted: &[u64]) -> Numbers
+    requires { ⌜ length (now window) ≤ rankLimit ⌝ }
+    ensures { λ r. ⌜ r ≡ heldNumbers (spread 1 (length (extentsOf dest)) (others (length (extentsOf dest)) (now (inserted .entry))) (pick 0 (now (window .entry)) (extentsOf updates))) ⌝ }
+{
+    let kept = axis_lists::other_axes(dest.rank, inserted);
+    let shape = scatter_checks::listed_extents(updates, window);
+    axis_lists::spread_numbers(dest.rank, kept, shape)
+}
+
+// The plan by the three layouts and the spec.
+fn plan_of(
+    index: Layout,
+    updates: Layout,
+    dest: Layout,
+    window: &[u64],
+    inserted: &[u64],
+    map: &[u64],
+    vector: u64,
+) -> ScatterPlan
+    requires { ⌜ Counted (scatterFrom (extentsOf index) (stridesOf index) (extentsOf updates) (stridesOf updates) (extentsOf dest) (stridesOf dest) (now window) (now inserted) (now map) vector) ⌝ }
+    ensures { λ r. ⌜ r ≡ planMade index updates dest (now (window .entry)) (now (inserted .entry)) (now (map .entry)) vector ⌝ }
+{
+    let batch = scatter_checks::batch_walk(index, updates, window, vector);
+    let cell = scatter_checks::window_walk(updates, dest, window, inserted);
+    let windows = windows_of(updates, dest, window, inserted);
+    let starts = axis_lists::strides_of(index);
+    let stride = axis_lists::step_at(starts, vector);
+    let offsets = gather_plan::component_offsets(stride, map.len());
+    let strides = gather_plan::component_strides(dest, map);
+    let a = axis_lists::numbers_from(window);
+    let b = axis_lists::numbers_from(inserted);
+    let c = axis_lists::numbers_from(map);
+    let batches = batch_count(updates, window);
+    let cells = cell_count(updates, window);
+    let from_batch = batch.replay;
+    let from_cell = cell.replay;
+    ScatterPlan {
+        index,
+        updates,
+        dest,
+        update_window_dims: a,
+        inserted_window_dims: b,
+        scatter_dims_to_operand_dims: c,
+        index_vector_dim: vector,
+        batch: from_batch,
+        window: from_cell,
+        windows,
+        component_offsets: offsets,
+        component_strides: strides,
+        batches,
+        cells,
+    }
+}
+
+// The plan of a scatter, or its first refusal; 4 is tried where `nested` says so.
+pub fn compile(
+    index_extents: &[u64],
+    index_strides: &[i64],
+    updates_extents: &[u64],
+    updates_strides: &[i64],
+    dest_extents: &[u64],
+    dest_strides: &[i64],
+    update_window_dims: &[u64],
+    inserted_window_dims: &[u64],
+    scatter_dims_to_operand_dims: &[u64],
+    index_vector_dim: u64,
+    nested: bool,
+) -> CompiledScatter
+    ensures { λ r. ⌜ r ≡ compiledScatter nested (scatterFrom (now («index_extents» .entry)) (now («index_strides» .entry)) (now («updates_extents» .entry)) (now («updates_strides» .entry)) (now («dest_extents» .entry)) (now («dest_strides» .entry)) (now («update_window_dims» .entry)) (now («inserted_window_dims» .entry)) (now («scatter_dims_to_operand_dims» .entry)) «index_vector_dim») ⌝ }
+{
+    let answer = scatter_checks::scatter_refusal(
+        index_extents,
+        index_strides,
+        updates_extents,
+        updates_strides,
+        dest_extents,
+        dest_strides,
+        update_window_dims,
+        inserted_window_dims,
+        scatter_dims_to_operand_dims,
+        index_vector_dim,
+        nested,
+    );
+    if !layout::is_done(answer) {
+        return refused(answer);
+    }
+    let first = layout::make_layout(index_extents, index_strides);
+    let second = layout::make_layout(updates_extents, updates_strides);
+    let third = layout::make_layout(dest_extents, dest_strides);
+    let index = first.layout;
+    let updates = second.layout;
+    let dest = third.layout;
+    let plan = plan_of(
+        index,
+        updates,
+        dest,
+        update_window_dims,
+        inserted_window_dims,
+        scatter_dims_to_operand_dims,
+        index_vector_dim,
+    );
+    CompiledScatter { answer, plan }
+}
+
+fn same_step(a: WindowReplayAxis, b: WindowReplayAxis) -> bool
+    ensures { λ r. ⌜ r ≡ sameStep a b ⌝ }
+{
+    let c = gather_plan::same_i64(a.source_step, b.source_step);
+    let d = gather_plan::same_i64(a.source_reset, b.source_reset);
+    let e = gather_plan::same_i64(a.dest_step, b.dest_step);
+    let f = gather_plan::same_i64(a.dest_reset, b.dest_reset);
+    let last = gather_plan::both(c, gather_plan::both(d, gather_plan::both(e, f)));
+    gather_plan::both(a.extent == b.extent, last)
+}
+
+fn same_axes(
+    a: [WindowReplayAxis; RAW_FUSED_RANK_LIMIT],
+    b: [WindowReplayAxis; RAW_FUSED_RANK_LIMIT],
+) -> bool
+    ensures { λ r. ⌜ r ≡ sameBy sameStep a b ⌝ }
+{
+    let mut i: usize = 0;
+    while i < RAW_FUSED_RANK_LIMIT {
+        let x = a[i];
+        let y = b[i];
+        if !same_step(x, y) {
+            return false;
+        }
+        i += 1;
+    }
+    true
+}
+
+fn same_spans(a: ReplaySpans, b: ReplaySpans) -> bool
+    ensures { λ r. ⌜ r ≡ sameSpans a b ⌝ }
+{
+    let c = gather_plan::same_i64(a.source_low, b.source_low);
+    let d = gather_plan::same_i64(a.source_high, b.source_high);
+    let e = gather_plan::same_i64(a.dest_low, b.dest_low);
+    let f = gather_plan::same_i64(a.dest_high, b.dest_high);
+    gather_plan::both(c, gather_plan::both(d, gather_plan::both(e, f)))
+}
+
+fn same_replay(a: WindowReplay, b: WindowReplay) -> bool
+    ensures { λ r. ⌜ r ≡ sameReplay a b ⌝ }
+{
+    let x = a.axes;
+    let y = b.axes;
+    let axes = same_axes(x, y);
+    let s = a.spans;
+    let t = b.spans;
+    let spans = same_spans(s, t);
+    gather_plan::both(a.rank == b.rank, gather_plan::both(axes, spans))
+}
+
+fn same_layouts(a: ScatterPlan, b: ScatterPlan) -> bool
+    ensures { λ r. ⌜ r ≡ sameLayouts a b ⌝ }
+{
+    let x = a.index;
+    let y = b.index;
+    let index = gather_plan::same_layout(x, y);
+    let s = a.updates;
+    let t = b.updates;
+    let updates = gather_plan::same_layout(s, t);
+    let u = a.dest;
+    let v = b.dest;
+    let dest = gather_plan::same_layout(u, v);
+    gather_plan::both(index, gather_plan::both(updates, dest))
+}
+
+fn same_spec(a: ScatterPlan, b: ScatterPlan) -> bool
+    ensures { λ r. ⌜ r ≡ sameSpec a b ⌝ }
+{
+    let x = a.update_window_dims;
+    let y = b.update_window_dims;
+    let window = gather_plan::same_numbers(x, y);
+    let s = a.inserted_window_dims;
+    let t = b.inserted_window_dims;
+    let inserted = gather_plan::same_numbers(s, t);
+    let u = a.scatter_dims_to_operand_dims;
+    let v = b.scatter_dims_to_operand_dims;
+    let map = gather_plan::same_numbers(u, v);
+    let vector = a.index_vector_dim == b.index_vector_dim;
+    gather_plan::both(
+        window,
+        gather_plan::both(inserted, gather_plan::both(map, vector)),
+    )
+}
+
+fn same_walks(a: ScatterPlan, b: ScatterPlan) -> bool
+    ensures { λ r. ⌜ r ≡ sameWalks a b ⌝ }
+{
+    let x = a.batch;
+    let y = b.batch;
+    let batch = same_replay(x, y);
+    let s = a.window;
+    let t = b.window;
+    let window = same_replay(s, t);
+    let counts = gather_plan::both(a.batches == b.batches, a.cells == b.cells);
+    gather_plan::both(batch, gather_plan::both(window, counts))
+}
+
+fn same_starts(a: ScatterPlan, b: ScatterPlan) -> bool
+    ensures { λ r. ⌜ r ≡ sameStarts a b ⌝ }
+{
+    let x = a.windows;
+    let y = b.windows;
+    let windows = gather_plan::same_numbers(x, y);
+    let u = a.component_offsets;
+    let v = b.component_offsets;
+    let offsets = gather_plan::same_steps(u, v);
+    let s = a.component_strides;
+    let t = b.component_strides;
+    let strides = gather_plan::same_steps(s, t);
+    gather_plan::both(windows, gather_plan::both(offsets, strides))
+}
+
+// Whether two plans are the same in every field, arrays past their counts as well.
+pub fn same_plan(a: ScatterPlan, b: ScatterPlan) -> bool
+    ensures { λ r. ⌜ r ≡ samePlan a b ⌝ }
+{
+    let layouts = same_layouts(a, b);
+    let spec = same_spec(a, b);
+    let walks = same_walks(a, b);
+    let starts = same_starts(a, b);
+    gather_plan::both(
+        layouts,
+        gather_plan::both(spec, gather_plan::both(walks, starts)),
+    )
+}
+
+fn same_row(a: [i64; 4], b: [i64; 4]) -> bool
+    ensures { λ r. ⌜ r ≡ sameBy eqZ a b ⌝ }
+{
+    let mut i: usize = 0;
+    while i < 4 {
+        let x = a[i];
+        let y = b[i];
+        if !gather_plan::same_i64(x, y) {
+            return false;
+        }
+        i += 1;
+    }
+    true
+}
+
+// Whether two walks' rows are the same, past the rank as well.
+pub fn same_rows(a: [[i64; 4]; RAW_FUSED_RANK_LIMIT], b: [[i64; 4]; RAW_FUSED_RANK_LIMIT]) -> bool
+    ensures { λ r. ⌜ r ≡ sameRows a b ⌝ }
+{
+    let mut i: usize = 0;
+    while i < RAW_FUSED_RANK_LIMIT {
+        let x = a[i];
+        let y = b[i];
+        if !same_row(x, y) {
+            return false;
+        }
+        i += 1;
+    }
+    true
+}
+
+// Whether these are the rows of a plan's two walks.
+fn has_rows(
+    plan: ScatterPlan,
+    batch_rows: [[i64; 4]; RAW_FUSED_RANK_LIMIT],
+    window_rows: [[i64; 4]; RAW_FUSED_RANK_LIMIT],
+) -> bool
+    ensures { λ r. ⌜ r ≡ hasRows plan «batch_rows» «window_rows» ⌝ }
+{
+    let batch = plan.batch;
+    let window = plan.window;
+    let batch_axes = batch.axes;
+    let window_axes = window.axes;
+    let expected = replay::rows_of(batch_axes);
+    let wanted = replay::rows_of(window_axes);
+    let first = same_rows(batch_rows, expected);
+    let second = same_rows(window_rows, wanted);
+    gather_plan::both(first, second)
+}
+
+// What compile gives for the layouts and spec in a plan, 4 not tried again.
+pub fn compiled_again(plan: ScatterPlan) -> CompiledScatter
+    ensures { λ r. ⌜ r ≡ compiledScatter false (heldScatter plan) ⌝ }
+{
+    let index = plan.index;
+    let updates = plan.updates;
+    let dest = plan.dest;
+    let window = plan.update_window_dims;
+    let inserted = plan.inserted_window_dims;
+    let map = plan.scatter_dims_to_operand_dims;
+    let index_extents = index.extents;
+    let index_strides = index.strides;
+    let updates_extents = updates.extents;
+    let updates_strides = updates.strides;
+    let dest_extents = dest.extents;
+    let dest_strides = dest.strides;
+    let window_axes = window.entries;
+    let inserted_axes = inserted.entries;
+    let mapped_axes = map.entries;
+    let n = layout::axis_count(index.rank);
+    let m = layout::axis_count(updates.rank);
+    let k = layout::axis_count(dest.rank);
+    let u = layout::axis_count(window.count);
+    let v = layout::axis_count(inserted.count);
+    let w = layout::axis_count(map.count);
+    compile(
+        &index_extents[0..n],
+        &index_strides[0..n],
+        &updates_extents[0..m],
+        &updates_strides[0..m],
+        &dest_extents[0..k],
+        &dest_strides[0..k],
+        &window_axes[0..u],
+        &inserted_axes[0..v],
+        &mapped_axes[0..w],
+        plan.index_vector_dim,
+        false,
+    )
+}
+
+// Whether a plan is what compile gives for the layouts and spec in it, and these are the rows of its walks.
+pub fn is_compiled(
+    plan: ScatterPlan,
+    batch_rows: [[i64; 4]; RAW_FUSED_RANK_LIMIT],
+    window_rows: [[i64; 4]; RAW_FUSED_RANK_LIMIT],
+) -> bool
+    ensures { λ r. ⌜ r ≡ isCompiled plan «batch_rows» «window_rows» ⌝ }
+{
+    let again = compiled_again(plan);
+    let answer = again.answer;
+    let fresh = again.plan;
+    let done = layout::is_done(answer);
+    let same = same_plan(plan, fresh);
+    let rows = has_rows(plan, batch_rows, window_rows);
+    gather_plan::both(done, gather_plan::both(same, rows))
+}

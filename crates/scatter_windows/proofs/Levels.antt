@@ -1,0 +1,108 @@
+-- Batches whose windows have one cell end in runs, and a batch of any window in that window. Over any elements and any rank. Assumes nothing.
+use mathlib.Core.Path.{_≡_, refl, sym, ap, ap₂, subst, _∙_}
+use mathlib.Core.List.{List}
+use Prim.Native.Nat.{ℕ, suc, _-_, _<_, _^_}
+use native.Mathlib.Omega.{arith}
+use lib.ListN.{getD}
+use lib.IntN.{ℤ, pos, _+ℤ_}
+use mir.Syntax.{w64}
+use mir.Val.{SFits}
+use Rattle.integer.specs.Z.{back}
+use Rattle.indexing.specs.Coordinates.{InSlice}
+use Rattle.indexing.specs.Loops.{inOrder}
+use Rattle.runs.specs.Runs.{cellAt, line}
+use Rattle.runs.proofs.Turns.{same-places}
+use Rattle.runs.proofs.Place.{read, machine, in-fits}
+use Rattle.windows.specs.Windows.{placeAt, windowed, Level}
+use Rattle.windows.proofs.Last.{units-product, units-place}
+use Rattle.windows.proofs.Levels.{region-line}
+use Rattle.takes.specs.Takes.{startAt, Starting, movedAt, Putting}
+use Rattle.takes.proofs.Starts.{wider}
+use Rattle.takes.proofs.Puts.{puts-end}
+use Rattle.scatter_windows.specs.Scattering.{scatteredBy, putBy, Walk, Landing, PutLevel}
+use Rattle.scatter_windows.proofs.Batches.{over-none, first-batch, step-walk}
+
+module _ {A : Type 0} (z : A) (rule : A → A → A) (src : List A) (starts offsets strides : List ℤ) (limits : List ℕ) (count : ℕ) where
+  -- what is done at a batch whose start is read at x and whose first update is at y: where its window has one cell, and else
+  abbrev pub put : ℤ → ℤ → ℤ → List A → List A
+  put d x y = cellAt z rule src (λ _. y) (λ _. d +ℤ startAt starts offsets strides limits x count) 0
+
+  abbrev pub land : List ℕ → List ℤ → List ℤ → ℕ → ℤ → ℤ → ℤ → List A → List A
+  land shape ws ds rank d x y = windowed z rule src y (d +ℤ startAt starts offsets strides limits x count) shape ws ds rank
+
+-- ---- windows of one cell: one axis left
+module _ (starts offsets strides : List ℤ) (limits : List ℕ) (count : ℕ) (t u d : ℤ) (shape : List ℕ) (ts us : List ℤ) (top sn dn : ℕ) (l : PutLevel starts offsets strides limits count t u d shape ts us top (suc top) sn dn) where
+  putting : Putting starts offsets strides limits count u t d (getD us top (pos 0)) (getD ts top (pos 0)) (getD shape top 0) sn dn
+  putting =
+      let w = l .walk in
+      let le = w .index .extents in
+      let lt = w .index .strided in
+      record {
+        source = region-line u shape us top sn (w .updates) (l .units);
+        index = region-line t shape ts top (2 ^ 63 - 1) (w .index) (l .units);
+        starting = λ k h.
+            subst (λ (x : ℤ). Starting starts offsets strides limits d x count dn) (units-place t top shape ts k (omega arith) (omega arith) (l .units) h)
+            (w .each k (subst (λ (q : ℕ). k < q) (sym (units-product top shape (omega arith) (l .units))) h));
+      }
+
+  run-is : {A : Type 0} (z : A) (rule : A → A → A) (src x : List A)
+      → inOrder (cellAt z rule src (line u (getD us top (pos 0))) (movedAt starts offsets strides limits count (λ _. d) (line t (getD ts top (pos 0))))) (getD shape top 0) x
+      ≡ putBy z rule src starts offsets strides limits count t u d shape ts us (suc top) x
+  run-is z rule src x =
+      let le = l .walk .index .extents in
+      let lt = l .walk .index .strided in
+      let lu = l .walk .updates .strided in
+      sym (same-places z rule src (placeAt u shape us (suc top)) (movedAt starts offsets strides limits count (λ _. d) (placeAt t shape ts (suc top))) (line u (getD us top (pos 0))) (movedAt starts offsets strides limits count (λ _. d) (line t (getD ts top (pos 0)))) (getD shape top 0)
+      (λ k h. units-place u top shape us k (omega arith) (omega arith) (l .units) h)
+      (λ k h. ap (λ (a : ℤ). d +ℤ startAt starts offsets strides limits a count) (units-place t top shape ts k (omega arith) (omega arith) (l .units) h)) x)
+      ∙ ap (λ (n : ℕ). inOrder (cellAt z rule src (placeAt u shape us (suc top)) (movedAt starts offsets strides limits count (λ _. d) (placeAt t shape ts (suc top)))) n x) (sym (units-product top shape (omega arith) (l .units)))
+
+-- ---- the same as the machine has it: numbers read back, and `top` for `rank - 1`
+module _ (starts offsets strides : List ℤ) (limits : List ℕ) (count : ℕ) (t u d : ℤ) (shape : List ℕ) (ts us : List ℤ) (low rank sn dn : ℕ) (w : PutLevel starts offsets strides limits count t u d shape ts us low rank sn dn) (ft : SFits w64 t) (fu : SFits w64 u) (fd : SFits w64 d)
+    (top : ℕ) (e : rank ≡ suc top) (fa : SFits w64 (getD ts top (pos 0))) (fc : SFits w64 (getD us top (pos 0))) where
+  pub step-put : sn < 2 ^ 63 → (j : ℕ) → j < getD shape top 0 → low < top
+      → PutLevel starts offsets strides limits count (machine t (getD ts top (pos 0)) j) (machine u (getD us top (pos 0)) j) (read d) shape ts us low top sn dn
+  step-put r j h k = record { below = k; units = w .units; walk = step-walk (λ d x y. Starting starts offsets strides limits d x count dn) t u d shape ts us rank sn (w .walk) ft fu fd top e fa fc r j h }
+
+  run-here : top ≡ low → PutLevel starts offsets strides limits count t u d shape ts us top (suc top) sn dn
+  run-here g = subst (λ (k : ℕ). PutLevel starts offsets strides limits count t u d shape ts us k (suc top) sn dn) (sym g) (subst (λ (r : ℕ). PutLevel starts offsets strides limits count t u d shape ts us low r sn dn) e w)
+
+  pub run-asks : top ≡ low → Putting starts offsets strides limits count (read u) (read t) (read d) (read (getD us top (pos 0))) (read (getD ts top (pos 0))) (getD shape top 0) sn dn
+  run-asks g = simp (back ft, back fu, back fd, back fa, back fc) (putting starts offsets strides limits count t u d shape ts us top sn dn (run-here g))
+
+  pub run-end : {A : Type 0} (z : A) (rule : A → A → A) (src x y : List A) → top ≡ low
+      → y ≡ inOrder (cellAt z rule src (line (read u) (read (getD us top (pos 0)))) (movedAt starts offsets strides limits count (λ _. read d) (line (read t) (read (getD ts top (pos 0)))))) (getD shape top 0) x
+      → y ≡ putBy z rule src starts offsets strides limits count t u d shape ts us rank x
+  run-end z rule src x y g h =
+      puts-end z rule src starts offsets strides limits count u t d (getD us top (pos 0)) (getD ts top (pos 0)) (getD shape top 0) (getD shape top 0) x y fu ft fd fc fa refl h
+      ∙ run-is starts offsets strides limits count t u d shape ts us top sn dn (run-here g) z rule src x
+      ∙ ap (λ (r : ℕ). putBy z rule src starts offsets strides limits count t u d shape ts us r x) (sym e)
+
+-- ---- any window: no axis is left
+module _ (starts offsets strides : List ℤ) (limits : List ℕ) (count : ℕ) (t u d : ℤ) (bshape : List ℕ) (ts us : List ℤ) (rank : ℕ) (wshape : List ℕ) (ws ds : List ℤ) (low wrank sn dn : ℕ)
+    (w : Walk (Landing starts offsets strides limits count d wshape ws ds low wrank sn dn) t u bshape ts us rank sn) (ft : SFits w64 t) (fu : SFits w64 u) (fd : SFits w64 d) (e : rank ≡ 0) (r : dn < 2 ^ 63) where
+  first : Landing starts offsets strides limits count d wshape ws ds low wrank sn dn t u
+  first = first-batch (Landing starts offsets strides limits count d wshape ws ds low wrank sn dn) t u bshape ts us rank sn w e
+
+  pub start-asks : Starting starts offsets strides limits (read d) (read t) count (2 ^ 63 - 1)
+  start-asks = simp (back fd, back ft) (wider starts offsets strides limits d t count dn (2 ^ 63 - 1) (omega arith) (first .starting))
+
+  module _ (a : ℤ) (q : a ≡ read d +ℤ startAt starts offsets strides limits (read t) count) where
+    base-is : a ≡ d +ℤ startAt starts offsets strides limits t count
+    base-is = q ∙ ap₂ (λ (x y : ℤ). x +ℤ startAt starts offsets strides limits y count) (back fd) (back ft)
+
+    base-fits : SFits w64 a
+    base-fits = in-fits a dn (subst (InSlice dn) (sym base-is) (first .starting .partly count (omega arith))) r
+
+    pub window-asks : Level (read u) (read a) wshape ws ds low wrank sn dn
+    window-asks =
+        subst (λ (x : ℤ). Level (read u) x wshape ws ds low wrank sn dn) (sym (back base-fits ∙ base-is))
+        (subst (λ (x : ℤ). Level x (d +ℤ startAt starts offsets strides limits t count) wshape ws ds low wrank sn dn) (sym (back fu)) (first .window))
+
+    pub window-end : {A : Type 0} (z : A) (rule : A → A → A) (src x y : List A) → y ≡ windowed z rule src (read u) (read a) wshape ws ds wrank x
+        → y ≡ scatteredBy z rule src starts offsets strides limits count t u d bshape ts us rank wshape ws ds wrank x
+    window-end z rule src x y h =
+        h
+        ∙ ap₂ (λ (a b : ℤ). windowed z rule src a b wshape ws ds wrank x) (back fu) (back base-fits ∙ base-is)
+        ∙ over-none (land z rule src starts offsets strides limits count wshape ws ds wrank d) bshape ts us t u x
+        ∙ ap (λ (k : ℕ). scatteredBy z rule src starts offsets strides limits count t u d bshape ts us k wshape ws ds wrank x) (sym e)

@@ -1,0 +1,4 @@
+pub mod Batches
+pub mod Single
+pub mod Levels
+pub mod Whole
