@@ -1,0 +1,4 @@
+pub mod Counting
+pub mod Putting
+pub mod Reading
+pub mod Signs

@@ -1,0 +1,2 @@
+-- The fields of a stored job: what their bytes are, and what is read of bytes.
+pub mod Fields
