@@ -5,9 +5,10 @@ use mathlib.Core.List.{List, [], _∷_, _++_, append-assoc, append-nil}
 use Prim.Native.Nat.{ℕ, zero, suc, _+_, _-_, _*_, _^_, _≤_, _<_}
 use native.Mathlib.Numerals.{add-one}
 use native.Mathlib.Omega.{arith}
-use borrow.Author.Tests.{le-leb, lt-leb}
+use borrow.Author.Tests.{le-leb, lt-leb, leb-true}
+use lib.Dec.{leb}
 use lib.ListN.{length, take, drop, getD, set, replicate, length-set, take-append-drop, length-take}
-use lib.Seq.{take-suc-set, drop-set-lt, drop-cons, take-all, length-take-le}
+use lib.Seq.{take-suc-set, drop-set-lt, drop-cons, take-all, length-take-le, take-append-seam}
 use Rattle.layout.specs.Layouts.{padded}
 use Rattle.job_bytes.specs.Fields.{Field, read, fault, andThen, numberFrom, numberAt, byteAt, wordsAt, listLimit, heldNumber, heldWords}
 use Rattle.job_bytes.specs.declared.Number.{Number}
@@ -122,3 +123,63 @@ same-read f r e h = e ∙ ap heldNumber (number-read f r e h)
 
 pub same-fault : (f : Field ℕ) (r : Number) → r ≡ heldNumber f → r .ok ≡ false → r ≡ heldNumber (fault (r .at))
 same-fault f r e h = e ∙ ap heldNumber (number-fault f r e h)
+
+-- ---- a field that was read, taken apart
+pub fault-read : {A : Type 0} {k m : ℕ} {y : A} → fault k ≡ read y m → ⊥
+fault-read e = let z : _≡_ {A = ℕ} 0 1 = cc in omega arith
+
+pub then-read : {A B : Type 0} (f : Field A) (g : A → ℕ → Field B) (y : B) (m : ℕ) → andThen f g ≡ read y m → (x : A) × (k : ℕ) × (f ≡ read x k) × (g x k ≡ read y m)
+then-read (read x k) g y m e = (x, k, refl, e)
+then-read (fault k) g y m e = absurd (fault-read e)
+
+pub byte-range : (low high : ℕ) (bs : List ℕ) (at b k : ℕ) → byteAt low high bs at ≡ read b k → (low ≤ b) × (b ≤ high)
+unfolding byteAt
+byte-range low high bs at b k e = go (numberAt 1 bs at) e
+  where
+    within : (v m : ℕ) (s t : Bool) → leb low v ≡ s → leb v high ≡ t → cond (s && t) (read v m) (fault at) ≡ read b k → (low ≤ b) × (b ≤ high)
+    within v m true true p q e = let f : v ≡ b = cc in (omega (arith, leb-true low v p), omega (arith, leb-true v high q))
+    within v m true false p q e = absurd (fault-read e)
+    within v m false true p q e = absurd (fault-read e)
+    within v m false false p q e = absurd (fault-read e)
+
+    go : (f : Field ℕ) → andThen f (λ v m. cond (leb low v && leb v high) (read v m) (fault at)) ≡ read b k → (low ≤ b) × (b ≤ high)
+    go (read v m) e = within v m (leb low v) (leb v high) refl refl e
+    go (fault m) e = absurd (fault-read e)
+
+pub words-count : (n : ℕ) (bs : List ℕ) (at : ℕ) (ws : List ℕ) (k : ℕ) → wordsAt n bs at ≡ read ws k → length ws ≡ n
+unfolding wordsAt
+words-count zero bs at ws k e = let f : [] ≡ ws = cc in sym (ap length f)
+words-count (suc n) bs at ws k e =
+    let a = then-read (numberAt 8 bs at) _ ws k e in
+    let b = then-read (wordsAt n bs (a .1)) (λ vs m. read (a .0 ∷ vs) m) ws k (a .3) in
+    let f : a .0 ∷ b .0 ≡ ws = cc (b .3) in
+    sym (ap length f) ∙ ap suc (words-count n bs (a .1) (b .0) (b .1) (b .2))
+
+-- what words handed back say of them
+module _ (n : ℕ) (bs : List ℕ) (at : ℕ) (r : Words) (e : r ≡ heldWords (wordsAt n bs at)) where
+  pub words-read : n ≤ listLimit → r .ok ≡ true → wordsAt n bs at ≡ read (take n (r .entries)) (r .at)
+  unfolding padded
+  words-read m h = go (wordsAt n bs at) refl
+    where
+      go : (f : Field (List ℕ)) → wordsAt n bs at ≡ f → wordsAt n bs at ≡ read (take n (r .entries)) (r .at)
+      go (read ws k) q =
+          let s : length ws ≡ n = words-count n bs at ws k q in
+          let g : r ≡ heldWords (read ws k) = e ∙ ap heldWords q in
+          let b : take n (padded listLimit 0 ws) ≡ ws = rw (take-all listLimit ws (omega arith), ← s) (take-append-seam ws (replicate (listLimit - length ws) 0)) in
+          rw (g, b) q
+      go (fault k) q = let z : false ≡ true = sym (ap (λ (w : Words). w .ok) (e ∙ ap heldWords q)) ∙ h in cc
+
+  pub words-fault : r .ok ≡ false → wordsAt n bs at ≡ fault (r .at)
+  words-fault h = go (wordsAt n bs at) refl
+    where
+      go : (f : Field (List ℕ)) → wordsAt n bs at ≡ f → wordsAt n bs at ≡ fault (r .at)
+      go (read ws k) q = let z : true ≡ false = sym (ap (λ (w : Words). w .ok) (e ∙ ap heldWords q)) ∙ h in cc
+      go (fault k) q = rw (e ∙ ap heldWords q) q
+
+pub number-room : (n : ℕ) (bs : List ℕ) (at v k : ℕ) → numberAt n bs at ≡ read v k → (k ≡ at + n) × (at + n ≤ length bs)
+unfolding numberAt
+number-room n bs at v k e = go (leb (at + n) (length bs)) refl e
+  where
+    go : (t : Bool) → leb (at + n) (length bs) ≡ t → cond t (read (numberFrom 0 (take n (drop at bs))) (at + n)) (fault at) ≡ read v k → (k ≡ at + n) × (at + n ≤ length bs)
+    go true h e = (cc, leb-true (at + n) (length bs) h)
+    go false h e = absurd (fault-read e)

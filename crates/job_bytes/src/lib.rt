@@ -42,7 +42,8 @@ fn number_of(bytes: &[u8], at: usize, width: usize) -> u64
     value
 }
 
-fn no_number(at: usize) -> Number
+// A number that could not be read.
+pub fn no_number(at: usize) -> Number
     ensures { λ r. ⌜ r ≡ heldNumber (fault at) ⌝ }
 {
     Number {
