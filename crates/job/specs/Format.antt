@@ -5,8 +5,6 @@ use Prim.Native.Nat.{ℕ, _+_}
 use lib.Dec.{eqb, leb}
 use lib.ListN.{length}
 use lib.IntN.{ℤ}
-use Rattle.layout.specs.declared.Answer.{Answer}
-use Rattle.layout.specs.declared.Answer.the-variants as A
 use Rattle.layout.specs.declared.View.{View}
 use Rattle.layout.specs.Layouts.{rankLimit, extentsOf, stridesOf}
 use Rattle.job_bytes.specs.Fields.{Field, read, fault, andThen, bytesOf, wordsOf, wordOf, signedOf, numberAt, byteAt, wordsAt, listLimit}
@@ -18,8 +16,7 @@ use Rattle.job.specs.declared.List16.{List16}
 use Rattle.job.specs.declared.Views.{Views}
 use Rattle.job.specs.declared.Spec.{Spec}
 use Rattle.job.specs.declared.Job.{Job}
-use Rattle.job.specs.declared.ReadJob.{ReadJob}
-use Rattle.job.specs.Jobs.{heldList, entriesOf, viewOf, viewsOf, specOf, noJob}
+use Rattle.job.specs.Jobs.{heldList, entriesOf, viewOf, viewsOf, specOf}
 
 -- "version byte 1"
 abbrev pub version : ℕ
@@ -118,8 +115,3 @@ jobAt bs =
     andThen (viewsAt bs k) (λ views l.
     andThen (specAt (head .0) bs l) (λ spec m.
     cond (eqb m (length bs)) (read (record { kind = head .0; element = head .1; views = views; spec = spec }) m) (fault m))))
-
--- what is handed back: the job; or 10, "a = place in a stored job", with the job of nothing in its place
-abbrev pub readJob : Field Job → ReadJob
-readJob (read j k) = record { answer = A.Done; job = j }
-readJob (fault k) = record { answer = A.JobBytes k; job = noJob }

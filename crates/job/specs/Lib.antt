@@ -1,4 +1,3 @@
--- The stored job: its format, written and read, and a job from its parts.
+-- A job by value, and the format in which it is stored.
 pub mod Jobs
 pub mod Format
-pub mod Held

@@ -1,0 +1,67 @@
+use mathlib.Core.Path.{_≡_, refl, sym, ap, _∙_}
+use borrow.Author.Tests.{not-true, not-false}
+use native.Mathlib.Omega.{arith}
+use Rattle.job_reader.specs.Held.{readJob}
+use Rattle.job_reader.proofs.Chains.{got-head, no-head, got-views, no-views, got-spec, no-spec, job-1, job-2, job-3, job-4, job-5}
+use borrow.Author.Needs.{needs}
+use Rattle.job_reader.proofs.read_job.Statement.{statement}
+use Rattle.job_reader.proofs.read_job.Tie as tie
+use Rattle.job_reader.proofs.read_job.Reads as reads
+use Rattle.job_reader.proofs.read_job.Lts as lts
+use Rattle.job_reader.proofs.job_fault.Reads as job-fault-reads
+use Rattle.job_reader.proofs.read_head.Reads as read-head-reads
+use Rattle.job_reader.proofs.read_spec.Reads as read-spec-reads
+use Rattle.job_reader.proofs.read_views.Reads as read-views-reads
+
+read-head-requires : tie.Need-read-head-requires
+read-head-requires c κs = search needs
+
+job-fault-requires : tie.Need-job-fault-requires
+job-fault-requires c κs = search needs
+
+returns : tie.Need-returns
+returns c = c .job-fault .ensures ∙ sym (ap readJob (job-1 _ _ (no-head _ _ (c .before .before .before .read-head .ensures) (not-true _ (c .before .if1 .taken)))))
+
+read-views-requires : tie.Need-read-views-requires
+read-views-requires c κs = search needs
+
+job-fault-requires-2 : tie.Need-job-fault-requires-2
+job-fault-requires-2 c κs = search needs
+
+returns-2 : tie.Need-returns-2
+returns-2 c = c .job-fault2 .ensures ∙ sym (ap readJob (job-2 _ _ _ _ (got-head _ _ (c .before .before .before .before .before .before .read-head .ensures) (not-false _ (c .before .before .before .before .if1 .left))) (no-views _ _ (c .before .before .before .read-views .ensures) (not-true _ (c .before .if2 .taken)))))
+
+read-spec-requires : tie.Need-read-spec-requires
+read-spec-requires c κs = search needs
+
+job-fault-requires-3 : tie.Need-job-fault-requires-3
+job-fault-requires-3 c κs = search needs
+
+returns-3 : tie.Need-returns-3
+returns-3 c = c .job-fault3 .ensures ∙ sym (ap readJob (job-3 _ _ _ _ _ _ (got-head _ _ (c .before .before .before .before .before .before .before .before .before .read-head .ensures) (not-false _ (c .before .before .before .before .before .before .before .if1 .left))) (got-views _ _ (c .before .before .before .before .before .before .read-views .ensures) (not-false _ (c .before .before .before .before .if2 .left))) (no-spec _ _ (c .before .before .before .read-spec .ensures) (not-true _ (c .before .if3 .taken)))))
+
+job-fault-requires-4 : tie.Need-job-fault-requires-4
+job-fault-requires-4 c κs = search needs
+
+returns-4 : tie.Need-returns-4
+returns-4 c = c .job-fault4 .ensures ∙ sym (ap readJob (job-4 _ _ _ _ _ _ _ (got-head _ _ (c .before .before .before .before .before .before .before .before .before .before .before .read-head .ensures) (not-false _ (c .before .before .before .before .before .before .before .before .before .if1 .left))) (got-views _ _ (c .before .before .before .before .before .before .before .before .read-views .ensures) (not-false _ (c .before .before .before .before .before .before .if2 .left))) (got-spec _ _ (c .before .before .before .before .before .read-spec .ensures) (not-false _ (c .before .before .before .if3 .left))) (c .before .if4 .taken)))
+
+returns-5 : tie.Need-returns-5
+returns-5 c = sym (ap readJob (job-5 _ _ _ _ _ _ _ (got-head _ _ (c .before .before .before .before .before .before .before .before .before .before .before .before .read-head .ensures) (not-false _ (c .before .before .before .before .before .before .before .before .before .before .if1 .left))) (got-views _ _ (c .before .before .before .before .before .before .before .before .before .read-views .ensures) (not-false _ (c .before .before .before .before .before .before .before .if2 .left))) (got-spec _ _ (c .before .before .before .before .before .before .read-spec .ensures) (not-false _ (c .before .before .before .before .if3 .left))) (c .before .before .if4 .left)))
+
+pub read-job-spec : {M : Type 1} → statement M
+read-job-spec =
+    tie.close
+    (tie.spec
+    read-head-requires
+    job-fault-requires
+    returns
+    read-views-requires
+    job-fault-requires-2
+    returns-2
+    read-spec-requires
+    job-fault-requires-3
+    returns-3
+    job-fault-requires-4
+    returns-4
+    returns-5)

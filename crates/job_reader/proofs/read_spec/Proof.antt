@@ -1,0 +1,84 @@
+use mathlib.Core.Path.{_≡_, refl, sym, ap, _∙_}
+use borrow.Author.Tests.{not-true, not-false}
+use native.Mathlib.Omega.{arith}
+use Rattle.job_reader.specs.Held.{heldSpec}
+use Rattle.job_bytes.proofs.Reading.{number-read, number-fault}
+use Rattle.job_reader.proofs.Chains.{got-list, no-list, spec-1, spec-2, spec-3, spec-4, spec-5, spec-6, spec-held}
+use borrow.Author.Needs.{needs}
+use Rattle.job_reader.proofs.read_spec.Statement.{statement}
+use Rattle.job_reader.proofs.read_spec.Tie as tie
+use Rattle.job_reader.proofs.read_spec.Reads as reads
+use Rattle.job_reader.proofs.read_spec.Lts as lts
+use Rattle.job_reader.proofs.read_list.Reads as read-list-reads
+use Rattle.job_reader.proofs.read_sizes.Reads as read-sizes-reads
+use Rattle.job_reader.proofs.spec_fault.Reads as spec-fault-reads
+use Rattle.job_bytes.proofs.read_number.Reads as read-number-reads
+
+read-list-requires : tie.Need-read-list-requires
+read-list-requires c κs = search needs
+
+spec-fault-requires : tie.Need-spec-fault-requires
+spec-fault-requires c κs = search needs
+
+returns : tie.Need-returns
+returns c = let f1 = no-list _ _ (c .before .before .before .read-list .ensures) (not-true _ (c .before .if1 .taken)) in c .spec-fault .ensures ∙ sym (ap heldSpec (spec-1 _ _ _ _ f1))
+
+read-list-requires-2 : tie.Need-read-list-requires-2
+read-list-requires-2 c κs = search needs
+
+spec-fault-requires-2 : tie.Need-spec-fault-requires-2
+spec-fault-requires-2 c κs = search needs
+
+returns-2 : tie.Need-returns-2
+returns-2 c = let f1 = got-list _ _ (c .before .before .before .before .before .before .read-list .ensures) (not-false _ (c .before .before .before .before .if1 .left)) in let f2 = no-list _ _ (c .before .before .before .read-list2 .ensures) (not-true _ (c .before .if2 .taken)) in c .spec-fault2 .ensures ∙ sym (ap heldSpec (spec-2 _ _ _ _ _ _ (f1 .is) f2))
+
+read-list-requires-3 : tie.Need-read-list-requires-3
+read-list-requires-3 c κs = search needs
+
+spec-fault-requires-3 : tie.Need-spec-fault-requires-3
+spec-fault-requires-3 c κs = search needs
+
+returns-3 : tie.Need-returns-3
+returns-3 c = let f1 = got-list _ _ (c .before .before .before .before .before .before .before .before .before .read-list .ensures) (not-false _ (c .before .before .before .before .before .before .before .if1 .left)) in let f2 = got-list _ _ (c .before .before .before .before .before .before .read-list2 .ensures) (not-false _ (c .before .before .before .before .if2 .left)) in let f3 = no-list _ _ (c .before .before .before .read-list3 .ensures) (not-true _ (c .before .if3 .taken)) in c .spec-fault3 .ensures ∙ sym (ap heldSpec (spec-3 _ _ _ _ _ _ _ _ (f1 .is) (f2 .is) f3))
+
+read-number-requires : tie.Need-read-number-requires
+read-number-requires c κs = search needs
+
+spec-fault-requires-4 : tie.Need-spec-fault-requires-4
+spec-fault-requires-4 c κs = search needs
+
+returns-4 : tie.Need-returns-4
+returns-4 c = let f1 = got-list _ _ (c .before .before .before .before .before .before .before .before .before .before .before .before .read-list .ensures) (not-false _ (c .before .before .before .before .before .before .before .before .before .before .if1 .left)) in let f2 = got-list _ _ (c .before .before .before .before .before .before .before .before .before .read-list2 .ensures) (not-false _ (c .before .before .before .before .before .before .before .if2 .left)) in let f3 = got-list _ _ (c .before .before .before .before .before .before .read-list3 .ensures) (not-false _ (c .before .before .before .before .if3 .left)) in let f4 = number-fault _ _ (c .before .before .before .read-number .ensures) (not-true _ (c .before .if4 .taken)) in c .spec-fault4 .ensures ∙ sym (ap heldSpec (spec-4 _ _ _ _ _ _ _ _ _ _ (f1 .is) (f2 .is) (f3 .is) f4))
+
+read-sizes-requires : tie.Need-read-sizes-requires
+read-sizes-requires c κs = search needs
+
+spec-fault-requires-5 : tie.Need-spec-fault-requires-5
+spec-fault-requires-5 c κs = search needs
+
+returns-5 : tie.Need-returns-5
+returns-5 c = let f1 = got-list _ _ (c .before .before .before .before .before .before .before .before .before .before .before .before .before .before .before .read-list .ensures) (not-false _ (c .before .before .before .before .before .before .before .before .before .before .before .before .before .if1 .left)) in let f2 = got-list _ _ (c .before .before .before .before .before .before .before .before .before .before .before .before .read-list2 .ensures) (not-false _ (c .before .before .before .before .before .before .before .before .before .before .if2 .left)) in let f3 = got-list _ _ (c .before .before .before .before .before .before .before .before .before .read-list3 .ensures) (not-false _ (c .before .before .before .before .before .before .before .if3 .left)) in let f4 = number-read _ _ (c .before .before .before .before .before .before .read-number .ensures) (not-false _ (c .before .before .before .before .if4 .left)) in let f5 = no-list _ _ (c .before .before .before .read-sizes .ensures) (not-true _ (c .before .if5 .taken)) in c .spec-fault5 .ensures ∙ sym (ap heldSpec (spec-5 _ _ _ _ _ _ _ _ _ _ _ _ (f1 .is) (f2 .is) (f3 .is) f4 f5))
+
+returns-6 : tie.Need-returns-6
+returns-6 c = let f1 = got-list _ _ (c .before .before .before .before .before .before .before .before .before .before .before .before .before .before .before .before .before .before .read-list .ensures) (not-false _ (c .before .before .before .before .before .before .before .before .before .before .before .before .before .before .before .before .if1 .left)) in let f2 = got-list _ _ (c .before .before .before .before .before .before .before .before .before .before .before .before .before .before .before .read-list2 .ensures) (not-false _ (c .before .before .before .before .before .before .before .before .before .before .before .before .before .if2 .left)) in let f3 = got-list _ _ (c .before .before .before .before .before .before .before .before .before .before .before .before .read-list3 .ensures) (not-false _ (c .before .before .before .before .before .before .before .before .before .before .if3 .left)) in let f4 = number-read _ _ (c .before .before .before .before .before .before .before .before .before .read-number .ensures) (not-false _ (c .before .before .before .before .before .before .before .if4 .left)) in let f5 = got-list _ _ (c .before .before .before .before .before .before .read-sizes .ensures) (not-false _ (c .before .before .before .before .if5 .left)) in spec-held _ _ _ _ _ _ _ _ _ _ (f1 .held) (f2 .held) (f3 .held) (f5 .held) ∙ sym (ap heldSpec (spec-6 _ _ _ _ _ _ _ _ _ _ _ _ _ (f1 .is) (f2 .is) (f3 .is) f4 (f5 .is)))
+
+pub read-spec-spec : {M : Type 1} → statement M
+read-spec-spec =
+    tie.close
+    (tie.spec
+    read-list-requires
+    spec-fault-requires
+    returns
+    read-list-requires-2
+    spec-fault-requires-2
+    returns-2
+    read-list-requires-3
+    spec-fault-requires-3
+    returns-3
+    read-number-requires
+    spec-fault-requires-4
+    returns-4
+    read-sizes-requires
+    spec-fault-requires-5
+    returns-5
+    returns-6)
