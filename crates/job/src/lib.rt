@@ -10,6 +10,9 @@ use layout::Layout;
 use layout::RAW_FUSED_RANK_LIMIT;
 use layout::View;
 
+// The version that is read and written.
+pub const VERSION: u64 = 1;
+
 pub enum Kind {
     Gather,
     Scatter,

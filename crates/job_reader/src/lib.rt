@@ -12,6 +12,7 @@ use job::Job;
 use job::Kind;
 use job::List16;
 use job::Spec;
+use job::VERSION;
 use job::Views;
 use job_bytes::LIST_LIMIT;
 use job_bytes::Number;
@@ -19,9 +20,6 @@ use layout::Answer;
 use layout::Layout;
 use layout::RAW_FUSED_RANK_LIMIT;
 use layout::View;
-
-// The version that is read and written.
-const VERSION: u64 = 1;
 
 pub struct ReadJob {
     pub answer: Answer,
