@@ -101,9 +101,9 @@ module _ (bs : List ℕ) (at : ℕ) (a b : List ℕ) where
       record {
         room = omega (arith, q .room, p .place);
         here =
-          ap (λ (n : ℕ). take n (drop at bs)) s
-          ∙ take-add (length a) (length b) (drop at bs)
-          ∙ ap₂ _++_ (p .here) (ap (take (length b)) (drop-drop (length a) at bs) ∙ ap (λ (i : ℕ). take (length b) (drop i bs)) (sym (p .place)) ∙ q .here);
+            ap (λ (n : ℕ). take n (drop at bs)) s
+            ∙ take-add (length a) (length b) (drop at bs)
+            ∙ ap₂ _++_ (p .here) (ap (take (length b)) (drop-drop (length a) at bs) ∙ ap (λ (i : ℕ). take (length b) (drop i bs)) (sym (p .place)) ∙ q .here);
         place = omega (arith, q .place, p .place);
       }
 

@@ -1,0 +1,2 @@
+pub mod PartsBack
+pub mod RoundTrip
