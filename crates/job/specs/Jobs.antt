@@ -63,3 +63,9 @@ listsRefusal a b c d = orElse (listAtMost a) (orElse (listAtMost b) (orElse (lis
 -- the job, or the refusal with the job of nothing in its place
 abbrev pub madeJob : Answer → Job → MadeJob
 madeJob x j = cond (isDone x) (record { answer = x; job = j }) (record { answer = x; job = noJob })
+
+-- a job from its parts, if none is refused
+unfoldable pub jobFrom : Kind → Element → List ℕ → List ℤ → ℤ → List ℕ → List ℤ → ℤ → List ℕ → List ℤ → ℤ → List ℕ → List ℕ → List ℕ → ℕ → List ℕ → MadeJob
+jobFrom kind element e1 s1 o1 e2 s2 o2 e3 s3 o3 window unit map vector sizes =
+    madeJob (orElse (viewsRefusal (length e1) (length s1) (length e2) (length s2) (length e3) (length s3)) (listsRefusal (length window) (length unit) (length map) (length sizes)))
+    (record { kind = kind; element = element; views = viewsOf (viewOf e1 s1 o1) (viewOf e2 s2 o2) (viewOf e3 s3 o3); spec = specOf window unit map vector sizes })

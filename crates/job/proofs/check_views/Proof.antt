@@ -1,0 +1,64 @@
+use mathlib.Core.Path.{_≡_, refl, sym, ap, _∙_}
+use Rattle.job.specs.Jobs.{viewsRefusal}
+use borrow.Author.Needs.{needs}
+use Rattle.job.proofs.check_views.Statement.{statement}
+use Rattle.job.proofs.check_views.Tie as tie
+use Rattle.job.proofs.check_views.Reads as reads
+use Rattle.job.proofs.check_views.Lts as lts
+use Rattle.checks.proofs.or_else.Reads as or-else-reads
+use Rattle.layout.proofs.check_rank.Reads as check-rank-reads
+use Rattle.layout.proofs.check_stride_length.Reads as check-stride-length-reads
+
+check-stride-length-requires : tie.Need-check-stride-length-requires
+check-stride-length-requires c κs = search needs
+
+check-stride-length-requires-2 : tie.Need-check-stride-length-requires-2
+check-stride-length-requires-2 c κs = search needs
+
+check-stride-length-requires-3 : tie.Need-check-stride-length-requires-3
+check-stride-length-requires-3 c κs = search needs
+
+check-rank-requires : tie.Need-check-rank-requires
+check-rank-requires c κs = search needs
+
+check-rank-requires-2 : tie.Need-check-rank-requires-2
+check-rank-requires-2 c κs = search needs
+
+check-rank-requires-3 : tie.Need-check-rank-requires-3
+check-rank-requires-3 c κs = search needs
+
+or-else-requires : tie.Need-or-else-requires
+or-else-requires c κs = search needs
+
+or-else-requires-2 : tie.Need-or-else-requires-2
+or-else-requires-2 c κs = search needs
+
+or-else-requires-3 : tie.Need-or-else-requires-3
+or-else-requires-3 c κs = search needs
+
+or-else-requires-4 : tie.Need-or-else-requires-4
+or-else-requires-4 c κs = search needs
+
+or-else-requires-5 : tie.Need-or-else-requires-5
+or-else-requires-5 c κs = search needs
+
+returns : tie.Need-returns
+unfolding viewsRefusal
+returns c = rw (c .or-else5 .ensures, c .before .or-else4 .ensures, c .before .before .or-else3 .ensures, c .before .before .before .or-else2 .ensures, c .before .before .before .before .or-else .ensures, c .before .before .before .before .before .before .before .before .before .before .check-stride-length .ensures, c .before .before .before .before .before .before .before .before .before .check-stride-length2 .ensures, c .before .before .before .before .before .before .before .before .check-stride-length3 .ensures, c .before .before .before .before .before .before .before .check-rank .ensures, c .before .before .before .before .before .before .check-rank2 .ensures, c .before .before .before .before .before .check-rank3 .ensures)
+
+pub check-views-spec : {M : Type 1} → statement M
+check-views-spec =
+    tie.close
+    (tie.spec
+    check-stride-length-requires
+    check-stride-length-requires-2
+    check-stride-length-requires-3
+    check-rank-requires
+    check-rank-requires-2
+    check-rank-requires-3
+    or-else-requires
+    or-else-requires-2
+    or-else-requires-3
+    or-else-requires-4
+    or-else-requires-5
+    returns)

@@ -1,0 +1,21 @@
+use mathlib.Core.Path.{_≡_, refl, sym, ap, _∙_}
+use Rattle.integer.specs.Z.{back}
+use borrow.Author.Needs.{needs}
+use Rattle.job.proofs.view_from.Statement.{statement}
+use Rattle.job.proofs.view_from.Tie as tie
+use Rattle.job.proofs.view_from.Reads as reads
+use Rattle.job.proofs.view_from.Lts as lts
+use Rattle.layout.proofs.padded_extents.Reads as padded-extents-reads
+use Rattle.layout.proofs.padded_strides.Reads as padded-strides-reads
+
+padded-extents-requires : tie.Need-padded-extents-requires
+padded-extents-requires c κs = search needs
+
+padded-strides-requires : tie.Need-padded-strides-requires
+padded-strides-requires c κs = search needs
+
+returns : tie.Need-returns
+returns c = rw (c .before .padded-extents .ensures, c .padded-strides .ensures, back (c .before .before .before .fits .offset))
+
+pub view-from-spec : {M : Type 1} → statement M
+view-from-spec = tie.close (tie.spec padded-extents-requires padded-strides-requires returns)
