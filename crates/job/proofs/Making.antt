@@ -25,7 +25,7 @@ use Rattle.job.specs.declared.Spec.{Spec}
 use Rattle.job.specs.declared.Job.{Job}
 use Rattle.job.specs.declared.MadeJob.{MadeJob}
 use Rattle.job.specs.Jobs.{heldList, viewOf, viewsOf, specOf, listAtMost, viewsRefusal, listsRefusal, madeJob, jobFrom}
-use Rattle.job.specs.Made.{MadeView, MadeList, MadeSpec, Made}
+use Rattle.job.specs.Made.{MadeView, MadeList, MadeSizes, MadeSpec, Made}
 
 pub making : (kind : Kind) (element : Element) (e1 : List ℕ) (s1 : List ℤ) (o1 : ℤ) (e2 : List ℕ) (s2 : List ℤ) (o2 : ℤ) (e3 : List ℕ) (s3 : List ℤ) (o3 : ℤ) (window unit map : List ℕ) (vector : ℕ) (sizes : List ℕ)
     → (r : MadeJob) (x a b : Answer) (j : Job) (f g h : View) (sp : Spec) (lw lu lm ls : List16) → r ≡ madeJob x j → x ≡ orElse a b
@@ -70,3 +70,72 @@ list-done n h = go (leb n listLimit) refl h
     go : (t : Bool) → leb n listLimit ≡ t → isDone (cond t A.Done (A.RankMismatch n listLimit)) ≡ true → n ≤ listLimit
     go true q h = leb-true n listLimit q
     go false q h = let y : _≡_ {A = ℕ} 0 1 = cc in absurd (omega arith)
+
+view-made : (es : List ℕ) (ss : List ℤ) (o : ℤ) → length ss ≡ length es → length es ≤ rankLimit → AllBelow (2 ^ 64) es → AllFit ss → SFits w64 o → MadeView (viewOf es ss o)
+view-made es ss o s h a b f = record { extents = es; strides = ss; offset = o; is = refl; same = s; few = h; words = a; fits = b; fit = f }
+
+list-made : (l : List ℕ) → length l ≤ listLimit → AllBelow (2 ^ 64) l → MadeList (heldList l)
+list-made l h a = record { entries = l; is = refl; few = h; words = a }
+
+-- numbers that a u64 or an i64 holds, as lent slices have
+pub record Held (e1 : List ℕ) (s1 : List ℤ) (o1 : ℤ) (e2 : List ℕ) (s2 : List ℤ) (o2 : ℤ) (e3 : List ℕ) (s3 : List ℤ) (o3 : ℤ) (window unit map : List ℕ) (vector : ℕ) : Type 0 where
+  pub extents : AllBelow (2 ^ 64) e1 × AllBelow (2 ^ 64) e2 × AllBelow (2 ^ 64) e3
+  pub strides : AllFit s1 × AllFit s2 × AllFit s3
+  pub offsets : SFits w64 o1 × SFits w64 o2 × SFits w64 o3
+  pub lists : AllBelow (2 ^ 64) window × AllBelow (2 ^ 64) unit × AllBelow (2 ^ 64) map
+  pub vectors : vector < 2 ^ 64
+
+module _ (element : Element) (e1 : List ℕ) (s1 : List ℤ) (o1 : ℤ) (e2 : List ℕ) (s2 : List ℤ) (o2 : ℤ) (e3 : List ℕ) (s3 : List ℤ) (o3 : ℤ) (window unit map : List ℕ) (vector : ℕ) (held : Held e1 s1 o1 e2 s2 o2 e3 s3 o3 window unit map vector) where
+  parts-made : (kind : Kind) (sizes : List ℕ)
+      → isDone (orElse (viewsRefusal (length e1) (length s1) (length e2) (length s2) (length e3) (length s3)) (listsRefusal (length window) (length unit) (length map) (length sizes))) ≡ true
+      → (length sizes ≤ listLimit → MadeSizes kind (heldList sizes))
+      → Made (record { kind = kind; element = element; views = viewsOf (viewOf e1 s1 o1) (viewOf e2 s2 o2) (viewOf e3 s3 o3); spec = specOf window unit map vector sizes })
+  unfolding viewsRefusal listsRefusal
+  parts-made kind sizes d z =
+      let p = both-done (viewsRefusal (length e1) (length s1) (length e2) (length s2) (length e3) (length s3)) (listsRefusal (length window) (length unit) (length map) (length sizes)) d in
+      let p1 = both-done (strideLength (length e1) (length s1)) _ (p .0) in
+      let p2 = both-done (strideLength (length e2) (length s2)) _ (p1 .1) in
+      let p3 = both-done (strideLength (length e3) (length s3)) _ (p2 .1) in
+      let p4 = both-done (rankAtMost (length e1)) _ (p3 .1) in
+      let p5 = both-done (rankAtMost (length e2)) (rankAtMost (length e3)) (p4 .1) in
+      let q1 = both-done (listAtMost (length window)) _ (p .1) in
+      let q2 = both-done (listAtMost (length unit)) _ (q1 .1) in
+      let q3 = both-done (listAtMost (length map)) (listAtMost (length sizes)) (q2 .1) in
+      record {
+        first = view-made e1 s1 o1 (strides-done (length e1) (length s1) (p1 .0)) (rank-done (length e1) (p4 .0)) (held .extents .0) (held .strides .0) (held .offsets .0);
+        second = view-made e2 s2 o2 (strides-done (length e2) (length s2) (p2 .0)) (rank-done (length e2) (p5 .0)) (held .extents .1) (held .strides .1) (held .offsets .1);
+        third = view-made e3 s3 o3 (strides-done (length e3) (length s3) (p3 .0)) (rank-done (length e3) (p5 .1)) (held .extents .2) (held .strides .2) (held .offsets .2);
+        spec = record {
+          window = list-made window (list-done (length window) (q1 .0)) (held .lists .0);
+          unit = list-made unit (list-done (length unit) (q2 .0)) (held .lists .1);
+          start = list-made map (list-done (length map) (q3 .0)) (held .lists .2);
+          vector = held .vectors;
+          sizes = z (list-done (length sizes) (q3 .1));
+        };
+      }
+
+  done-made : (x : Answer) (j : Job) → madeJob x j .answer ≡ A.Done → (isDone x ≡ true → Made j) → Made (madeJob x j .job)
+  done-made x j e f = go (isDone x) refl e
+    where
+      answer-is : (t : Bool) → isDone x ≡ t → madeJob x j .answer ≡ x
+      answer-is true h = rw h
+      answer-is false h = rw h
+
+      done : isDone x ≡ true
+      done = ap isDone (sym (answer-is (isDone x) refl) ∙ e)
+
+      go : (t : Bool) → isDone x ≡ t → madeJob x j .answer ≡ A.Done → Made (madeJob x j .job)
+      go t h e = rw done (f done)
+
+  -- a gather and a scatter that are done can be stored
+  pub gather-made : (sizes : List ℕ) → AllBelow (2 ^ 64) sizes → jobFrom K.Gather element e1 s1 o1 e2 s2 o2 e3 s3 o3 window unit map vector sizes .answer ≡ A.Done → Made (jobFrom K.Gather element e1 s1 o1 e2 s2 o2 e3 s3 o3 window unit map vector sizes .job)
+  unfolding jobFrom
+  gather-made sizes a e =
+      done-made (orElse (viewsRefusal (length e1) (length s1) (length e2) (length s2) (length e3) (length s3)) (listsRefusal (length window) (length unit) (length map) (length sizes))) (record { kind = K.Gather; element = element; views = viewsOf (viewOf e1 s1 o1) (viewOf e2 s2 o2) (viewOf e3 s3 o3); spec = specOf window unit map vector sizes }) e
+      (λ d. parts-made K.Gather sizes d (λ h. list-made sizes h a))
+
+  pub scatter-made : jobFrom K.Scatter element e1 s1 o1 e2 s2 o2 e3 s3 o3 window unit map vector [] .answer ≡ A.Done → Made (jobFrom K.Scatter element e1 s1 o1 e2 s2 o2 e3 s3 o3 window unit map vector [] .job)
+  unfolding jobFrom
+  scatter-made e =
+      done-made (orElse (viewsRefusal (length e1) (length s1) (length e2) (length s2) (length e3) (length s3)) (listsRefusal (length window) (length unit) (length map) 0)) (record { kind = K.Scatter; element = element; views = viewsOf (viewOf e1 s1 o1) (viewOf e2 s2 o2) (viewOf e3 s3 o3); spec = specOf window unit map vector [] }) e
+      (λ d. parts-made K.Scatter [] d (λ h. refl))
