@@ -16,7 +16,7 @@ use Rattle.layout.specs.declared.View.{View}
 use Rattle.layout.specs.Answers.{isDone, orElse}
 use Rattle.layout.specs.Layouts.{rankLimit, strideLength, rankAtMost}
 use Rattle.job_bytes.specs.Fields.{listLimit}
-use Rattle.job_bytes.specs.Below.{AllBelow, none, AllFit}
+use Rattle.job_bytes.specs.Below.{AllBelow, AllFit}
 use Rattle.job.specs.declared.Kind.{Kind}
 use Rattle.job.specs.declared.Kind.the-variants as K
 use Rattle.job.specs.declared.Element.{Element}
@@ -25,7 +25,7 @@ use Rattle.job.specs.declared.Spec.{Spec}
 use Rattle.job.specs.declared.Job.{Job}
 use Rattle.job.specs.declared.MadeJob.{MadeJob}
 use Rattle.job.specs.Jobs.{heldList, viewOf, viewsOf, specOf, listAtMost, viewsRefusal, listsRefusal, madeJob, jobFrom}
-use Rattle.job.specs.Made.{MadeView, MadeList, MadeSizes, MadeSpec, Made}
+use Rattle.job.specs.Made.{MadeView, MadeList, MadeSizes, Made}
 
 pub making : (kind : Kind) (element : Element) (e1 : List ℕ) (s1 : List ℤ) (o1 : ℤ) (e2 : List ℕ) (s2 : List ℤ) (o2 : ℤ) (e3 : List ℕ) (s3 : List ℤ) (o3 : ℤ) (window unit map : List ℕ) (vector : ℕ) (sizes : List ℕ)
     → (r : MadeJob) (x a b : Answer) (j : Job) (f g h : View) (sp : Spec) (lw lu lm ls : List16) → r ≡ madeJob x j → x ≡ orElse a b

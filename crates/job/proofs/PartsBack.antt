@@ -1,25 +1,23 @@
 -- Views and lists written and read back, and read and written again. Assumes nothing.
 use mathlib.Core.Path.{_≡_, refl, sym, ap, ap₂, _∙_, subst}
 use mathlib.Core.List.{List, [], _∷_, _++_, map}
-use Prim.Native.Nat.{ℕ, zero, suc, _+_, _-_, _*_, _^_, _≤_, _<_}
+use Prim.Native.Nat.{ℕ, _+_, _-_, _^_, _≤_, _<_}
 use native.Mathlib.Omega.{arith}
-use lib.ListN.{length, take, replicate, length-append, length-map}
+use lib.ListN.{length, take, replicate, length-map}
 use lib.Seq.{take-all, take-append-seam}
 use lib.IntN.{ℤ, pos}
 use mir.Syntax.{w64}
-use mir.Val.{SFits, ofZ, toZ}
+use mir.Val.{SFits}
 use mir.Facts.{toZ-ofZ, ofZ-toZ, fits-ofZ, sfits-toZ}
 use Rattle.layout.specs.declared.View.{View}
-use Rattle.layout.specs.Layouts.{rankLimit, padded, extentsOf, stridesOf}
-use Rattle.job_bytes.specs.Fields.{Field, read, fault, andThen, bytesOf, wordsOf, wordOf, signedOf, numberAt, byteAt, wordsAt, listLimit}
+use Rattle.layout.specs.Layouts.{rankLimit, padded}
+use Rattle.job_bytes.specs.Fields.{read, bytesOf, wordsOf, wordOf, signedOf, numberAt, byteAt, wordsAt, listLimit}
 use Rattle.job_bytes.specs.Below.{AllBelow, none, more, AllFit, fit-none, fit-more}
-use Rattle.job_bytes.proofs.Putting.{length-bytes, length-words}
 use Rattle.job_bytes.proofs.Reading.{then-read, byte-range, words-count}
 use Rattle.job_bytes.proofs.Back.{Here, here-front, here-behind, here-both, number-held, number-holds, byte-held, byte-holds, words-held, words-hold}
-use Rattle.job.specs.declared.List16.{List16}
-use Rattle.job.specs.Jobs.{heldList, entriesOf, viewOf}
+use Rattle.job.specs.Jobs.{heldList, viewOf}
 use Rattle.job.specs.Format.{viewBytes, listBytes, viewAt, listAt}
-use Rattle.job.specs.Made.{MadeView, MadeList}
+use Rattle.job.specs.Made.{MadeView}
 
 -- ---- two's complement there and back
 word-fits : (z : ℤ) → SFits w64 z → wordOf z < 2 ^ 64

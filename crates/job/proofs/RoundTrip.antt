@@ -1,17 +1,15 @@
 -- "Writing and reading back gives the same job", and reading and writing gives the same bytes. Assumes nothing.
 use mathlib.Core.Path.{_≡_, refl, sym, ap, ap₂, _∙_, subst}
 use mathlib.Core.Bool.{Bool, true, false, cond}
-use mathlib.Core.List.{List, [], _∷_, _++_, map}
-use Prim.Native.Nat.{ℕ, zero, suc, _+_, _-_, _*_, _^_, _≤_, _<_}
+use mathlib.Core.List.{List, [], _++_, map}
+use Prim.Native.Nat.{ℕ, _+_, _-_, _^_, _≤_, _<_}
 use native.Mathlib.Omega.{arith}
 use borrow.Author.Tests.{eq-eqb, eqb-true, eqb-false}
 use lib.Dec.{eqb}
 use lib.ListN.{length, length-append, length-map}
-use lib.IntN.{ℤ}
 use Rattle.layout.specs.declared.View.{View}
-use Rattle.layout.specs.Layouts.{rankLimit}
-use Rattle.job_bytes.specs.Fields.{Field, read, fault, andThen, bytesOf, wordsOf, wordOf, numberAt, byteAt, listLimit}
-use Rattle.job_bytes.specs.Below.{AllBelow, none}
+use Rattle.job_bytes.specs.Fields.{Field, read, fault, andThen, bytesOf, wordsOf, wordOf, numberAt, byteAt}
+use Rattle.job_bytes.specs.Below.{AllBelow}
 use Rattle.job_bytes.proofs.Putting.{length-bytes, length-words}
 use Rattle.job_bytes.proofs.Reading.{then-read, byte-range, fault-read}
 use Rattle.job_bytes.proofs.Back.{Here, here-all, here-whole, here-front, here-behind, here-both, number-held, number-holds, byte-held, byte-holds}
@@ -23,10 +21,10 @@ use Rattle.job.specs.declared.List16.{List16}
 use Rattle.job.specs.declared.Views.{Views}
 use Rattle.job.specs.declared.Spec.{Spec}
 use Rattle.job.specs.declared.Job.{Job}
-use Rattle.job.specs.Jobs.{heldList, viewOf, viewsOf, specOf}
+use Rattle.job.specs.Jobs.{heldList, viewsOf, specOf}
 use Rattle.job.specs.Format.{version, kindByte, kindOf, elementByte, elementOf, viewBytes, listBytes, sizesBytes, specBytes, viewsBytes, bodyBytes, encoded, viewAt, listAt, sizesAt, specAt, viewsAt, countAt, headAt, jobAt}
 use Rattle.job.specs.Made.{MadeView, MadeList, MadeSizes, MadeSpec, Made}
-use Rattle.job.proofs.PartsBack.{list-bytes, view-bytes, list-held, ListRead, list-holds, view-held, ViewRead, view-holds}
+use Rattle.job.proofs.PartsBack.{list-bytes, view-bytes, list-held, ListRead, list-holds, view-held, view-holds}
 
 -- ---- the sizes of a spec
 made-list-held : (bs : List ℕ) (at : ℕ) (l : List16) (k : ℕ) (m : MadeList l) → Here bs at (listBytes l) k → listAt bs at ≡ read (m .entries) k

@@ -1,10 +1,9 @@
 -- Document 01, "The stored job (added)": the format, written and read. Definitions only.
-use mathlib.Core.Bool.{Bool, true, false, cond}
-use mathlib.Core.List.{List, [], _∷_, _++_, map}
+use mathlib.Core.Bool.{cond}
+use mathlib.Core.List.{List, [], _++_, map}
 use Prim.Native.Nat.{ℕ, _+_}
-use lib.Dec.{eqb, leb}
+use lib.Dec.{eqb}
 use lib.ListN.{length}
-use lib.IntN.{ℤ}
 use Rattle.layout.specs.declared.View.{View}
 use Rattle.layout.specs.Layouts.{rankLimit, extentsOf, stridesOf}
 use Rattle.job_bytes.specs.Fields.{Field, read, fault, andThen, bytesOf, wordsOf, wordOf, signedOf, numberAt, byteAt, wordsAt, listLimit}
@@ -16,7 +15,7 @@ use Rattle.job.specs.declared.List16.{List16}
 use Rattle.job.specs.declared.Views.{Views}
 use Rattle.job.specs.declared.Spec.{Spec}
 use Rattle.job.specs.declared.Job.{Job}
-use Rattle.job.specs.Jobs.{heldList, entriesOf, viewOf, viewsOf, specOf}
+use Rattle.job.specs.Jobs.{entriesOf, viewOf, viewsOf, specOf}
 
 -- "version byte 1"
 abbrev pub version : ℕ

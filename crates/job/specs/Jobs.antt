@@ -1,6 +1,6 @@
 -- A job by value, from extents, strides, offsets and lists: the refusals 1, 2 and 5. Definitions only.
 use mathlib.Core.Bool.{cond}
-use mathlib.Core.List.{List, [], _∷_}
+use mathlib.Core.List.{List, []}
 use Prim.Native.Nat.{ℕ}
 use lib.Dec.{leb}
 use lib.ListN.{length, take}

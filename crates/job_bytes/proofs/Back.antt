@@ -1,20 +1,20 @@
 -- Fields written and read back, and read and written again. Assumes nothing.
 use mathlib.Core.Path.{_≡_, refl, sym, ap, ap₂, _∙_, subst}
 use mathlib.Core.Bool.{Bool, true, false, cond, _&&_}
-use mathlib.Core.List.{List, [], _∷_, _++_, map, append-assoc}
+use mathlib.Core.List.{List, [], _∷_, _++_}
 use Prim.Native.Nat.{ℕ, zero, suc, _+_, _-_, _*_, _/_, _%_, _^_, _≤_, _<_}
-use native.Mathlib.Nat.{mul-le-mul-right, mod-one, mod-eq-of-lt, mul-add-mod-self-right, mod-lt}
+use native.Mathlib.Nat.{mul-le-mul-right, mod-one, mod-eq-of-lt, mul-add-mod-self-right}
 use native.Mathlib.Numerals.{add-one}
 use native.Mathlib.Omega.{arith}
 use lib.Dec.{leb}
 use lib.ListN.{length, take, drop, length-append, length-take, length-drop}
 use lib.Seq.{take-append-seam, drop-append-seam, take-add, take-take, take-length, drop-drop, take-all}
-use lib.Pow.{pow-add, pow-pos, mod-pow-add, high}
+use lib.Pow.{mod-pow-add, high}
 use Rattle.job_bytes.specs.Fields.{Field, read, fault, andThen, bytesOf, wordsOf, numberFrom, numberAt, byteAt, wordsAt}
 use Rattle.job_bytes.specs.Below.{AllBelow, none, more}
 use Rattle.job_bytes.proofs.Counting.{eight-more}
-use Rattle.job_bytes.proofs.Putting.{length-bytes, length-words}
-use Rattle.job_bytes.proofs.Reading.{then-read, number-here, number-room, byte-here, byte-range, fault-read}
+use Rattle.job_bytes.proofs.Putting.{length-bytes}
+use Rattle.job_bytes.proofs.Reading.{then-read, number-here, number-room, byte-here, fault-read}
 
 -- ---- a number and its bytes
 eight-suc : (k : ℕ) → 2 ^ (8 * suc k) ≡ 2 ^ (8 * k) * 256

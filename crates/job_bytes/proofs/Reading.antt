@@ -1,13 +1,13 @@
 -- Fields read one after another. Assumes nothing.
-use mathlib.Core.Path.{_≡_, refl, sym, ap, ap₂, _∙_, subst}
+use mathlib.Core.Path.{_≡_, refl, sym, ap, _∙_}
 use mathlib.Core.Bool.{Bool, true, false, cond, _&&_}
 use mathlib.Core.List.{List, [], _∷_, _++_, append-assoc, append-nil}
-use Prim.Native.Nat.{ℕ, zero, suc, _+_, _-_, _*_, _^_, _≤_, _<_}
+use Prim.Native.Nat.{ℕ, zero, suc, _+_, _-_, _≤_, _<_}
 use native.Mathlib.Numerals.{add-one}
 use native.Mathlib.Omega.{arith}
 use borrow.Author.Tests.{le-leb, lt-leb, leb-true}
 use lib.Dec.{leb}
-use lib.ListN.{length, take, drop, getD, set, replicate, length-set, take-append-drop, length-take}
+use lib.ListN.{length, take, drop, getD, set, replicate, length-set, take-append-drop}
 use lib.Seq.{take-suc-set, drop-set-lt, drop-cons, take-all, length-take-le, take-append-seam}
 use Rattle.layout.specs.Layouts.{padded}
 use Rattle.job_bytes.specs.Fields.{Field, read, fault, andThen, numberFrom, numberAt, byteAt, wordsAt, listLimit, heldNumber, heldWords}

@@ -1,14 +1,13 @@
 -- Words as signed numbers in two's complement. Assumes nothing.
-use mathlib.Core.Path.{_≡_, refl, sym, ap, _∙_}
-use Prim.Native.Nat.{ℕ, suc, _+_, _-_, _^_, _≤_, _<_}
+use mathlib.Core.Path.{_≡_, ap, _∙_}
+use Prim.Native.Nat.{ℕ, suc, _-_, _^_, _≤_, _<_}
 use native.Mathlib.Omega.{arith}
-use borrow.Author.Tests.{le-ltb, lt-ltb}
 use lib.IntN.{ℤ, pos, negsuc, _-ℤ_}
-use lib.Signed.{_≤ℤ_, _<ℤ_}
+use lib.Signed.{_<ℤ_}
 use mir.Syntax.{w64}
 use mir.Val.{ofZ, toZ}
 use mir.Facts.{toZ-pos, toZ-neg}
-use Rattle.integer.specs.Z.{znorm, zflat, zfacts}
+use Rattle.integer.specs.Z.{znorm, zflat}
 
 -- a word of the upper half
 pub high-word : (w : ℕ) → 9223372036854775808 ≤ w → w < 18446744073709551616 → (negsuc 0 -ℤ toZ w64 (18446744073709551615 - w)) ≡ toZ w64 w

@@ -1,19 +1,17 @@
 -- The parts of a job, read field after field: where one is at fault, and what they come to. Assumes nothing.
 use mathlib.Core.Path.{_≡_, refl, sym, ap, ap₂, _∙_}
-use mathlib.Core.Bool.{Bool, true, false, cond}
-use mathlib.Core.List.{List, [], _∷_, _++_, map}
-use Prim.Native.Nat.{ℕ, zero, suc, _+_, _-_, _≤_, _<_, min}
-use native.Mathlib.Numerals.{add-one}
+use mathlib.Core.Bool.{true, false}
+use mathlib.Core.List.{List, _++_, map}
+use Prim.Native.Nat.{ℕ, _+_, _-_, _≤_, _<_, min}
 use native.Mathlib.Omega.{arith}
 use borrow.Author.Tests.{eq-eqb, ne-eqb}
-use lib.Dec.{eqb}
-use lib.ListN.{length, take, drop, getD, set, replicate, length-take, length-map, List·getD-map}
-use lib.Seq.{getD-take, length-take-le, take-all}
+use lib.ListN.{length, take, getD, set, replicate, length-take, length-map, List·getD-map}
+use lib.Seq.{getD-take}
 use lib.IntN.{ℤ, pos}
 use Rattle.layout.specs.declared.View.{View}
 use Rattle.layout.specs.Layouts.{rankLimit, padded}
 use Rattle.layout.proofs.Fill.{fill-one, fill-short, fill-full}
-use Rattle.job_bytes.specs.Fields.{Field, read, fault, andThen, signedOf, numberAt, byteAt, wordsAt, listLimit, heldWords}
+use Rattle.job_bytes.specs.Fields.{Field, read, fault, signedOf, numberAt, byteAt, wordsAt, listLimit, heldWords}
 use Rattle.job_bytes.specs.declared.Words.{Words}
 use Rattle.job_bytes.proofs.Reading.{words-count, byte-range}
 use Rattle.job.specs.declared.Kind.{Kind}

@@ -1,9 +1,8 @@
 -- Parts of a job as bytes: how many they are, and one stored behind another. Assumes nothing.
 use mathlib.Core.Path.{_≡_, refl, sym, ap, ap₂, _∙_}
-use mathlib.Core.Bool.{Bool, true, false, cond}
+use mathlib.Core.Bool.{true, false}
 use mathlib.Core.List.{List, [], _∷_, _++_, append-nil, map}
 use Prim.Native.Nat.{ℕ, zero, suc, _+_, _-_, _*_, _≤_, _<_, min}
-use native.Mathlib.Numerals.{add-one}
 use native.Mathlib.Omega.{arith}
 use native.Mathlib.Nat.{zero-add}
 use borrow.Author.Tests.{le-leb, lt-leb}
@@ -13,7 +12,7 @@ use lib.Seq.{sets, length-sets, sets-eq, take-all}
 use lib.IntN.{ℤ, pos}
 use Rattle.layout.specs.declared.Answer.the-variants as A
 use Rattle.layout.specs.declared.View.{View}
-use Rattle.layout.specs.Layouts.{rankLimit, padded, extentsOf, stridesOf}
+use Rattle.layout.specs.Layouts.{rankLimit, extentsOf, stridesOf}
 use Rattle.layout.proofs.Fill.{fill-one}
 use Rattle.axis_lists.proofs.Filling.{take-count}
 use Rattle.job_bytes.specs.Fields.{bytesOf, wordsOf, wordOf, listLimit}

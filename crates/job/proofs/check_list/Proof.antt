@@ -1,10 +1,6 @@
-use mathlib.Core.Path.{_≡_, refl, sym, ap, _∙_}
 use borrow.Author.Tests.{le-leb, lt-leb}
-use borrow.Author.Needs.{needs}
 use Rattle.job.proofs.check_list.Statement.{statement}
 use Rattle.job.proofs.check_list.Tie as tie
-use Rattle.job.proofs.check_list.Reads as reads
-use Rattle.job.proofs.check_list.Lts as lts
 
 returns : tie.Need-returns
 returns c = rw (le-leb _ _ (c .if1 .taken))

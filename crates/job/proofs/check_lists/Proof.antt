@@ -1,12 +1,7 @@
-use mathlib.Core.Path.{_≡_, refl, sym, ap, _∙_}
 use Rattle.job.specs.Jobs.{listsRefusal}
 use borrow.Author.Needs.{needs}
 use Rattle.job.proofs.check_lists.Statement.{statement}
 use Rattle.job.proofs.check_lists.Tie as tie
-use Rattle.job.proofs.check_lists.Reads as reads
-use Rattle.job.proofs.check_lists.Lts as lts
-use Rattle.checks.proofs.or_else.Reads as or-else-reads
-use Rattle.job.proofs.check_list.Reads as check-list-reads
 
 check-list-requires : tie.Need-check-list-requires
 check-list-requires c κs = search needs

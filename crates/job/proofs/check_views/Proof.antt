@@ -1,13 +1,7 @@
-use mathlib.Core.Path.{_≡_, refl, sym, ap, _∙_}
 use Rattle.job.specs.Jobs.{viewsRefusal}
 use borrow.Author.Needs.{needs}
 use Rattle.job.proofs.check_views.Statement.{statement}
 use Rattle.job.proofs.check_views.Tie as tie
-use Rattle.job.proofs.check_views.Reads as reads
-use Rattle.job.proofs.check_views.Lts as lts
-use Rattle.checks.proofs.or_else.Reads as or-else-reads
-use Rattle.layout.proofs.check_rank.Reads as check-rank-reads
-use Rattle.layout.proofs.check_stride_length.Reads as check-stride-length-reads
 
 check-stride-length-requires : tie.Need-check-stride-length-requires
 check-stride-length-requires c κs = search needs

@@ -1,5 +1,5 @@
-use mathlib.Core.Path.{_≡_, refl, sym, ap, _∙_}
-use borrow.Author.Tests.{ltb-true, ltb-false, le-leb, lt-leb}
+use mathlib.Core.Path.{_≡_, refl, ap, _∙_}
+use borrow.Author.Tests.{ltb-true, ltb-false}
 use native.Mathlib.Omega.{arith}
 use Prim.Native.Nat.{_≤_, _-_}
 use lib.ListN.{length, take, getD, replicate}
@@ -7,12 +7,9 @@ use mathlib.Core.List.{List, _++_}
 use Prim.Native.Nat.{ℕ, _≤_, _-_}
 use lib.ListN.{length, take, getD, set, replicate}
 use Rattle.layout.proofs.Fill.{fill-one, fill-short, fill-full}
-use Rattle.job.specs.declared.List16.{List16}
 use borrow.Author.Needs.{needs}
 use Rattle.job.proofs.list_from.Statement.{statement}
 use Rattle.job.proofs.list_from.Tie as tie
-use Rattle.job.proofs.list_from.Reads as reads
-use Rattle.job.proofs.list_from.Lts as lts
 
 abbrev Inv-loop : tie.InvT-loop
 Inv-loop list entries₀ i₀ entries i = (i ≤ length list) × (i ≤ 16) × (entries ≡ take i list ++ replicate (16 - i) 0)

@@ -1,11 +1,7 @@
-use mathlib.Core.Path.{_≡_, refl, sym, ap, _∙_}
+use mathlib.Core.Path.{sym, _∙_}
 use borrow.Author.Needs.{needs}
 use Rattle.job.proofs.made_job.Statement.{statement}
 use Rattle.job.proofs.made_job.Tie as tie
-use Rattle.job.proofs.made_job.Reads as reads
-use Rattle.job.proofs.made_job.Lts as lts
-use Rattle.job.proofs.no_job.Reads as no-job-reads
-use Rattle.layout.proofs.is_done.Reads as is-done-reads
 
 is-done-requires : tie.Need-is-done-requires
 is-done-requires c κs = search needs

@@ -1,20 +1,10 @@
-use mathlib.Core.Path.{_≡_, refl, sym, ap, _∙_}
+use mathlib.Core.Path.{ap, _∙_}
 use Rattle.integer.specs.Z.{back}
 use Rattle.job.specs.Jobs.{viewOf}
 use Rattle.job.proofs.Making.{making}
 use borrow.Author.Needs.{needs}
 use Rattle.job.proofs.make_gather_job.Statement.{statement}
 use Rattle.job.proofs.make_gather_job.Tie as tie
-use Rattle.job.proofs.make_gather_job.Reads as reads
-use Rattle.job.proofs.make_gather_job.Lts as lts
-use Rattle.checks.proofs.or_else.Reads as or-else-reads
-use Rattle.job.proofs.check_lists.Reads as check-lists-reads
-use Rattle.job.proofs.check_views.Reads as check-views-reads
-use Rattle.job.proofs.job_from.Reads as job-from-reads
-use Rattle.job.proofs.list_from.Reads as list-from-reads
-use Rattle.job.proofs.made_job.Reads as made-job-reads
-use Rattle.job.proofs.spec_from.Reads as spec-from-reads
-use Rattle.job.proofs.view_from.Reads as view-from-reads
 
 check-views-requires : tie.Need-check-views-requires
 check-views-requires c κs = search needs

@@ -1,11 +1,6 @@
-use mathlib.Core.Path.{_≡_, refl, sym, ap, _∙_}
 use borrow.Author.Needs.{needs}
 use Rattle.job.proofs.no_job.Statement.{statement}
 use Rattle.job.proofs.no_job.Tie as tie
-use Rattle.job.proofs.no_job.Reads as reads
-use Rattle.job.proofs.no_job.Lts as lts
-use Rattle.job.proofs.no_spec.Reads as no-spec-reads
-use Rattle.job.proofs.no_view.Reads as no-view-reads
 
 no-view-requires : tie.Need-no-view-requires
 no-view-requires c κs = search needs

@@ -1,9 +1,6 @@
 use borrow.Author.Needs.{needs}
 use Rattle.job.proofs.no_spec.Statement.{statement}
 use Rattle.job.proofs.no_spec.Tie as tie
-use Rattle.job.proofs.no_spec.Reads as reads
-use Rattle.job.proofs.no_spec.Lts as lts
-use Rattle.job.proofs.no_list.Reads as no-list-reads
 
 no-list-requires : tie.Need-no-list-requires
 no-list-requires c κs = search needs

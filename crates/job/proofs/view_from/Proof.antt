@@ -1,12 +1,7 @@
-use mathlib.Core.Path.{_≡_, refl, sym, ap, _∙_}
 use Rattle.integer.specs.Z.{back}
 use borrow.Author.Needs.{needs}
 use Rattle.job.proofs.view_from.Statement.{statement}
 use Rattle.job.proofs.view_from.Tie as tie
-use Rattle.job.proofs.view_from.Reads as reads
-use Rattle.job.proofs.view_from.Lts as lts
-use Rattle.layout.proofs.padded_extents.Reads as padded-extents-reads
-use Rattle.layout.proofs.padded_strides.Reads as padded-strides-reads
 
 padded-extents-requires : tie.Need-padded-extents-requires
 padded-extents-requires c κs = search needs

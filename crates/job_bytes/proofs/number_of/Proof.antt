@@ -1,14 +1,9 @@
 use native.Mathlib.Omega.{arith}
-use Prim.Native.Nat.{_+_, _-_, _*_}
+use Prim.Native.Nat.{_+_, _-_}
 use Rattle.job_bytes.proofs.Counting.{Counting, no-byte, one-byte, word-room, all-bytes}
 use borrow.Author.Needs.{needs}
-use mathlib.Core.Path.{sym}
-use lib.ListN.{getD}
 use Rattle.job_bytes.proofs.number_of.Statement.{statement}
 use Rattle.job_bytes.proofs.number_of.Tie as tie
-use Rattle.job_bytes.proofs.number_of.Reads as reads
-use Rattle.job_bytes.proofs.number_of.Lts as lts
-use Rattle.job_bytes.proofs.wide.Reads as wide-reads
 
 abbrev Inv-loop : tie.InvT-loop
 Inv-loop bytes at width value₀ i₀ value i = Counting bytes at width value i

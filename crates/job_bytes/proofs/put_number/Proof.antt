@@ -1,12 +1,8 @@
-use native.Mathlib.Omega.{arith}
-use Prim.Native.Nat.{_+_, _-_, _*_}
+use Prim.Native.Nat.{_-_}
 use Rattle.job_bytes.proofs.Putting.{Putting, none-put, one-put, all-put}
 use borrow.Author.Needs.{needs}
 use Rattle.job_bytes.proofs.put_number.Statement.{statement}
 use Rattle.job_bytes.proofs.put_number.Tie as tie
-use Rattle.job_bytes.proofs.put_number.Reads as reads
-use Rattle.job_bytes.proofs.put_number.Lts as lts
-use Rattle.job_bytes.proofs.digit.Reads as digit-reads
 
 abbrev Inv-loop : tie.InvT-loop
 Inv-loop out₀ at width value i₀ out i = Putting out₀ at width value out i

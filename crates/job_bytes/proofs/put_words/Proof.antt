@@ -1,13 +1,9 @@
-use native.Mathlib.Omega.{arith}
-use Prim.Native.Nat.{_+_, _-_, _*_}
+use Prim.Native.Nat.{_-_}
 use lib.ListN.{length}
 use Rattle.job_bytes.proofs.Putting.{PuttingWords, no-word-put, word-put, all-words-put}
 use borrow.Author.Needs.{needs}
 use Rattle.job_bytes.proofs.put_words.Statement.{statement}
 use Rattle.job_bytes.proofs.put_words.Tie as tie
-use Rattle.job_bytes.proofs.put_words.Reads as reads
-use Rattle.job_bytes.proofs.put_words.Lts as lts
-use Rattle.job_bytes.proofs.put_number.Reads as put-number-reads
 
 abbrev Inv-loop : tie.InvT-loop
 Inv-loop out₀ at words i₀ out i = PuttingWords out₀ at words out i

@@ -1,15 +1,10 @@
 use borrow.Author.Tests.{not-true, not-false}
 use mathlib.Core.Path.{_∙_, sym, ap}
-use native.Mathlib.Omega.{arith}
 use Rattle.job_bytes.specs.Fields.{heldNumber}
 use Rattle.job_bytes.proofs.Reading.{number-read, number-fault, byte-fault, byte-low, byte-high, byte-here}
 use borrow.Author.Needs.{needs}
 use Rattle.job_bytes.proofs.read_byte.Statement.{statement}
 use Rattle.job_bytes.proofs.read_byte.Tie as tie
-use Rattle.job_bytes.proofs.read_byte.Reads as reads
-use Rattle.job_bytes.proofs.read_byte.Lts as lts
-use Rattle.job_bytes.proofs.no_number.Reads as no-number-reads
-use Rattle.job_bytes.proofs.read_number.Reads as read-number-reads
 
 read-number-requires : tie.Need-read-number-requires
 read-number-requires c κs = search needs

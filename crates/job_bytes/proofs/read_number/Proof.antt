@@ -5,10 +5,6 @@ use Rattle.job_bytes.proofs.Reading.{number-cut, number-here}
 use borrow.Author.Needs.{needs}
 use Rattle.job_bytes.proofs.read_number.Statement.{statement}
 use Rattle.job_bytes.proofs.read_number.Tie as tie
-use Rattle.job_bytes.proofs.read_number.Reads as reads
-use Rattle.job_bytes.proofs.read_number.Lts as lts
-use Rattle.job_bytes.proofs.no_number.Reads as no-number-reads
-use Rattle.job_bytes.proofs.number_of.Reads as number-of-reads
 
 no-number-requires : tie.Need-no-number-requires
 no-number-requires c κs = search needs

@@ -1,17 +1,11 @@
 use borrow.Author.Tests.{not-true, not-false}
 use mathlib.Core.Path.{_∙_, sym, ap}
-use native.Mathlib.Omega.{arith}
-use Prim.Native.Nat.{_+_, _-_, _*_}
-use lib.ListN.{length}
+use Prim.Native.Nat.{_-_}
 use Rattle.job_bytes.specs.Fields.{heldWords}
 use Rattle.job_bytes.proofs.Reading.{Reading, no-word, word-stops, word-more, all-words, number-read, number-fault}
 use borrow.Author.Needs.{needs}
 use Rattle.job_bytes.proofs.read_words.Statement.{statement}
 use Rattle.job_bytes.proofs.read_words.Tie as tie
-use Rattle.job_bytes.proofs.read_words.Reads as reads
-use Rattle.job_bytes.proofs.read_words.Lts as lts
-use Rattle.job_bytes.proofs.no_words.Reads as no-words-reads
-use Rattle.job_bytes.proofs.read_number.Reads as read-number-reads
 
 abbrev Inv-loop : tie.InvT-loop
 Inv-loop bytes at n entries₀ place₀ i₀ entries place i = Reading n bytes at entries place i

@@ -6,8 +6,6 @@ use Rattle.job_bytes.proofs.Signs.{high-word}
 use borrow.Author.Needs.{needs}
 use Rattle.job_bytes.proofs.signed_word.Statement.{statement}
 use Rattle.job_bytes.proofs.signed_word.Tie as tie
-use Rattle.job_bytes.proofs.signed_word.Reads as reads
-use Rattle.job_bytes.proofs.signed_word.Lts as lts
 
 cast-result : tie.Need-cast-result
 cast-result c = search needs

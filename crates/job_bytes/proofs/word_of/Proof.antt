@@ -1,4 +1,3 @@
-use borrow.Author.Needs.{needs}
 use mathlib.Core.Path.{_∙_, ap}
 use native.Mathlib.Omega.{arith}
 use lib.IntN.{ℤ, pos, negsuc, _-ℤ_}
@@ -11,8 +10,6 @@ use Rattle.integer.specs.Machine.{as-u64, u64-is}
 use Rattle.job_bytes.proofs.Signs.{low-word, plain-word}
 use Rattle.job_bytes.proofs.word_of.Statement.{statement}
 use Rattle.job_bytes.proofs.word_of.Tie as tie
-use Rattle.job_bytes.proofs.word_of.Reads as reads
-use Rattle.job_bytes.proofs.word_of.Lts as lts
 
 sub-result : tie.Need-sub-result
 sub-result c = simp znorm (simp zflat (omega (arith, zfacts, known (c .before .fits .number))))

@@ -1,9 +1,6 @@
 use borrow.Author.Tests.{eq-eqb, ne-eqb}
-use borrow.Author.Needs.{needs}
 use Rattle.job_reader.proofs.element_of.Statement.{statement}
 use Rattle.job_reader.proofs.element_of.Tie as tie
-use Rattle.job_reader.proofs.element_of.Reads as reads
-use Rattle.job_reader.proofs.element_of.Lts as lts
 
 returns : tie.Need-returns
 returns c = rw (eq-eqb _ _ (c .if1 .taken))

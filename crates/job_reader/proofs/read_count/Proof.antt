@@ -1,4 +1,4 @@
-use mathlib.Core.Path.{_≡_, refl, sym, ap, _∙_}
+use mathlib.Core.Path.{sym, ap, _∙_}
 use borrow.Author.Tests.{not-true, not-false}
 use native.Mathlib.Omega.{arith}
 use Rattle.job_bytes.specs.Fields.{heldNumber}
@@ -7,10 +7,6 @@ use Rattle.job_reader.proofs.Chains.{count-1, count-2, count-3}
 use borrow.Author.Needs.{needs}
 use Rattle.job_reader.proofs.read_count.Statement.{statement}
 use Rattle.job_reader.proofs.read_count.Tie as tie
-use Rattle.job_reader.proofs.read_count.Reads as reads
-use Rattle.job_reader.proofs.read_count.Lts as lts
-use Rattle.job_bytes.proofs.no_number.Reads as no-number-reads
-use Rattle.job_bytes.proofs.read_number.Reads as read-number-reads
 
 read-number-requires : tie.Need-read-number-requires
 read-number-requires c κs = search needs

@@ -1,19 +1,11 @@
-use mathlib.Core.Path.{_≡_, refl, sym, ap, _∙_}
+use mathlib.Core.Path.{sym, ap, _∙_}
 use borrow.Author.Tests.{not-true, not-false}
-use native.Mathlib.Omega.{arith}
 use Rattle.job_reader.specs.Held.{heldHead}
 use Rattle.job_bytes.proofs.Reading.{number-read, number-fault}
 use Rattle.job_reader.proofs.Chains.{head-1, head-2, head-3, head-4, head-5, head-held}
 use borrow.Author.Needs.{needs}
 use Rattle.job_reader.proofs.read_head.Statement.{statement}
 use Rattle.job_reader.proofs.read_head.Tie as tie
-use Rattle.job_reader.proofs.read_head.Reads as reads
-use Rattle.job_reader.proofs.read_head.Lts as lts
-use Rattle.job_reader.proofs.element_of.Reads as element-of-reads
-use Rattle.job_reader.proofs.head_fault.Reads as head-fault-reads
-use Rattle.job_reader.proofs.kind_of.Reads as kind-of-reads
-use Rattle.job_reader.proofs.read_count.Reads as read-count-reads
-use Rattle.job_bytes.proofs.read_byte.Reads as read-byte-reads
 
 read-count-requires : tie.Need-read-count-requires
 read-count-requires c κs = search needs

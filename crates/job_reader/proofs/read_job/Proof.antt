@@ -1,17 +1,10 @@
-use mathlib.Core.Path.{_≡_, refl, sym, ap, _∙_}
+use mathlib.Core.Path.{sym, ap, _∙_}
 use borrow.Author.Tests.{not-true, not-false}
-use native.Mathlib.Omega.{arith}
 use Rattle.job_reader.specs.Held.{readJob}
 use Rattle.job_reader.proofs.Chains.{got-head, no-head, got-views, no-views, got-spec, no-spec, job-1, job-2, job-3, job-4, job-5}
 use borrow.Author.Needs.{needs}
 use Rattle.job_reader.proofs.read_job.Statement.{statement}
 use Rattle.job_reader.proofs.read_job.Tie as tie
-use Rattle.job_reader.proofs.read_job.Reads as reads
-use Rattle.job_reader.proofs.read_job.Lts as lts
-use Rattle.job_reader.proofs.job_fault.Reads as job-fault-reads
-use Rattle.job_reader.proofs.read_head.Reads as read-head-reads
-use Rattle.job_reader.proofs.read_spec.Reads as read-spec-reads
-use Rattle.job_reader.proofs.read_views.Reads as read-views-reads
 
 read-head-requires : tie.Need-read-head-requires
 read-head-requires c κs = search needs

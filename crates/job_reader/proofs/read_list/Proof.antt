@@ -1,17 +1,11 @@
-use mathlib.Core.Path.{_≡_, refl, sym, ap, _∙_}
+use mathlib.Core.Path.{refl, sym, ap, _∙_}
 use borrow.Author.Tests.{not-true, not-false}
-use native.Mathlib.Omega.{arith}
 use Rattle.job_reader.specs.Held.{heldEntries}
 use Rattle.job_bytes.proofs.Reading.{number-read, number-fault, byte-range, words-fault}
 use Rattle.job_reader.proofs.Chains.{list-1, list-2, list-held}
 use borrow.Author.Needs.{needs}
 use Rattle.job_reader.proofs.read_list.Statement.{statement}
 use Rattle.job_reader.proofs.read_list.Tie as tie
-use Rattle.job_reader.proofs.read_list.Reads as reads
-use Rattle.job_reader.proofs.read_list.Lts as lts
-use Rattle.job_reader.proofs.list_fault.Reads as list-fault-reads
-use Rattle.job_bytes.proofs.read_byte.Reads as read-byte-reads
-use Rattle.job_bytes.proofs.read_words.Reads as read-words-reads
 
 read-byte-requires : tie.Need-read-byte-requires
 read-byte-requires c κs = search needs

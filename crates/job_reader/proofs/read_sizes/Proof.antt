@@ -1,11 +1,7 @@
-use mathlib.Core.Path.{_≡_, refl, sym, ap, _∙_}
 use Rattle.job.specs.Format.{sizesAt}
 use borrow.Author.Needs.{needs}
 use Rattle.job_reader.proofs.read_sizes.Statement.{statement}
 use Rattle.job_reader.proofs.read_sizes.Tie as tie
-use Rattle.job_reader.proofs.read_sizes.Reads as reads
-use Rattle.job_reader.proofs.read_sizes.Lts as lts
-use Rattle.job_reader.proofs.read_list.Reads as read-list-reads
 
 enum-told : tie.Need-enum-told
 enum-told c = search needs

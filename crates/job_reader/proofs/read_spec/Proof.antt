@@ -1,18 +1,11 @@
-use mathlib.Core.Path.{_≡_, refl, sym, ap, _∙_}
+use mathlib.Core.Path.{sym, ap, _∙_}
 use borrow.Author.Tests.{not-true, not-false}
-use native.Mathlib.Omega.{arith}
 use Rattle.job_reader.specs.Held.{heldSpec}
 use Rattle.job_bytes.proofs.Reading.{number-read, number-fault}
 use Rattle.job_reader.proofs.Chains.{got-list, no-list, spec-1, spec-2, spec-3, spec-4, spec-5, spec-6, spec-held}
 use borrow.Author.Needs.{needs}
 use Rattle.job_reader.proofs.read_spec.Statement.{statement}
 use Rattle.job_reader.proofs.read_spec.Tie as tie
-use Rattle.job_reader.proofs.read_spec.Reads as reads
-use Rattle.job_reader.proofs.read_spec.Lts as lts
-use Rattle.job_reader.proofs.read_list.Reads as read-list-reads
-use Rattle.job_reader.proofs.read_sizes.Reads as read-sizes-reads
-use Rattle.job_reader.proofs.spec_fault.Reads as spec-fault-reads
-use Rattle.job_bytes.proofs.read_number.Reads as read-number-reads
 
 read-list-requires : tie.Need-read-list-requires
 read-list-requires c κs = search needs

@@ -1,6 +1,5 @@
-use mathlib.Core.Path.{_≡_, refl, sym, ap, _∙_}
+use mathlib.Core.Path.{sym, ap, _∙_}
 use borrow.Author.Tests.{not-true, not-false}
-use native.Mathlib.Omega.{arith}
 use mir.Syntax.{w64}
 use mir.Val.{SFits}
 use Rattle.integer.specs.Z.{back}
@@ -10,15 +9,6 @@ use Rattle.job_reader.proofs.Chains.{view-1, view-2, view-3, view-4, vi
 use borrow.Author.Needs.{needs}
 use Rattle.job_reader.proofs.read_view.Statement.{statement}
 use Rattle.job_reader.proofs.read_view.Tie as tie
-use Rattle.job_reader.proofs.read_view.Reads as reads
-use Rattle.job_reader.proofs.read_view.Lts as lts
-use Rattle.job_reader.proofs.extents_from.Reads as extents-from-reads
-use Rattle.job_reader.proofs.strides_from.Reads as strides-from-reads
-use Rattle.job_reader.proofs.view_fault.Reads as view-fault-reads
-use Rattle.job_bytes.proofs.read_byte.Reads as read-byte-reads
-use Rattle.job_bytes.proofs.read_number.Reads as read-number-reads
-use Rattle.job_bytes.proofs.read_words.Reads as read-words-reads
-use Rattle.job_bytes.proofs.signed_word.Reads as signed-word-reads
 
 read-byte-requires : tie.Need-read-byte-requires
 read-byte-requires c κs = search needs

@@ -1,15 +1,10 @@
-use mathlib.Core.Path.{_≡_, refl, sym, ap, _∙_}
+use mathlib.Core.Path.{sym, ap, _∙_}
 use borrow.Author.Tests.{not-true, not-false}
-use native.Mathlib.Omega.{arith}
 use Rattle.job_reader.specs.Held.{heldViews}
 use Rattle.job_reader.proofs.Chains.{got-view, no-view, views-1, views-2, views-3, views-4}
 use borrow.Author.Needs.{needs}
 use Rattle.job_reader.proofs.read_views.Statement.{statement}
 use Rattle.job_reader.proofs.read_views.Tie as tie
-use Rattle.job_reader.proofs.read_views.Reads as reads
-use Rattle.job_reader.proofs.read_views.Lts as lts
-use Rattle.job_reader.proofs.read_view.Reads as read-view-reads
-use Rattle.job_reader.proofs.views_fault.Reads as views-fault-reads
 
 read-view-requires : tie.Need-read-view-requires
 read-view-requires c κs = search needs

@@ -1,8 +1,6 @@
 use borrow.Author.Needs.{needs}
 use Rattle.job_reader.proofs.spec_fault.Statement.{statement}
 use Rattle.job_reader.proofs.spec_fault.Tie as tie
-use Rattle.job_reader.proofs.spec_fault.Reads as reads
-use Rattle.job_reader.proofs.spec_fault.Lts as lts
 
 no-spec-requires : tie.Need-no-spec-requires
 no-spec-requires c κs = search needs

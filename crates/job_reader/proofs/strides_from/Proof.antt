@@ -1,9 +1,8 @@
 use borrow.Author.Tests.{ltb-true, ltb-false}
 use native.Mathlib.Omega.{arith}
 use Prim.Native.Nat.{_≤_, _-_}
-use mathlib.Core.Path.{_≡_, refl, sym, ap, _∙_}
-use lib.ListN.{length, take, getD, length-take}
-use lib.Seq.{getD-take}
+use mathlib.Core.Path.{_≡_, refl, _∙_}
+use lib.ListN.{length, take}
 use mathlib.Core.List.{map}
 use lib.IntN.{pos}
 use mir.Syntax.{w64}
@@ -14,9 +13,6 @@ use Rattle.job_reader.proofs.Chains.{copied, copy-one, copy-ends, copy-
 use borrow.Author.Needs.{needs}
 use Rattle.job_reader.proofs.strides_from.Statement.{statement}
 use Rattle.job_reader.proofs.strides_from.Tie as tie
-use Rattle.job_reader.proofs.strides_from.Reads as reads
-use Rattle.job_reader.proofs.strides_from.Lts as lts
-use Rattle.job_bytes.proofs.signed_word.Reads as signed-word-reads
 
 abbrev Inv-loop : tie.InvT-loop
 Inv-loop n words out₀ i₀ out i = (i ≤ n) × (i ≤ 8) × (out ≡ copied (pos 0) (map signedOf (take n words)) i)

@@ -1,8 +1,6 @@
 use borrow.Author.Needs.{needs}
 use Rattle.job_reader.proofs.views_fault.Statement.{statement}
 use Rattle.job_reader.proofs.views_fault.Tie as tie
-use Rattle.job_reader.proofs.views_fault.Reads as reads
-use Rattle.job_reader.proofs.views_fault.Lts as lts
 
 no-view-requires : tie.Need-no-view-requires
 no-view-requires c κs = search needs

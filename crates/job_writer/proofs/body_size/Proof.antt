@@ -1,14 +1,7 @@
-use mathlib.Core.Path.{_≡_, refl, sym, ap, _∙_}
-use native.Mathlib.Omega.{arith}
-use lib.ListN.{length}
 use Rattle.job_writer.proofs.Parts.{sized-body}
 use borrow.Author.Needs.{needs}
 use Rattle.job_writer.proofs.body_size.Statement.{statement}
 use Rattle.job_writer.proofs.body_size.Tie as tie
-use Rattle.job_writer.proofs.body_size.Reads as reads
-use Rattle.job_writer.proofs.body_size.Lts as lts
-use Rattle.job_writer.proofs.spec_size.Reads as spec-size-reads
-use Rattle.job_writer.proofs.views_size.Reads as views-size-reads
 
 views-size-requires : tie.Need-views-size-requires
 views-size-requires c κs = search needs

@@ -7,8 +7,6 @@ use Rattle.job_writer.proofs.Table.{at}
 use borrow.Author.Needs.{needs}
 use Rattle.job_writer.proofs.layout_size.Statement.{statement}
 use Rattle.job_writer.proofs.layout_size.Tie as tie
-use Rattle.job_writer.proofs.layout_size.Reads as reads
-use Rattle.job_writer.proofs.layout_size.Lts as lts
 
 sizes : List ℕ
 sizes = 9 ∷ 25 ∷ 41 ∷ 57 ∷ 73 ∷ 89 ∷ 105 ∷ 121 ∷ 137 ∷ []

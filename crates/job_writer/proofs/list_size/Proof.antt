@@ -1,13 +1,10 @@
-use mathlib.Core.Path.{_≡_, refl, sym, ap, _∙_}
+use mathlib.Core.Path.{_≡_}
 use native.Mathlib.Omega.{arith}
 use lib.ListN.{length}
 use Rattle.job_writer.proofs.Parts.{length-list}
 use borrow.Author.Needs.{needs}
 use Rattle.job_writer.proofs.list_size.Statement.{statement}
 use Rattle.job_writer.proofs.list_size.Tie as tie
-use Rattle.job_writer.proofs.list_size.Reads as reads
-use Rattle.job_writer.proofs.list_size.Lts as lts
-use Rattle.job_writer.proofs.list_count.Reads as list-count-reads
 
 list-count-requires : tie.Need-list-count-requires
 list-count-requires c κs = search needs

@@ -1,17 +1,12 @@
-use mathlib.Core.Path.{_≡_, refl, sym, ap, _∙_}
+use mathlib.Core.Path.{_≡_, ap}
 use native.Mathlib.Omega.{arith}
 use lib.ListN.{length}
-use lib.ListN.{length, take, length-take}
+use lib.ListN.{length, length-take}
 use lib.Seq.{length-sets}
 use Rattle.job_writer.proofs.Parts.{put-list-is, length-list}
 use borrow.Author.Needs.{needs}
 use Rattle.job_writer.proofs.put_list.Statement.{statement}
 use Rattle.job_writer.proofs.put_list.Tie as tie
-use Rattle.job_writer.proofs.put_list.Reads as reads
-use Rattle.job_writer.proofs.put_list.Lts as lts
-use Rattle.job_bytes.proofs.put_number.Reads as put-number-reads
-use Rattle.job_bytes.proofs.put_words.Reads as put-words-reads
-use Rattle.job_writer.proofs.list_count.Reads as list-count-reads
 
 list-count-requires : tie.Need-list-count-requires
 list-count-requires c κs = search needs

@@ -1,15 +1,7 @@
-use mathlib.Core.Path.{_≡_, refl, sym, ap, _∙_}
-use native.Mathlib.Omega.{arith}
-use lib.ListN.{length}
-use Rattle.job.specs.Format.{sizesBytes}
-use Rattle.job_writer.specs.Written.{Put}
 use Rattle.job_writer.proofs.Parts.{put-none}
 use borrow.Author.Needs.{needs}
 use Rattle.job_writer.proofs.put_sizes.Statement.{statement}
 use Rattle.job_writer.proofs.put_sizes.Tie as tie
-use Rattle.job_writer.proofs.put_sizes.Reads as reads
-use Rattle.job_writer.proofs.put_sizes.Lts as lts
-use Rattle.job_writer.proofs.put_list.Reads as put-list-reads
 
 enum-told : tie.Need-enum-told
 enum-told c = search needs

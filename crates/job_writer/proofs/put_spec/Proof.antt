@@ -1,4 +1,4 @@
-use mathlib.Core.Path.{_≡_, refl, sym, ap, _∙_}
+use mathlib.Core.Path.{ap}
 use native.Mathlib.Omega.{arith}
 use lib.ListN.{length}
 use lib.Seq.{length-sets}
@@ -6,11 +6,6 @@ use Rattle.job_writer.proofs.Parts.{put-spec-is, put-same, length-spec}
 use borrow.Author.Needs.{needs}
 use Rattle.job_writer.proofs.put_spec.Statement.{statement}
 use Rattle.job_writer.proofs.put_spec.Tie as tie
-use Rattle.job_writer.proofs.put_spec.Reads as reads
-use Rattle.job_writer.proofs.put_spec.Lts as lts
-use Rattle.job_bytes.proofs.put_number.Reads as put-number-reads
-use Rattle.job_writer.proofs.put_list.Reads as put-list-reads
-use Rattle.job_writer.proofs.put_sizes.Reads as put-sizes-reads
 
 put-list-requires : tie.Need-put-list-requires
 put-list-requires c κs = omega (arith, length-spec (c .before .before .before .before .before .before .args .kind) (c .before .before .before .before .before .before .args .spec), c .before .before .before .before .before .before .pre)

@@ -1,7 +1,7 @@
-use mathlib.Core.Path.{_≡_, refl, sym, ap, _∙_}
+use mathlib.Core.Path.{_≡_, ap, _∙_}
 use native.Mathlib.Omega.{arith}
 use lib.ListN.{length}
-use lib.ListN.{length, take, length-take}
+use lib.ListN.{length, length-take}
 use lib.Seq.{length-sets}
 use mir.Syntax.{w64}
 use mir.Val.{SFits, ofZ}
@@ -10,14 +10,6 @@ use Rattle.job_writer.proofs.Parts.{put-view-is, length-view}
 use borrow.Author.Needs.{needs}
 use Rattle.job_writer.proofs.put_view.Statement.{statement}
 use Rattle.job_writer.proofs.put_view.Tie as tie
-use Rattle.job_writer.proofs.put_view.Reads as reads
-use Rattle.job_writer.proofs.put_view.Lts as lts
-use Rattle.job_bytes.proofs.put_number.Reads as put-number-reads
-use Rattle.job_bytes.proofs.put_words.Reads as put-words-reads
-use Rattle.job_bytes.proofs.word_of.Reads as word-of-reads
-use Rattle.job_writer.proofs.layout_size.Reads as layout-size-reads
-use Rattle.job_writer.proofs.stride_words.Reads as stride-words-reads
-use Rattle.layout.proofs.axis_count.Reads as axis-count-reads
 
 axis-count-requires : tie.Need-axis-count-requires
 axis-count-requires c κs = search needs

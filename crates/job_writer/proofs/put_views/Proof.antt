@@ -1,13 +1,8 @@
-use mathlib.Core.Path.{_≡_, refl, sym, ap, _∙_}
 use native.Mathlib.Omega.{arith}
-use lib.ListN.{length}
 use Rattle.job_writer.proofs.Parts.{put-views-is, put-same, length-views}
 use borrow.Author.Needs.{needs}
 use Rattle.job_writer.proofs.put_views.Statement.{statement}
 use Rattle.job_writer.proofs.put_views.Tie as tie
-use Rattle.job_writer.proofs.put_views.Reads as reads
-use Rattle.job_writer.proofs.put_views.Lts as lts
-use Rattle.job_writer.proofs.put_view.Reads as put-view-reads
 
 put-view-requires : tie.Need-put-view-requires
 put-view-requires c κs = omega (arith, length-views (c .before .before .before .before .before .args .views), c .before .before .before .before .before .pre)

@@ -1,12 +1,8 @@
-use mathlib.Core.Path.{_≡_, refl, sym, ap, _∙_}
+use mathlib.Core.Path.{refl}
 use native.Mathlib.Omega.{arith}
-use lib.ListN.{length}
 use borrow.Author.Needs.{needs}
 use Rattle.job_writer.proofs.sizes_size.Statement.{statement}
 use Rattle.job_writer.proofs.sizes_size.Tie as tie
-use Rattle.job_writer.proofs.sizes_size.Reads as reads
-use Rattle.job_writer.proofs.sizes_size.Lts as lts
-use Rattle.job_writer.proofs.list_size.Reads as list-size-reads
 
 enum-told : tie.Need-enum-told
 enum-told c = search needs

@@ -1,14 +1,7 @@
-use mathlib.Core.Path.{_≡_, refl, sym, ap, _∙_}
-use native.Mathlib.Omega.{arith}
-use lib.ListN.{length}
 use Rattle.job_writer.proofs.Parts.{sized-spec}
 use borrow.Author.Needs.{needs}
 use Rattle.job_writer.proofs.spec_size.Statement.{statement}
 use Rattle.job_writer.proofs.spec_size.Tie as tie
-use Rattle.job_writer.proofs.spec_size.Reads as reads
-use Rattle.job_writer.proofs.spec_size.Lts as lts
-use Rattle.job_writer.proofs.list_size.Reads as list-size-reads
-use Rattle.job_writer.proofs.sizes_size.Reads as sizes-size-reads
 
 list-size-requires : tie.Need-list-size-requires
 list-size-requires c κs = search needs

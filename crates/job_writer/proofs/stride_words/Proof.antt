@@ -1,4 +1,4 @@
-use mathlib.Core.Path.{_≡_, refl, sym, ap, _∙_}
+use mathlib.Core.Path.{_≡_, refl, ap, _∙_}
 use native.Mathlib.Omega.{arith}
 use lib.ListN.{length}
 use Prim.Native.Nat.{_≤_, _-_}
@@ -11,9 +11,6 @@ use Rattle.job_writer.proofs.Parts.{worded, word-one, word-all}
 use borrow.Author.Needs.{needs}
 use Rattle.job_writer.proofs.stride_words.Statement.{statement}
 use Rattle.job_writer.proofs.stride_words.Tie as tie
-use Rattle.job_writer.proofs.stride_words.Reads as reads
-use Rattle.job_writer.proofs.stride_words.Lts as lts
-use Rattle.job_bytes.proofs.word_of.Reads as word-of-reads
 
 abbrev Inv-loop : tie.InvT-loop
 Inv-loop strides out₀ i₀ out i = (i ≤ 8) × (out ≡ worded strides i)

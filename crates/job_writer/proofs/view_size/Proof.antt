@@ -1,14 +1,10 @@
-use mathlib.Core.Path.{_≡_, refl, sym, ap, _∙_}
+use mathlib.Core.Path.{_≡_}
 use native.Mathlib.Omega.{arith}
 use lib.ListN.{length}
 use Rattle.job_writer.proofs.Parts.{length-view}
 use borrow.Author.Needs.{needs}
 use Rattle.job_writer.proofs.view_size.Statement.{statement}
 use Rattle.job_writer.proofs.view_size.Tie as tie
-use Rattle.job_writer.proofs.view_size.Reads as reads
-use Rattle.job_writer.proofs.view_size.Lts as lts
-use Rattle.job_writer.proofs.layout_size.Reads as layout-size-reads
-use Rattle.layout.proofs.axis_count.Reads as axis-count-reads
 
 axis-count-requires : tie.Need-axis-count-requires
 axis-count-requires c κs = search needs

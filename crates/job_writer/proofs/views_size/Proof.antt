@@ -1,13 +1,7 @@
-use mathlib.Core.Path.{_≡_, refl, sym, ap, _∙_}
-use native.Mathlib.Omega.{arith}
-use lib.ListN.{length}
 use Rattle.job_writer.proofs.Parts.{sized-views}
 use borrow.Author.Needs.{needs}
 use Rattle.job_writer.proofs.views_size.Statement.{statement}
 use Rattle.job_writer.proofs.views_size.Tie as tie
-use Rattle.job_writer.proofs.views_size.Reads as reads
-use Rattle.job_writer.proofs.views_size.Lts as lts
-use Rattle.job_writer.proofs.view_size.Reads as view-size-reads
 
 view-size-requires : tie.Need-view-size-requires
 view-size-requires c κs = search needs

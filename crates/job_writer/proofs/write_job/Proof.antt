@@ -1,4 +1,4 @@
-use mathlib.Core.Path.{_≡_, refl, sym, ap, _∙_}
+use mathlib.Core.Path.{ap}
 use native.Mathlib.Omega.{arith}
 use lib.ListN.{length}
 use lib.Seq.{length-sets}
@@ -6,14 +6,6 @@ use Rattle.job_writer.proofs.Parts.{no-room, put-job-is, put-same, leng
 use borrow.Author.Needs.{needs}
 use Rattle.job_writer.proofs.write_job.Statement.{statement}
 use Rattle.job_writer.proofs.write_job.Tie as tie
-use Rattle.job_writer.proofs.write_job.Reads as reads
-use Rattle.job_writer.proofs.write_job.Lts as lts
-use Rattle.job_bytes.proofs.put_number.Reads as put-number-reads
-use Rattle.job_writer.proofs.body_size.Reads as body-size-reads
-use Rattle.job_writer.proofs.element_byte.Reads as element-byte-reads
-use Rattle.job_writer.proofs.kind_byte.Reads as kind-byte-reads
-use Rattle.job_writer.proofs.put_spec.Reads as put-spec-reads
-use Rattle.job_writer.proofs.put_views.Reads as put-views-reads
 
 body-size-requires : tie.Need-body-size-requires
 body-size-requires c κs = search needs
