@@ -14,7 +14,7 @@ use Rattle.layout.specs.Layouts.{rankLimit, padded}
 use Rattle.job_bytes.specs.Fields.{read, bytesOf, wordsOf, wordOf, signedOf, numberAt, byteAt, wordsAt, listLimit}
 use Rattle.job_bytes.specs.Below.{AllBelow, none, more, AllFit, fit-none, fit-more}
 use Rattle.job_bytes.proofs.Reading.{then-read, byte-range, words-count}
-use Rattle.job_bytes.proofs.Back.{Here, here-front, here-behind, here-both, number-held, number-holds, byte-held, byte-holds, words-held, words-hold}
+use Rattle.job_bytes.proofs.Back.{Here, WordsHere, Number, here-front, here-behind, here-both, number-held, number-holds, byte-held, byte-holds, words-held, words-hold}
 use Rattle.job.specs.Jobs.{heldList, viewOf}
 use Rattle.job.specs.Format.{viewBytes, listBytes, viewAt, listAt}
 use Rattle.job.specs.Made.{MadeView}
@@ -114,6 +114,18 @@ pub record ViewRead (bs : List ℕ) (at : ℕ) (v : View) (k : ℕ) : Type 0 whe
   pub here : Here bs at (viewBytes v) k
   pub made : MadeView v
 
+view-whole : (bs : List ℕ) (at n k : ℕ) (es : List ℕ) (l : ℕ) (ws : List ℕ) (m o p : ℕ) → length es ≡ n → length ws ≡ n → n ≤ rankLimit
+    → Here bs at (bytesOf 1 n) k → WordsHere bs k es l → WordsHere bs l ws m → Number 8 bs m o p → ViewRead bs at (viewOf es (map signedOf ws) (signedOf o)) p
+view-whole bs at n k es l ws m o p e f h x1 x2 x3 x4 =
+    record {
+      here =
+          subst (λ (b : List ℕ). Here bs at b p) (sym (view-words n es ws o e f h (x3 .below) (x4 .below)))
+          (here-both bs at (bytesOf 1 n) (wordsOf es ++ (wordsOf ws ++ bytesOf 8 o)) k p x1
+          (here-both bs k (wordsOf es) (wordsOf ws ++ bytesOf 8 o) l p (x2 .here)
+          (here-both bs l (wordsOf ws) (bytesOf 8 o) m p (x3 .here) (x4 .here))));
+      made = record { extents = es; strides = map signedOf ws; offset = signedOf o; is = refl; same = length-map ws signedOf ∙ f ∙ sym e; few = omega arith; words = x2 .below; fits = signed-fit ws (x3 .below); fit = sfits-toZ (record { fits = x4 .below }) };
+    }
+
 pub view-holds : (bs : List ℕ) (at : ℕ) (v : View) (k : ℕ) → AllBelow 256 bs → viewAt bs at ≡ read v k → ViewRead bs at v k
 unfolding viewAt
 view-holds bs at v k a e =
@@ -121,26 +133,14 @@ view-holds bs at v k a e =
     let q = then-read (wordsAt (p .0) bs (p .1)) _ v k (p .3) in
     let r = then-read (wordsAt (p .0) bs (q .1)) _ v k (q .3) in
     let t = then-read (numberAt 8 bs (r .1)) (λ o m. read (viewOf (q .0) (map signedOf (r .0)) (signedOf o)) m) v k (r .3) in
-    let es : List ℕ = q .0 in
-    let ws : List ℕ = r .0 in
-    let o : ℕ = t .0 in
-    let x1 : Here bs at (bytesOf 1 (p .0)) (p .1) = byte-holds 0 rankLimit bs at (p .0) (p .1) a (p .2) in
-    let x2 = words-hold (p .0) bs (p .1) es (q .1) (omega (arith, x1 .place, x1 .room)) a (q .2) in
-    let x3 = words-hold (p .0) bs (q .1) ws (r .1) (omega (arith, x2 .here .place, x2 .here .room)) a (r .2) in
-    let x4 = number-holds 8 bs (r .1) o (t .1) a (t .2) in
-    let n : length es ≡ p .0 = words-count (p .0) bs (p .1) es (q .1) (q .2) in
-    let m : length ws ≡ p .0 = words-count (p .0) bs (q .1) ws (r .1) (r .2) in
-    let s : length (map signedOf ws) ≡ length es = length-map ws signedOf ∙ m ∙ sym n in
-    let h : length es ≤ rankLimit = omega (arith, byte-range 0 rankLimit bs at (p .0) (p .1) (p .2) .1) in
-    let bytes : viewBytes (viewOf es (map signedOf ws) (signedOf o)) ≡ bytesOf 1 (p .0) ++ (wordsOf es ++ (wordsOf ws ++ bytesOf 8 o)) = view-words (p .0) es ws o n m (omega arith) (x3 .below) (x4 .below) in
-    let f : viewOf es (map signedOf ws) (signedOf o) ≡ v = cc (t .3) in
-    let g : t .1 ≡ k = cc (t .3) in
-    let here : Here bs at (viewBytes (viewOf es (map signedOf ws) (signedOf o))) (t .1) =
-    subst (λ (l : List ℕ). Here bs at l (t .1)) (sym bytes)
-    (here-both bs at (bytesOf 1 (p .0)) (wordsOf es ++ (wordsOf ws ++ bytesOf 8 o)) (p .1) (t .1) x1
-    (here-both bs (p .1) (wordsOf es) (wordsOf ws ++ bytesOf 8 o) (q .1) (t .1) (x2 .here)
-    (here-both bs (q .1) (wordsOf ws) (bytesOf 8 o) (r .1) (t .1) (x3 .here) (x4 .here)))) in
-    record {
-      here = subst (λ (i : ℕ). Here bs at (viewBytes v) i) g (subst (λ (u : View). Here bs at (viewBytes u) (t .1)) f here);
-      made = record { extents = es; strides = map signedOf ws; offset = signedOf o; is = sym f; same = s; few = h; words = x2 .below; fits = signed-fit ws (x3 .below); fit = sfits-toZ (record { fits = x4 .below }) };
-    }
+    go (p .0) (p .1) (q .0) (q .1) (r .0) (r .1) (t .0) (t .1) (p .2) (q .2) (r .2) (t .2) (t .3)
+  where
+    go : (n l : ℕ) (es : List ℕ) (m : ℕ) (ws : List ℕ) (i o p : ℕ) → byteAt 0 rankLimit bs at ≡ read n l → wordsAt n bs l ≡ read es m → wordsAt n bs m ≡ read ws i → numberAt 8 bs i ≡ read o p → read (viewOf es (map signedOf ws) (signedOf o)) p ≡ read v k → ViewRead bs at v k
+    go n l es m ws i o p e1 e2 e3 e4 e =
+        let x1 : Here bs at (bytesOf 1 n) l = byte-holds 0 rankLimit bs at n l a e1 in
+        let x2 : WordsHere bs l es m = words-hold n bs l es m (omega (arith, x1 .place, x1 .room)) a e2 in
+        let x3 : WordsHere bs m ws i = words-hold n bs m ws i (omega (arith, x2 .here .place, x2 .here .room)) a e3 in
+        let f : viewOf es (map signedOf ws) (signedOf o) ≡ v = cc in
+        let g : p ≡ k = cc in
+        let w : ViewRead bs at (viewOf es (map signedOf ws) (signedOf o)) p = view-whole bs at n l es m ws i o p (words-count n bs l es m e2) (words-count n bs m ws i e3) (byte-range 0 rankLimit bs at n l e1 .1) x1 x2 x3 (number-holds 8 bs i o p a e4) in
+        subst (λ (j : ℕ). ViewRead bs at v j) g (subst (λ (u : View). ViewRead bs at u p) f w)

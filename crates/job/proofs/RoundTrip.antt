@@ -12,7 +12,7 @@ use Rattle.job_bytes.specs.Fields.{Field, read, fault, andThen, bytesOf, wordsO
 use Rattle.job_bytes.specs.Below.{AllBelow}
 use Rattle.job_bytes.proofs.Putting.{length-bytes, length-words}
 use Rattle.job_bytes.proofs.Reading.{then-read, byte-range, fault-read}
-use Rattle.job_bytes.proofs.Back.{Here, here-all, here-whole, here-front, here-behind, here-both, number-held, number-holds, byte-held, byte-holds}
+use Rattle.job_bytes.proofs.Back.{Here, Number, here-all, here-whole, here-front, here-behind, here-both, number-held, number-holds, byte-held, byte-holds}
 use Rattle.job.specs.declared.Kind.{Kind}
 use Rattle.job.specs.declared.Kind.the-variants as K
 use Rattle.job.specs.declared.Element.{Element}
@@ -85,34 +85,41 @@ pub record SpecRead (kind : Kind) (bs : List ℕ) (at : ℕ) (s : Spec) (k : ℕ
 made-of : (bs : List ℕ) (at : ℕ) (l : List ℕ) (k : ℕ) → ListRead bs at l k → MadeList (heldList l)
 made-of bs at l k x = record { entries = l; is = refl; few = x .few; words = x .words }
 
+spec-whole : (kind : Kind) (bs : List ℕ) (at : ℕ) (window : List ℕ) (k : ℕ) (unit : List ℕ) (l : ℕ) (start : List ℕ) (m v o : ℕ) (sizes : List ℕ) (p : ℕ)
+    → ListRead bs at window k → ListRead bs k unit l → ListRead bs l start m → Number 8 bs m v o → SizesRead kind bs o sizes p → SpecRead kind bs at (specOf window unit start v sizes) p
+unfolding specBytes
+spec-whole kind bs at window k unit l start m v o sizes p x1 x2 x3 x4 x5 =
+    let b1 : List ℕ = listBytes (heldList window) in
+    let b2 : List ℕ = listBytes (heldList unit) in
+    let b3 : List ℕ = listBytes (heldList start) in
+    let b4 : List ℕ = bytesOf 8 v in
+    let b5 : List ℕ = sizesBytes kind (heldList sizes) in
+    record {
+      here =
+          here-both bs at b1 (b2 ++ (b3 ++ (b4 ++ b5))) k p (x1 .here)
+          (here-both bs k b2 (b3 ++ (b4 ++ b5)) l p (x2 .here)
+          (here-both bs l b3 (b4 ++ b5) m p (x3 .here)
+          (here-both bs m b4 b5 o p (x4 .here) (x5 .here))));
+      made = record { window = made-of bs at window k x1; unit = made-of bs k unit l x2; start = made-of bs l start m x3; vector = x4 .below; sizes = x5 .made };
+    }
+
 pub spec-holds : (kind : Kind) (bs : List ℕ) (at : ℕ) (s : Spec) (k : ℕ) → AllBelow 256 bs → specAt kind bs at ≡ read s k → SpecRead kind bs at s k
-unfolding specBytes specAt
+unfolding specAt
 spec-holds kind bs at s k a e =
     let p1 = then-read (listAt bs at) _ s k e in
     let p2 = then-read (listAt bs (p1 .1)) _ s k (p1 .3) in
     let p3 = then-read (listAt bs (p2 .1)) _ s k (p2 .3) in
     let p4 = then-read (numberAt 8 bs (p3 .1)) _ s k (p3 .3) in
     let p5 = then-read (sizesAt kind bs (p4 .1)) (λ sizes m. read (specOf (p1 .0) (p2 .0) (p3 .0) (p4 .0) sizes) m) s k (p4 .3) in
-    let x1 = list-holds bs at (p1 .0) (p1 .1) a (p1 .2) in
-    let x2 = list-holds bs (p1 .1) (p2 .0) (p2 .1) a (p2 .2) in
-    let x3 = list-holds bs (p2 .1) (p3 .0) (p3 .1) a (p3 .2) in
-    let x4 = number-holds 8 bs (p3 .1) (p4 .0) (p4 .1) a (p4 .2) in
-    let x5 = sizes-hold kind bs (p4 .1) (p5 .0) (p5 .1) (omega (arith, x4 .here .place, x4 .here .room)) a (p5 .2) in
-    let t : Spec = specOf (p1 .0) (p2 .0) (p3 .0) (p4 .0) (p5 .0) in
-    let f : t ≡ s = cc (p5 .3) in
-    let g : p5 .1 ≡ k = cc (p5 .3) in
-    let b1 : List ℕ = listBytes (heldList (p1 .0)) in
-    let b2 : List ℕ = listBytes (heldList (p2 .0)) in
-    let b3 : List ℕ = listBytes (heldList (p3 .0)) in
-    let b4 : List ℕ = bytesOf 8 (p4 .0) in
-    let b5 : List ℕ = sizesBytes kind (heldList (p5 .0)) in
-    let h : Here bs at (specBytes kind t) (p5 .1) =
-    here-both bs at b1 (b2 ++ (b3 ++ (b4 ++ b5))) (p1 .1) (p5 .1) (x1 .here)
-    (here-both bs (p1 .1) b2 (b3 ++ (b4 ++ b5)) (p2 .1) (p5 .1) (x2 .here)
-    (here-both bs (p2 .1) b3 (b4 ++ b5) (p3 .1) (p5 .1) (x3 .here)
-    (here-both bs (p3 .1) b4 b5 (p4 .1) (p5 .1) (x4 .here) (x5 .here)))) in
-    let m : MadeSpec kind t = record { window = made-of bs at (p1 .0) (p1 .1) x1; unit = made-of bs (p1 .1) (p2 .0) (p2 .1) x2; start = made-of bs (p2 .1) (p3 .0) (p3 .1) x3; vector = x4 .below; sizes = x5 .made } in
-    record { here = subst (λ (i : ℕ). Here bs at (specBytes kind s) i) g (subst (λ (u : Spec). Here bs at (specBytes kind u) (p5 .1)) f h); made = subst (λ (u : Spec). MadeSpec kind u) f m }
+    go (p1 .0) (p1 .1) (p2 .0) (p2 .1) (p3 .0) (p3 .1) (p4 .0) (p4 .1) (p5 .0) (p5 .1) (p1 .2) (p2 .2) (p3 .2) (p4 .2) (p5 .2) (p5 .3)
+  where
+    go : (window : List ℕ) (i : ℕ) (unit : List ℕ) (l : ℕ) (start : List ℕ) (m v o : ℕ) (sizes : List ℕ) (p : ℕ) → listAt bs at ≡ read window i → listAt bs i ≡ read unit l → listAt bs l ≡ read start m → numberAt 8 bs m ≡ read v o → sizesAt kind bs o ≡ read sizes p → read (specOf window unit start v sizes) p ≡ read s k → SpecRead kind bs at s k
+    go window i unit l start m v o sizes p e1 e2 e3 e4 e5 e =
+        let x4 : Number 8 bs m v o = number-holds 8 bs m v o a e4 in
+        let f : specOf window unit start v sizes ≡ s = cc in
+        let g : p ≡ k = cc in
+        let w : SpecRead kind bs at (specOf window unit start v sizes) p = spec-whole kind bs at window i unit l start m v o sizes p (list-holds bs at window i a e1) (list-holds bs i unit l a e2) (list-holds bs l start m a e3) x4 (sizes-hold kind bs o sizes p (omega (arith, x4 .here .place, x4 .here .room)) a e5) in
+        subst (λ (j : ℕ). SpecRead kind bs at s j) g (subst (λ (u : Spec). SpecRead kind bs at u p) f w)
 
 -- ---- three views
 module _ (bs : List ℕ) (at : ℕ) (vs : Views) (k : ℕ) where

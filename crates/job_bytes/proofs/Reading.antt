@@ -48,6 +48,13 @@ no-word n bs at =
     let e : n - 0 ≡ n = omega arith in
     record { here = omega arith; size = refl; rest = refl; left = rw e (ahead-none (wordsAt n bs at)) }
 
+-- one zero less
+zeros-behind : (out : List ℕ) (i : ℕ) → i < length out → i < listLimit → drop i out ≡ replicate (listLimit - i) 0 → drop (suc i) out ≡ replicate (listLimit - suc i) 0
+zeros-behind out i h l e =
+    let n : listLimit - i ≡ suc (listLimit - suc i) = omega arith in
+    let f : getD out i 0 ∷ drop (suc i) out ≡ 0 ∷ replicate (listLimit - suc i) 0 = sym (drop-cons out i 0 h) ∙ e ∙ ap (λ (j : ℕ). replicate j 0) n in
+    cc
+
 module _ (n : ℕ) (bs : List ℕ) (at : ℕ) (out : List ℕ) (place i : ℕ) (m : n ≤ listLimit) (h : i < n) (r : Reading n bs at out place i) where
   -- what the rest comes to
   more : wordsAt (n - i) bs place ≡ andThen (numberAt 8 bs place) (λ w k. andThen (wordsAt (n - (i + 1)) bs k) (λ ws l. read (w ∷ ws) l))
@@ -60,13 +67,10 @@ module _ (n : ℕ) (bs : List ℕ) (at : ℕ) (out : List ℕ) (place i : ℕ) (
   pub word-more : (w k : ℕ) → numberAt 8 bs place ≡ read w k → Reading n bs at (set out i w) k (i + 1)
   word-more w k e =
       let inside : i < length out = omega (arith, r .size) in
-      let shift : listLimit - i ≡ suc (listLimit - (i + 1)) = omega arith in
-      let tail : drop i out ≡ getD out i 0 ∷ drop (suc i) out = drop-cons out i 0 inside in
-      let zeros : 0 ∷ replicate (listLimit - (i + 1)) 0 ≡ getD out i 0 ∷ drop (suc i) out = sym (ap (λ (j : ℕ). replicate j 0) shift) ∙ sym (r .rest) ∙ tail in
       record {
         here = omega arith;
         size = length-set out i w ∙ r .size;
-        rest = rw (add-one i) (drop-set-lt (suc i) out i w (omega arith) ∙ sym (tails zeros) ∙ ap (λ (j : ℕ). replicate (listLimit - j) 0) (add-one i));
+        rest = rw (add-one i) (drop-set-lt (suc i) out i w (omega arith) ∙ zeros-behind out i inside (omega arith) (r .rest));
         left =
             rw (add-one i, take-suc-set out i w inside)
             (rw (← add-one i)
@@ -74,9 +78,6 @@ module _ (n : ℕ) (bs : List ℕ) (at : ℕ) (out : List ℕ) (place i : ℕ) (
             ∙ ap (ahead (take i out)) (sym (more ∙ ap (λ f. andThen f (λ v l. andThen (wordsAt (n - (i + 1)) bs l) (λ ws o. read (v ∷ ws) o))) e))
             ∙ r .left));
       }
-    where
-      tails : {a b : ℕ} {xs ys : List ℕ} → a ∷ xs ≡ b ∷ ys → xs ≡ ys
-      tails f = cc
 
 pub all-words : (n : ℕ) (bs : List ℕ) (at : ℕ) (out : List ℕ) (place i : ℕ) → n ≤ listLimit → n ≤ i → Reading n bs at out place i → record { ok = true; at = place; entries = out } ≡ heldWords (wordsAt n bs at)
 unfolding wordsAt padded

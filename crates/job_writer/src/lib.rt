@@ -4,9 +4,8 @@ ghost use mathlib.Core.Path.{_≡_};
 ghost use mathlib.Core.List.{map};
 ghost use Prim.Native.Nat.{_+_, _*_, _≤_, min};
 ghost use lib.ListN.{length};
-ghost use Rattle.layout.specs.Layouts.{extentsOf};
 ghost use Rattle.job_bytes.specs.Fields.{wordOf, listLimit};
-ghost use Rattle.job.specs.Format.{kindByte, elementByte, viewBytes, listBytes, sizesBytes, specBytes, viewsBytes, bodyBytes, encoded};
+ghost use Rattle.job.specs.Format.{kindByte, elementByte, viewBytes, listBytes, sizesBytes, specBytes, viewsBytes, bodyBytes};
 ghost use Rattle.job_writer.specs.Written.{Put, Written, Sized};
 use job::Element;
 use job::Job;
@@ -200,7 +199,7 @@ fn put_spec(out: &mut [u8], at: usize, kind: Kind, spec: Spec) -> usize
     put_sizes(out, c + 8, kind, sizes)
 }
 
-// Writes the job from the first byte on, or refuses by 9 with the bytes that are needed.
+// Writes the job from the first byte on, or refuses by 9 with the bytes that are needed. Of a scatter no slice sizes are written.
 pub fn write_job(job: Job, out: &mut [u8]) -> Answer
     ensures { λ r. ⌜ Written job (now (out .entry)) r (now (out .exit)) ⌝ }
 {

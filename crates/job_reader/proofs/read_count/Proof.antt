@@ -15,7 +15,8 @@ returns : tie.Need-returns
 returns c = let f = number-fault _ _ (c .before .before .read-number .ensures) (not-true _ (c .if1 .taken)) in c .before .before .read-number .ensures ∙ ap heldNumber (f ∙ sym (count-1 _ _ f))
 
 sub-if2 : tie.Need-sub-if2
-sub-if2 c = let f = number-read _ _ (c .before .before .read-number .ensures) (not-false _ (c .if1 .left)) in omega (arith, number-room _ _ _ _ _ f .1)
+sub-if2 c =
+    omega (arith, number-room _ _ _ _ _ (number-read _ _ (c .before .before .read-number .ensures) (not-false _ (c .if1 .left))) .1)
 
 no-number-requires : tie.Need-no-number-requires
 no-number-requires c κs = search needs
