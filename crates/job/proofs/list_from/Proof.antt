@@ -39,7 +39,10 @@ loop-less : tie.Need-loop-less Inv-loop μ-loop
 loop-less c = search needs
 
 loop-again : tie.Need-loop-again Inv-loop μ-loop
-loop-again c = (omega (arith, ltb-true), omega (arith, ltb-true), ap (λ (l : List ℕ). set l (c .before .before .before .loop .i) (getD (c .before .before .before .before .args .list .now) (c .before .before .before .loop .i) 0)) (c .before .before .before .loop .inv .2) ∙ fill-one 16 0 0 (c .before .before .before .before .args .list .now) (c .before .before .before .loop .i) (omega (arith, ltb-true)) (omega (arith, ltb-true)))
+loop-again c =
+    let p3 = c .before .before .before in
+    let p4 = p3 .before in
+    (omega (arith, ltb-true), omega (arith, ltb-true), ap (λ (l : List ℕ). set l (p3 .loop .i) (getD (p4 .args .list .now) (p3 .loop .i) 0)) (p3 .loop .inv .2) ∙ fill-one 16 0 0 (p4 .args .list .now) (p3 .loop .i) (omega (arith, ltb-true)) (omega (arith, ltb-true)))
 
 returns : tie.Need-returns Inv-loop μ-loop
 returns c = ap (λ (l : List ℕ). record { count = length (c .before .before .before .args .list .now); entries = l }) (c .before .before .loop .inv .2 ∙ fill-short 16 0 (c .before .before .before .args .list .now) (c .before .before .loop .i) (omega arith) (omega (arith, ltb-false)) (omega arith))

@@ -46,7 +46,19 @@ made-job-requires : tie.Need-made-job-requires
 made-job-requires c κs = search needs
 
 returns : tie.Need-returns
-returns c = making _ _ _ _ _ _ _ _ _ _ _ _ _ _ _ _ _ _ _ _ _ _ _ _ _ _ _ _ _ (c .made-job .ensures) (c .before .before .or-else .ensures) (c .before .before .before .before .before .before .before .before .before .before .before .before .check-views .ensures) (c .before .before .before .before .before .before .before .before .before .before .before .check-lists .ensures) (c .before .job-from .ensures) (c .before .before .before .before .before .before .before .before .before .before .view-from .ensures ∙ ap (viewOf _ _) (back (c .before .before .before .before .before .before .before .before .before .before .before .before .before .before .before .before .before .before .before .fits .index-offset))) (c .before .before .before .before .before .before .before .before .before .view-from2 .ensures ∙ ap (viewOf _ _) (back (c .before .before .before .before .before .before .before .before .before .before .before .before .before .before .before .before .before .before .before .fits .update-offset))) (c .before .before .before .before .before .before .before .before .view-from3 .ensures ∙ ap (viewOf _ _) (back (c .before .before .before .before .before .before .before .before .before .before .before .before .before .before .before .before .before .before .before .fits .dest-offset))) (c .before .before .before .spec-from .ensures) (c .before .before .before .before .before .before .before .list-from .ensures) (c .before .before .before .before .before .before .list-from2 .ensures) (c .before .before .before .before .before .list-from3 .ensures) (c .before .before .before .before .no-list .ensures)
+returns c =
+    let p3 = c .before .before .before in
+    let p4 = p3 .before in
+    let p5 = p4 .before in
+    let p6 = p5 .before in
+    let p7 = p6 .before in
+    let p8 = p7 .before in
+    let p9 = p8 .before in
+    let p10 = p9 .before in
+    let p11 = p10 .before in
+    let p12 = p11 .before in
+    let p19 = p12 .before .before .before .before .before .before .before in
+    making _ _ _ _ _ _ _ _ _ _ _ _ _ _ _ _ _ _ _ _ _ _ _ _ _ _ _ _ _ (c .made-job .ensures) (c .before .before .or-else .ensures) (p12 .check-views .ensures) (p11 .check-lists .ensures) (c .before .job-from .ensures) (p10 .view-from .ensures ∙ ap (viewOf _ _) (back (p19 .fits .index-offset))) (p9 .view-from2 .ensures ∙ ap (viewOf _ _) (back (p19 .fits .update-offset))) (p8 .view-from3 .ensures ∙ ap (viewOf _ _) (back (p19 .fits .dest-offset))) (p3 .spec-from .ensures) (p7 .list-from .ensures) (p6 .list-from2 .ensures) (p5 .list-from3 .ensures) (p4 .no-list .ensures)
 
 pub make-scatter-job-spec : {M : Type 1} → statement M
 make-scatter-job-spec =

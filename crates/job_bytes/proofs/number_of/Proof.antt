@@ -27,7 +27,10 @@ wide-requires : tie.Need-wide-requires Inv-loop μ-loop
 wide-requires c κs = search needs
 
 add-value : tie.Need-add-value Inv-loop μ-loop
-add-value c = omega (arith, word-room (c .before .before .before .loop .value) (c .wide .result) (c .before .before .before .loop .i) (omega arith) (c .before .before .before .loop .inv .below) (omega (arith, c .wide .ensures, c .before .shared-slice-known2 .given (c .before .before .before .before .before .args .at + c .before .before .before .loop .i))))
+add-value c =
+    let p3 = c .before .before .before in
+    let p5 = p3 .before .before in
+    omega (arith, word-room (p3 .loop .value) (c .wide .result) (p3 .loop .i) (omega arith) (p3 .loop .inv .below) (omega (arith, c .wide .ensures, c .before .shared-slice-known2 .given (p5 .args .at + p3 .loop .i))))
 
 add-i : tie.Need-add-i Inv-loop μ-loop
 add-i c = search needs

@@ -22,10 +22,17 @@ no-number-requires-2 : tie.Need-no-number-requires-2
 no-number-requires-2 c κs = search needs
 
 returns-3 : tie.Need-returns-3
-returns-3 c = c .no-number2 .ensures ∙ sym (ap heldNumber (byte-high _ _ _ _ _ _ (number-read _ _ (c .before .before .before .before .before .before .before .read-number .ensures) (not-false _ (c .before .before .before .before .before .if1 .left))) (c .before .before .before .if2 .left) (c .before .if3 .taken)))
+returns-3 c =
+    let p3 = c .before .before .before in
+    let p5 = p3 .before .before in
+    let p7 = p5 .before .before in
+    c .no-number2 .ensures ∙ sym (ap heldNumber (byte-high _ _ _ _ _ _ (number-read _ _ (p7 .read-number .ensures) (not-false _ (p5 .if1 .left))) (p3 .if2 .left) (c .before .if3 .taken)))
 
 returns-4 : tie.Need-returns-4
-returns-4 c = let f = number-read _ _ (c .before .before .before .before .before .before .read-number .ensures) (not-false _ (c .before .before .before .before .if1 .left)) in c .before .before .before .before .before .before .read-number .ensures ∙ ap heldNumber (f ∙ sym (byte-here _ _ _ _ _ _ f (c .before .before .if2 .left) (c .if3 .left)))
+returns-4 c =
+    let p4 = c .before .before .before .before in
+    let p6 = p4 .before .before in
+    let f = number-read _ _ (p6 .read-number .ensures) (not-false _ (p4 .if1 .left)) in p6 .read-number .ensures ∙ ap heldNumber (f ∙ sym (byte-here _ _ _ _ _ _ f (c .before .before .if2 .left) (c .if3 .left)))
 
 pub read-byte-spec : {M : Type 1} → statement M
 read-byte-spec =

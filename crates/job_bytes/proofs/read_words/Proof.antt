@@ -23,7 +23,12 @@ no-words-requires : tie.Need-no-words-requires Inv-loop μ-loop
 no-words-requires c κs = search needs
 
 returns : tie.Need-returns Inv-loop μ-loop
-returns c = c .no-words .ensures ∙ sym (ap heldWords (word-stops _ _ _ _ _ _ (c .before .before .before .before .before .before .before .pre) (c .before .before .before .before .loop-test .taken) (c .before .before .before .before .before .loop .inv) _ (number-fault _ _ (c .before .before .before .read-number .ensures) (not-true _ (c .before .if1 .taken)))))
+returns c =
+    let p3 = c .before .before .before in
+    let p4 = p3 .before in
+    let p5 = p4 .before in
+    let p7 = p5 .before .before in
+    c .no-words .ensures ∙ sym (ap heldWords (word-stops _ _ _ _ _ _ (p7 .pre) (p4 .loop-test .taken) (p5 .loop .inv) _ (number-fault _ _ (p3 .read-number .ensures) (not-true _ (c .before .if1 .taken)))))
 
 mul-entries : tie.Need-mul-entries Inv-loop μ-loop
 mul-entries c = search needs

@@ -37,10 +37,14 @@ loop-less : tie.Need-loop-less Inv-loop μ-loop
 loop-less c = search needs
 
 loop-again : tie.Need-loop-again Inv-loop μ-loop
-loop-again c = let s : length (c .before .before .before .args .t1) ≡ 16 = search needs in (omega (arith, ltb-true), omega (arith, ltb-true), copy-one 1 0 (take (c .before .before .before .args .n) (c .before .before .before .args .t1)) _ _ _ (omega (arith, ltb-true)) (omega (arith, ltb-true, length-take (c .before .before .before .args .n) (c .before .before .before .args .t1))) (c .before .before .loop .inv .2) (sym (getD-take (c .before .before .before .args .n) (c .before .before .before .args .t1) (c .before .before .loop .i) 0 (omega (arith, ltb-true)))))
+loop-again c =
+    let p3 = c .before .before .before in
+    let s : length (p3 .args .t1) ≡ 16 = search needs in (omega (arith, ltb-true), omega (arith, ltb-true), copy-one 1 0 (take (p3 .args .n) (p3 .args .t1)) _ _ _ (omega (arith, ltb-true)) (omega (arith, ltb-true, length-take (p3 .args .n) (p3 .args .t1))) (c .before .before .loop .inv .2) (sym (getD-take (p3 .args .n) (p3 .args .t1) (c .before .before .loop .i) 0 (omega (arith, ltb-true)))))
 
 returns : tie.Need-returns Inv-loop μ-loop
-returns c = let s : length (c .before .before .before .args .t1) ≡ 16 = search needs in copy-ends 1 (take (c .before .before .before .args .n) (c .before .before .before .args .t1)) _ (c .before .before .loop .i) (omega arith) (omega (arith, ltb-true, length-take (c .before .before .before .args .n) (c .before .before .before .args .t1))) (omega (arith, ltb-false, length-take (c .before .before .before .args .n) (c .before .before .before .args .t1))) (c .before .before .loop .inv .2)
+returns c =
+    let p3 = c .before .before .before in
+    let s : length (p3 .args .t1) ≡ 16 = search needs in copy-ends 1 (take (p3 .args .n) (p3 .args .t1)) _ (c .before .before .loop .i) (omega arith) (omega (arith, ltb-true, length-take (p3 .args .n) (p3 .args .t1))) (omega (arith, ltb-false, length-take (p3 .args .n) (p3 .args .t1))) (c .before .before .loop .inv .2)
 
 returns-2 : tie.Need-returns-2 Inv-loop μ-loop
 returns-2 c = let s : length (c .before .before .args .t1) ≡ 16 = search needs in copy-full 1 (take (c .before .before .args .n) (c .before .before .args .t1)) _ (c .before .loop .i) (omega arith) (omega arith) (omega (arith, length-take (c .before .before .args .n) (c .before .before .args .t1))) (c .before .loop .inv .2)

@@ -25,7 +25,9 @@ returns-2 : tie.Need-returns-2
 returns-2 c = let f = number-read _ _ (c .before .before .before .before .before .read-number .ensures) (not-false _ (c .before .before .before .if1 .left)) in let r = number-room _ _ _ _ _ f in c .no-number .ensures ∙ sym (ap heldNumber (count-2 _ _ _ f (omega (arith, r .0, r .1, c .before .if2 .taken))))
 
 returns-3 : tie.Need-returns-3
-returns-3 c = let f = number-read _ _ (c .before .before .before .before .read-number .ensures) (not-false _ (c .before .before .if1 .left)) in let r = number-room _ _ _ _ _ f in c .before .before .before .before .read-number .ensures ∙ ap heldNumber (f ∙ sym (count-3 _ _ _ f (omega (arith, r .0, r .1, c .if2 .left))))
+returns-3 c =
+    let p4 = c .before .before .before .before in
+    let f = number-read _ _ (p4 .read-number .ensures) (not-false _ (c .before .before .if1 .left)) in let r = number-room _ _ _ _ _ f in p4 .read-number .ensures ∙ ap heldNumber (f ∙ sym (count-3 _ _ _ f (omega (arith, r .0, r .1, c .if2 .left))))
 
 pub read-count-spec : {M : Type 1} → statement M
 read-count-spec =

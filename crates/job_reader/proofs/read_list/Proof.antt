@@ -23,10 +23,18 @@ list-fault-requires-2 : tie.Need-list-fault-requires-2
 list-fault-requires-2 c κs = search needs
 
 returns-2 : tie.Need-returns-2
-returns-2 c = c .list-fault2 .ensures ∙ sym (ap heldEntries (list-2 _ _ _ _ _ (number-read _ _ (c .before .before .before .before .before .before .read-byte .ensures) (not-false _ (c .before .before .before .before .if1 .left))) (words-fault _ _ _ _ (c .before .before .before .read-words .ensures) (not-true _ (c .before .if2 .taken)))))
+returns-2 c =
+    let p3 = c .before .before .before in
+    let p4 = p3 .before in
+    let p6 = p4 .before .before in
+    c .list-fault2 .ensures ∙ sym (ap heldEntries (list-2 _ _ _ _ _ (number-read _ _ (p6 .read-byte .ensures) (not-false _ (p4 .if1 .left))) (words-fault _ _ _ _ (p3 .read-words .ensures) (not-true _ (c .before .if2 .taken)))))
 
 returns-3 : tie.Need-returns-3
-returns-3 c = let f = number-read _ _ (c .before .before .before .before .before .before .read-byte .ensures) (not-false _ (c .before .before .before .before .if1 .left)) in list-held _ _ _ _ (byte-range _ _ _ _ _ _ f .1) (c .before .before .before .read-words .ensures) (not-false _ (c .before .if2 .left)) ∙ sym (ap heldEntries (list-2 _ _ _ _ _ f refl))
+returns-3 c =
+    let p3 = c .before .before .before in
+    let p4 = p3 .before in
+    let p6 = p4 .before .before in
+    let f = number-read _ _ (p6 .read-byte .ensures) (not-false _ (p4 .if1 .left)) in list-held _ _ _ _ (byte-range _ _ _ _ _ _ f .1) (p3 .read-words .ensures) (not-false _ (c .before .if2 .left)) ∙ sym (ap heldEntries (list-2 _ _ _ _ _ f refl))
 
 pub read-list-spec : {M : Type 1} → statement M
 read-list-spec =

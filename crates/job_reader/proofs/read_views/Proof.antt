@@ -22,7 +22,11 @@ views-fault-requires-2 : tie.Need-views-fault-requires-2
 views-fault-requires-2 c κs = search needs
 
 returns-2 : tie.Need-returns-2
-returns-2 c = c .views-fault2 .ensures ∙ sym (ap heldViews (views-2 _ _ _ _ _ (got-view _ _ (c .before .before .before .before .before .before .read-view .ensures) (not-false _ (c .before .before .before .before .if1 .left))) (no-view _ _ (c .before .before .before .read-view2 .ensures) (not-true _ (c .before .if2 .taken)))))
+returns-2 c =
+    let p3 = c .before .before .before in
+    let p4 = p3 .before in
+    let p6 = p4 .before .before in
+    c .views-fault2 .ensures ∙ sym (ap heldViews (views-2 _ _ _ _ _ (got-view _ _ (p6 .read-view .ensures) (not-false _ (p4 .if1 .left))) (no-view _ _ (p3 .read-view2 .ensures) (not-true _ (c .before .if2 .taken)))))
 
 read-view-requires-3 : tie.Need-read-view-requires-3
 read-view-requires-3 c κs = search needs
@@ -31,10 +35,23 @@ views-fault-requires-3 : tie.Need-views-fault-requires-3
 views-fault-requires-3 c κs = search needs
 
 returns-3 : tie.Need-returns-3
-returns-3 c = c .views-fault3 .ensures ∙ sym (ap heldViews (views-3 _ _ _ _ _ _ _ (got-view _ _ (c .before .before .before .before .before .before .before .before .before .read-view .ensures) (not-false _ (c .before .before .before .before .before .before .before .if1 .left))) (got-view _ _ (c .before .before .before .before .before .before .read-view2 .ensures) (not-false _ (c .before .before .before .before .if2 .left))) (no-view _ _ (c .before .before .before .read-view3 .ensures) (not-true _ (c .before .if3 .taken)))))
+returns-3 c =
+    let p3 = c .before .before .before in
+    let p4 = p3 .before in
+    let p6 = p4 .before .before in
+    let p7 = p6 .before in
+    let p9 = p7 .before .before in
+    c .views-fault3 .ensures ∙ sym (ap heldViews (views-3 _ _ _ _ _ _ _ (got-view _ _ (p9 .read-view .ensures) (not-false _ (p7 .if1 .left))) (got-view _ _ (p6 .read-view2 .ensures) (not-false _ (p4 .if2 .left))) (no-view _ _ (p3 .read-view3 .ensures) (not-true _ (c .before .if3 .taken)))))
 
 returns-4 : tie.Need-returns-4
-returns-4 c = sym (ap heldViews (views-4 _ _ _ _ _ _ _ _ (got-view _ _ (c .before .before .before .before .before .before .before .before .before .before .before .read-view .ensures) (not-false _ (c .before .before .before .before .before .before .before .before .before .if1 .left))) (got-view _ _ (c .before .before .before .before .before .before .before .before .read-view2 .ensures) (not-false _ (c .before .before .before .before .before .before .if2 .left))) (got-view _ _ (c .before .before .before .before .before .read-view3 .ensures) (not-false _ (c .before .before .before .if3 .left)))))
+returns-4 c =
+    let p3 = c .before .before .before in
+    let p5 = p3 .before .before in
+    let p6 = p5 .before in
+    let p8 = p6 .before .before in
+    let p9 = p8 .before in
+    let p11 = p9 .before .before in
+    sym (ap heldViews (views-4 _ _ _ _ _ _ _ _ (got-view _ _ (p11 .read-view .ensures) (not-false _ (p9 .if1 .left))) (got-view _ _ (p8 .read-view2 .ensures) (not-false _ (p6 .if2 .left))) (got-view _ _ (p5 .read-view3 .ensures) (not-false _ (p3 .if3 .left)))))
 
 pub read-views-spec : {M : Type 1} → statement M
 read-views-spec =

@@ -45,10 +45,15 @@ loop-less : tie.Need-loop-less Inv-loop μ-loop
 loop-less c = search needs
 
 loop-again : tie.Need-loop-again Inv-loop μ-loop
-loop-again c = let s : length (c .before .before .before .before .args .t1) ≡ 16 = search needs in let f : SFits w64 (c .signed-word .result) = search needs in (omega (arith, ltb-true), omega (arith, ltb-true), copy-one (pos 0) (pos 0) (map signedOf (take (c .before .before .before .before .args .n) (c .before .before .before .before .args .t1))) _ _ _ (omega (arith, ltb-true)) (omega (arith, ltb-true, length-signed (c .before .before .before .before .args .n) (c .before .before .before .before .args .t1))) (c .before .before .before .loop .inv .2) (back f ∙ c .signed-word .ensures ∙ signed-entry (c .before .before .before .before .args .n) (c .before .before .before .before .args .t1) (c .before .before .before .loop .i) (omega (arith, ltb-true))))
+loop-again c =
+    let p3 = c .before .before .before in
+    let p4 = p3 .before in
+    let s : length (p4 .args .t1) ≡ 16 = search needs in let f : SFits w64 (c .signed-word .result) = search needs in (omega (arith, ltb-true), omega (arith, ltb-true), copy-one (pos 0) (pos 0) (map signedOf (take (p4 .args .n) (p4 .args .t1))) _ _ _ (omega (arith, ltb-true)) (omega (arith, ltb-true, length-signed (p4 .args .n) (p4 .args .t1))) (p3 .loop .inv .2) (back f ∙ c .signed-word .ensures ∙ signed-entry (p4 .args .n) (p4 .args .t1) (p3 .loop .i) (omega (arith, ltb-true))))
 
 returns : tie.Need-returns Inv-loop μ-loop
-returns c = let s : length (c .before .before .before .args .t1) ≡ 16 = search needs in copy-ends (pos 0) (map signedOf (take (c .before .before .before .args .n) (c .before .before .before .args .t1))) _ (c .before .before .loop .i) (omega arith) (omega (arith, ltb-true, length-signed (c .before .before .before .args .n) (c .before .before .before .args .t1))) (omega (arith, ltb-false, length-signed (c .before .before .before .args .n) (c .before .before .before .args .t1))) (c .before .before .loop .inv .2)
+returns c =
+    let p3 = c .before .before .before in
+    let s : length (p3 .args .t1) ≡ 16 = search needs in copy-ends (pos 0) (map signedOf (take (p3 .args .n) (p3 .args .t1))) _ (c .before .before .loop .i) (omega arith) (omega (arith, ltb-true, length-signed (p3 .args .n) (p3 .args .t1))) (omega (arith, ltb-false, length-signed (p3 .args .n) (p3 .args .t1))) (c .before .before .loop .inv .2)
 
 returns-2 : tie.Need-returns-2 Inv-loop μ-loop
 returns-2 c = let s : length (c .before .before .args .t1) ≡ 16 = search needs in copy-full (pos 0) (map signedOf (take (c .before .before .args .n) (c .before .before .args .t1))) _ (c .before .loop .i) (omega arith) (omega arith) (omega (arith, length-signed (c .before .before .args .n) (c .before .before .args .t1))) (c .before .loop .inv .2)

@@ -1,8 +1,7 @@
-use mathlib.Core.Path.{_≡_, ap}
+use mathlib.Core.Path.{_≡_}
 use native.Mathlib.Omega.{arith}
 use lib.ListN.{length}
 use lib.ListN.{length, length-take}
-use lib.Seq.{length-sets}
 use Rattle.job_writer.proofs.Parts.{put-list-is, length-list}
 use borrow.Author.Needs.{needs}
 use Rattle.job_writer.proofs.put_list.Statement.{statement}
@@ -21,10 +20,17 @@ array-share-prefix-entries : tie.Need-array-share-prefix-entries
 array-share-prefix-entries c = let s : length (c .before .before .before .before .before .before .before .before .args .list .entries) ≡ 16 = search needs in omega (arith, c .before .before .before .before .before .list-count .ensures)
 
 slice-aggregate-put-words : tie.Need-slice-aggregate-put-words
-slice-aggregate-put-words c = let s : length (c .before .before .before .before .before .before .before .before .before .args .list .entries) ≡ 16 = search needs in omega (arith, c .before .before .before .before .before .before .list-count .ensures, length-take (c .before .before .before .before .before .before .list-count .result) (c .before .before .before .before .before .before .before .before .before .args .list .entries))
+slice-aggregate-put-words c =
+    let p6 = c .before .before .before .before .before .before in
+    let p9 = p6 .before .before .before in
+    let s : length (p9 .args .list .entries) ≡ 16 = search needs in omega (arith, p6 .list-count .ensures, length-take (p6 .list-count .result) (p9 .args .list .entries))
 
 put-words-requires : tie.Need-put-words-requires
-put-words-requires c κs = let s : length (c .before .before .before .before .before .before .before .before .before .args .list .entries) ≡ 16 = search needs in omega (arith, length-list (c .before .before .before .before .before .before .before .before .before .args .list) s, c .before .before .before .before .before .before .list-count .ensures, length-take (c .before .before .before .before .before .before .list-count .result) (c .before .before .before .before .before .before .before .before .before .args .list .entries), simp length-sets at (ap length (c .before .before .before .before .put-number .ensures)))
+put-words-requires c κs =
+    let p3 = c .before .before .before in
+    let p6 = p3 .before .before .before in
+    let p9 = p6 .before .before .before in
+    let s : length (p9 .args .list .entries) ≡ 16 = search needs in omega (arith, length-list (p9 .args .list) s, p6 .list-count .ensures, length-take (p6 .list-count .result) (p9 .args .list .entries), p3 .out .given)
 
 add-result : tie.Need-add-result
 add-result c = search needs
@@ -39,7 +45,11 @@ same-length : tie.Need-same-length
 same-length c = search needs
 
 returns : tie.Need-returns
-returns c = let s : length (c .before .before .before .before .before .before .before .before .before .before .before .before .args .list .entries) ≡ 16 = search needs in put-list-is _ _ _ _ _ _ s (c .before .before .before .before .before .before .before .before .before .list-count .ensures) (c .before .before .before .before .before .before .before .put-number .ensures) (c .before .before .put-words .ensures)
+returns c =
+    let p7 = c .before .before .before .before .before .before .before in
+    let p9 = p7 .before .before in
+    let p12 = p9 .before .before .before in
+    let s : length (p12 .args .list .entries) ≡ 16 = search needs in put-list-is _ _ _ _ _ _ s (p9 .list-count .ensures) (p7 .put-number .ensures) (c .before .before .put-words .ensures)
 
 pub put-list-spec : {M : Type 1} → statement M
 put-list-spec =

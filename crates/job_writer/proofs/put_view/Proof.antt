@@ -2,7 +2,6 @@ use mathlib.Core.Path.{_≡_, ap, _∙_}
 use native.Mathlib.Omega.{arith}
 use lib.ListN.{length}
 use lib.ListN.{length, length-take}
-use lib.Seq.{length-sets}
 use mir.Syntax.{w64}
 use mir.Val.{SFits, ofZ}
 use Rattle.integer.specs.Z.{back}
@@ -30,19 +29,32 @@ offset-fits : (c : tie.After-put-number-arg) → SFits w64 (c .before .before .b
 offset-fits c = search needs
 
 put-number-requires : tie.Need-put-number-requires
-put-number-requires c κs = let s : length (c .before .before .before .before .before .before .before .before .before .args .view .layout .extents) ≡ 8 = search needs in let t : length (c .before .before .before .before .before .before .before .before .before .args .view .layout .strides) ≡ 8 = search needs in (omega (arith, length-view (c .before .before .before .before .before .before .before .before .before .args .view) s t, c .before .before .before .axis-count .ensures, c .before .before .before .before .before .before .before .before .before .pre), omega arith)
+put-number-requires c κs =
+    let p3 = c .before .before .before in
+    let p9 = p3 .before .before .before .before .before .before in
+    let s = extents-eight (c) in let t = strides-eight (c) in (omega (arith, length-view (p9 .args .view) s t, p3 .axis-count .ensures, p9 .pre), omega arith)
 
 add-put-words : tie.Need-add-put-words
 add-put-words c = search needs
 
 array-share-prefix-extents : tie.Need-array-share-prefix-extents
-array-share-prefix-extents c = let s : length (c .before .before .before .before .before .before .before .before .before .before .before .before .before .args .view .layout .extents) ≡ 8 = search needs in let t : length (c .before .before .before .before .before .before .before .before .before .before .before .before .before .args .view .layout .strides) ≡ 8 = search needs in omega (arith, c .before .before .before .before .before .before .before .axis-count .ensures)
+array-share-prefix-extents c =
+    let p7 = c .before .before .before .before .before .before .before in
+    let p13 = p7 .before .before .before .before .before .before in
+    let s = extents-eight (c .before .before .before .before) in let t = strides-eight (c .before .before .before .before) in omega (arith, p7 .axis-count .ensures)
 
 slice-aggregate-put-words : tie.Need-slice-aggregate-put-words
-slice-aggregate-put-words c = let s : length (c .before .before .before .before .before .before .before .before .before .before .before .before .before .before .args .view .layout .extents) ≡ 8 = search needs in let t : length (c .before .before .before .before .before .before .before .before .before .before .before .before .before .before .args .view .layout .strides) ≡ 8 = search needs in omega (arith, c .before .before .before .before .before .before .before .before .axis-count .ensures, length-take (c .before .before .before .before .before .before .before .before .axis-count .result) (c .before .before .before .before .before .before .before .before .before .before .before .before .before .before .args .view .layout .extents))
+slice-aggregate-put-words c =
+    let p8 = c .before .before .before .before .before .before .before .before in
+    let p14 = p8 .before .before .before .before .before .before in
+    let s = extents-eight (c .before .before .before .before .before) in let t = strides-eight (c .before .before .before .before .before) in omega (arith, p8 .axis-count .ensures, length-take (p8 .axis-count .result) (p14 .args .view .layout .extents))
 
 put-words-requires : tie.Need-put-words-requires
-put-words-requires c κs = let s : length (c .before .before .before .before .before .before .before .before .before .before .before .before .before .before .args .view .layout .extents) ≡ 8 = search needs in let t : length (c .before .before .before .before .before .before .before .before .before .before .before .before .before .before .args .view .layout .strides) ≡ 8 = search needs in omega (arith, length-view (c .before .before .before .before .before .before .before .before .before .before .before .before .before .before .args .view) s t, c .before .before .before .before .before .before .before .before .axis-count .ensures, c .before .before .before .before .before .before .before .before .before .before .before .before .before .before .pre, length-take (c .before .before .before .before .before .before .before .before .axis-count .result) (c .before .before .before .before .before .before .before .before .before .before .before .before .before .before .args .view .layout .extents), simp length-sets at (ap length (c .before .before .before .before .put-number .ensures)))
+put-words-requires c κs =
+    let p3 = c .before .before .before in
+    let p8 = p3 .before .before .before .before .before in
+    let p14 = p8 .before .before .before .before .before .before in
+    let s = extents-eight (c .before .before .before .before .before) in let t = strides-eight (c .before .before .before .before .before) in omega (arith, length-view (p14 .args .view) s t, p8 .axis-count .ensures, p14 .pre, length-take (p8 .axis-count .result) (p14 .args .view .layout .extents), p3 .out .given)
 
 add-put-words-2 : tie.Need-add-put-words-2
 add-put-words-2 c = search needs
@@ -57,10 +69,20 @@ array-share-prefix-words : tie.Need-array-share-prefix-words
 array-share-prefix-words c = search needs
 
 slice-aggregate-put-words-2 : tie.Need-slice-aggregate-put-words-2
-slice-aggregate-put-words-2 c = let s : length (c .before .before .before .before .before .before .before .before .before .before .before .before .before .before .before .before .before .before .before .args .view .layout .extents) ≡ 8 = search needs in let t : length (c .before .before .before .before .before .before .before .before .before .before .before .before .before .before .before .before .before .before .before .args .view .layout .strides) ≡ 8 = search needs in let w : length (c .before .before .before .before .before .before .before .before .before .before .before .before .stride-words .result) ≡ 8 = search needs in omega (arith, c .before .before .before .before .before .before .before .before .before .before .before .before .before .axis-count .ensures, length-take (c .before .before .before .before .before .before .before .before .before .before .before .before .before .axis-count .result) (c .before .before .before .before .before .before .before .before .before .before .before .before .stride-words .result))
+slice-aggregate-put-words-2 c =
+    let p12 = c .before .before .before .before .before .before .before .before .before .before .before .before in
+    let p13 = p12 .before in
+    let p19 = p13 .before .before .before .before .before .before in
+    let s = extents-eight (c .before .before .before .before .before .before .before .before .before .before) in let t = strides-eight (c .before .before .before .before .before .before .before .before .before .before) in let w : length (p12 .stride-words .result) ≡ 8 = search needs in omega (arith, p13 .axis-count .ensures, length-take (p13 .axis-count .result) (p12 .stride-words .result))
 
 put-words-requires-2 : tie.Need-put-words-requires-2
-put-words-requires-2 c κs = let s : length (c .before .before .before .before .before .before .before .before .before .before .before .before .before .before .before .before .before .before .before .args .view .layout .extents) ≡ 8 = search needs in let t : length (c .before .before .before .before .before .before .before .before .before .before .before .before .before .before .before .before .before .before .before .args .view .layout .strides) ≡ 8 = search needs in let w : length (c .before .before .before .before .before .before .before .before .before .before .before .before .stride-words .result) ≡ 8 = search needs in omega (arith, length-view (c .before .before .before .before .before .before .before .before .before .before .before .before .before .before .before .before .before .before .before .args .view) s t, c .before .before .before .before .before .before .before .before .before .before .before .before .before .axis-count .ensures, c .before .before .before .before .before .before .before .before .before .before .before .before .before .before .before .before .before .before .before .pre, length-take (c .before .before .before .before .before .before .before .before .before .before .before .before .before .axis-count .result) (c .before .before .before .before .before .before .before .before .before .before .before .before .stride-words .result), simp length-sets at (ap length (c .before .before .before .before .before .before .before .before .before .put-number .ensures)), simp length-sets at (ap length (c .before .before .before .before .put-words .ensures)))
+put-words-requires-2 c κs =
+    let p3 = c .before .before .before in
+    let p8 = p3 .before .before .before .before .before in
+    let p12 = p8 .before .before .before .before in
+    let p13 = p12 .before in
+    let p19 = p13 .before .before .before .before .before .before in
+    let s = extents-eight (c .before .before .before .before .before .before .before .before .before .before) in let t = strides-eight (c .before .before .before .before .before .before .before .before .before .before) in let w : length (p12 .stride-words .result) ≡ 8 = search needs in omega (arith, length-view (p19 .args .view) s t, p13 .axis-count .ensures, p19 .pre, length-take (p13 .axis-count .result) (p12 .stride-words .result), p8 .out .given, p3 .out2 .given)
 
 add-put-number : tie.Need-add-put-number
 add-put-number c = search needs
@@ -72,7 +94,12 @@ add-put-number-2 : tie.Need-add-put-number-2
 add-put-number-2 c = search needs
 
 put-number-requires-2 : tie.Need-put-number-requires-2
-put-number-requires-2 c κs = let s : length (c .before .before .before .before .before .before .before .before .before .before .before .before .before .before .before .before .before .before .before .before .before .before .before .args .view .layout .extents) ≡ 8 = search needs in let t : length (c .before .before .before .before .before .before .before .before .before .before .before .before .before .before .before .before .before .before .before .before .before .before .before .args .view .layout .strides) ≡ 8 = search needs in (omega (arith, length-view (c .before .before .before .before .before .before .before .before .before .before .before .before .before .before .before .before .before .before .before .before .before .before .before .args .view) s t, c .before .before .before .before .before .before .before .before .before .before .before .before .before .before .before .before .before .axis-count .ensures, c .before .before .before .before .before .before .before .before .before .before .before .before .before .before .before .before .before .before .before .before .before .before .before .pre, simp length-sets at (ap length (c .before .before .before .before .before .before .before .before .before .before .before .before .before .put-number .ensures)), simp length-sets at (ap length (c .before .before .before .before .before .before .before .before .put-words .ensures)), simp length-sets at (ap length (c .before .before .before .put-words2 .ensures))), omega arith)
+put-number-requires-2 c κs =
+    let p7 = c .before .before .before .before .before .before .before in
+    let p12 = p7 .before .before .before .before .before in
+    let p17 = p12 .before .before .before .before .before in
+    let p23 = p17 .before .before .before .before .before .before in
+    let s = extents-eight (c .before .before .before .before .before .before .before .before .before .before .before .before .before .before) in let t = strides-eight (c .before .before .before .before .before .before .before .before .before .before .before .before .before .before) in (omega (arith, length-view (p23 .args .view) s t, p17 .axis-count .ensures, p23 .pre, p12 .out .given, p7 .out2 .given, c .before .before .out3 .given), omega arith)
 
 layout-size-requires : tie.Need-layout-size-requires
 layout-size-requires c κs = search needs
@@ -84,7 +111,15 @@ same-length : tie.Need-same-length
 same-length c = search needs
 
 returns : tie.Need-returns
-returns c = let s = extents-eight (c .before .before .before .before .before .before .before .before .before .before .before .before .before .before .before .before .before .before) in let t = strides-eight (c .before .before .before .before .before .before .before .before .before .before .before .before .before .before .before .before .before .before) in let f = offset-fits (c .before .before .before .before .before .before .before .before .before .before .before .before .before .before .before .before .before .before) in put-view-is _ _ _ _ _ _ _ _ _ _ _ s t (c .before .before .before .before .before .before .before .before .before .before .before .before .before .before .before .before .before .before .before .before .before .axis-count .ensures) (c .before .before .before .before .before .before .before .before .before .before .before .before .before .before .before .before .before .before .before .before .stride-words .ensures) (c .before .before .before .before .before .before .before .before .before .before .before .before .before .before .before .before .before .before .before .word-of .ensures ∙ ap (ofZ w64) (back f)) (c .layout-size .ensures) (c .before .before .before .before .before .before .before .before .before .before .before .before .before .before .before .before .before .put-number .ensures) (c .before .before .before .before .before .before .before .before .before .before .before .before .put-words .ensures) (c .before .before .before .before .before .before .before .put-words2 .ensures) (c .before .before .before .put-number2 .ensures)
+returns c =
+    let p3 = c .before .before .before in
+    let p7 = p3 .before .before .before .before in
+    let p12 = p7 .before .before .before .before .before in
+    let p17 = p12 .before .before .before .before .before in
+    let p19 = p17 .before .before in
+    let p20 = p19 .before in
+    let p21 = p20 .before in
+    let s = extents-eight (c .before .before .before .before .before .before .before .before .before .before .before .before .before .before .before .before .before .before) in let t = strides-eight (c .before .before .before .before .before .before .before .before .before .before .before .before .before .before .before .before .before .before) in let f = offset-fits (c .before .before .before .before .before .before .before .before .before .before .before .before .before .before .before .before .before .before) in put-view-is _ _ _ _ _ _ _ _ _ _ _ s t (p21 .axis-count .ensures) (p20 .stride-words .ensures) (p19 .word-of .ensures ∙ ap (ofZ w64) (back f)) (c .layout-size .ensures) (p17 .put-number .ensures) (p12 .put-words .ensures) (p7 .put-words2 .ensures) (p3 .put-number2 .ensures)
 
 pub put-view-spec : {M : Type 1} → statement M
 put-view-spec =

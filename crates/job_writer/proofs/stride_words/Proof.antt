@@ -43,7 +43,10 @@ loop-less : tie.Need-loop-less Inv-loop μ-loop
 loop-less c = search needs
 
 loop-again : tie.Need-loop-again Inv-loop μ-loop
-loop-again c = let s : length (c .before .before .before .before .args .t1) ≡ 8 = search needs in let f : SFits w64 (getD (c .before .before .before .before .args .t1) (c .before .before .before .loop .i) (pos 0)) = search needs in (omega arith, word-one (c .before .before .before .before .args .t1) _ _ _ s (omega arith) (c .before .before .before .loop .inv .1) (c .word-of .ensures ∙ ap (ofZ w64) (back f)))
+loop-again c =
+    let p3 = c .before .before .before in
+    let p4 = p3 .before in
+    let s : length (p4 .args .t1) ≡ 8 = search needs in let f : SFits w64 (getD (p4 .args .t1) (p3 .loop .i) (pos 0)) = search needs in (omega arith, word-one (p4 .args .t1) _ _ _ s (omega arith) (p3 .loop .inv .1) (c .word-of .ensures ∙ ap (ofZ w64) (back f)))
 
 returns : tie.Need-returns Inv-loop μ-loop
 returns c = let s : length (c .before .before .args .t1) ≡ 8 = search needs in word-all (c .before .before .args .t1) _ (c .before .loop .i) s (omega arith) (omega arith) (c .before .loop .inv .1)

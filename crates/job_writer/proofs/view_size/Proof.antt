@@ -13,7 +13,9 @@ layout-size-requires : tie.Need-layout-size-requires
 layout-size-requires c κs = search needs
 
 returns : tie.Need-returns
-returns c = let s : length (c .before .before .before .args .view .layout .extents) ≡ 8 = search needs in let t : length (c .before .before .before .args .view .layout .strides) ≡ 8 = search needs in record { is = omega (arith, length-view (c .before .before .before .args .view) s t, c .layout-size .ensures, c .before .axis-count .ensures); most = omega (arith, c .layout-size .ensures, c .before .axis-count .ensures) }
+returns c =
+    let p3 = c .before .before .before in
+    let s : length (p3 .args .view .layout .extents) ≡ 8 = search needs in let t : length (p3 .args .view .layout .strides) ≡ 8 = search needs in record { is = omega (arith, length-view (p3 .args .view) s t, c .layout-size .ensures, c .before .axis-count .ensures); most = omega (arith, c .layout-size .ensures, c .before .axis-count .ensures) }
 
 pub view-size-spec : {M : Type 1} → statement M
 view-size-spec = tie.close (tie.spec axis-count-requires layout-size-requires returns)
