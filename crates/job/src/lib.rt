@@ -184,13 +184,13 @@ fn check_list(n: usize) -> Answer
     }
 }
 
-fn check_lists(window: usize, unit: usize, map: usize, sizes: usize) -> Answer
-    ensures { λ r. ⌜ r ≡ listsRefusal window unit map sizes ⌝ }
+fn check_lists(window: List16, unit: List16, map: List16, sizes: List16) -> Answer
+    ensures { λ r. ⌜ r ≡ listsRefusal (window .count) (unit .count) (map .count) (sizes .count) ⌝ }
 {
-    let a = check_list(window);
-    let b = check_list(unit);
-    let c = check_list(map);
-    let d = check_list(sizes);
+    let a = check_list(window.count);
+    let b = check_list(unit.count);
+    let c = check_list(map.count);
+    let d = check_list(sizes.count);
     checks::or_else(a, checks::or_else(b, checks::or_else(c, d)))
 }
 
@@ -234,13 +234,6 @@ pub fn make_gather_job(
         dest_extents.len(),
         dest_strides.len(),
     );
-    let b = check_lists(
-        offset_dims.len(),
-        collapsed_slice_dims.len(),
-        start_index_map.len(),
-        slice_sizes.len(),
-    );
-    let kind = Kind::Gather;
     let first = view_from(operand_extents, operand_strides, operand_offset);
     let second = view_from(index_extents, index_strides, index_offset);
     let third = view_from(dest_extents, dest_strides, dest_offset);
@@ -248,11 +241,10 @@ pub fn make_gather_job(
     let unit = list_from(collapsed_slice_dims);
     let map = list_from(start_index_map);
     let sizes = list_from(slice_sizes);
+    let b = check_lists(window, unit, map, sizes);
     let spec = spec_from(window, unit, map, index_vector_dim, sizes);
-    made_job(
-        checks::or_else(a, b),
-        job_from(kind, element, first, second, third, spec),
-    )
+    let job = job_from(Kind::Gather, element, first, second, third, spec);
+    made_job(checks::or_else(a, b), job)
 }
 
 // A scatter from its parts.
@@ -282,13 +274,6 @@ pub fn make_scatter_job(
         dest_extents.len(),
         dest_strides.len(),
     );
-    let b = check_lists(
-        update_window_dims.len(),
-        inserted_window_dims.len(),
-        scatter_dims_to_operand_dims.len(),
-        0,
-    );
-    let kind = Kind::Scatter;
     let first = view_from(index_extents, index_strides, index_offset);
     let second = view_from(update_extents, update_strides, update_offset);
     let third = view_from(dest_extents, dest_strides, dest_offset);
@@ -296,11 +281,10 @@ pub fn make_scatter_job(
     let unit = list_from(inserted_window_dims);
     let map = list_from(scatter_dims_to_operand_dims);
     let sizes = no_list();
+    let b = check_lists(window, unit, map, sizes);
     let spec = spec_from(window, unit, map, index_vector_dim, sizes);
-    made_job(
-        checks::or_else(a, b),
-        job_from(kind, element, first, second, third, spec),
-    )
+    let job = job_from(Kind::Scatter, element, first, second, third, spec);
+    made_job(checks::or_else(a, b), job)
 }
 
 fn spec_from(
