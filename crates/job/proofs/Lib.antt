@@ -1,0 +1,3 @@
+pub mod PartsBack
+pub mod RoundTrip
+pub mod Making

@@ -1,0 +1,47 @@
+use Rattle.job.specs.Jobs.{listsRefusal}
+use borrow.Author.Needs.{needs}
+use Rattle.job.proofs.check_lists.Statement.{statement}
+use Rattle.job.proofs.check_lists.Tie as tie
+
+check-list-requires : tie.Need-check-list-requires
+check-list-requires c κs = search needs
+
+check-list-requires-2 : tie.Need-check-list-requires-2
+check-list-requires-2 c κs = search needs
+
+check-list-requires-3 : tie.Need-check-list-requires-3
+check-list-requires-3 c κs = search needs
+
+check-list-requires-4 : tie.Need-check-list-requires-4
+check-list-requires-4 c κs = search needs
+
+or-else-requires : tie.Need-or-else-requires
+or-else-requires c κs = search needs
+
+or-else-requires-2 : tie.Need-or-else-requires-2
+or-else-requires-2 c κs = search needs
+
+or-else-requires-3 : tie.Need-or-else-requires-3
+or-else-requires-3 c κs = search needs
+
+returns : tie.Need-returns
+unfolding listsRefusal
+returns c =
+    let p3 = c .before .before .before in
+    let p4 = p3 .before in
+    let p5 = p4 .before in
+    let p6 = p5 .before in
+    rw (c .or-else3 .ensures, c .before .or-else2 .ensures, c .before .before .or-else .ensures, p6 .check-list .ensures, p5 .check-list2 .ensures, p4 .check-list3 .ensures, p3 .check-list4 .ensures)
+
+pub check-lists-spec : {M : Type 1} → statement M
+check-lists-spec =
+    tie.close
+    (tie.spec
+    check-list-requires
+    check-list-requires-2
+    check-list-requires-3
+    check-list-requires-4
+    or-else-requires
+    or-else-requires-2
+    or-else-requires-3
+    returns)

@@ -1,0 +1,67 @@
+use Rattle.job.specs.Jobs.{viewsRefusal}
+use borrow.Author.Needs.{needs}
+use Rattle.job.proofs.check_views.Statement.{statement}
+use Rattle.job.proofs.check_views.Tie as tie
+
+check-stride-length-requires : tie.Need-check-stride-length-requires
+check-stride-length-requires c κs = search needs
+
+check-stride-length-requires-2 : tie.Need-check-stride-length-requires-2
+check-stride-length-requires-2 c κs = search needs
+
+check-stride-length-requires-3 : tie.Need-check-stride-length-requires-3
+check-stride-length-requires-3 c κs = search needs
+
+check-rank-requires : tie.Need-check-rank-requires
+check-rank-requires c κs = search needs
+
+check-rank-requires-2 : tie.Need-check-rank-requires-2
+check-rank-requires-2 c κs = search needs
+
+check-rank-requires-3 : tie.Need-check-rank-requires-3
+check-rank-requires-3 c κs = search needs
+
+or-else-requires : tie.Need-or-else-requires
+or-else-requires c κs = search needs
+
+or-else-requires-2 : tie.Need-or-else-requires-2
+or-else-requires-2 c κs = search needs
+
+or-else-requires-3 : tie.Need-or-else-requires-3
+or-else-requires-3 c κs = search needs
+
+or-else-requires-4 : tie.Need-or-else-requires-4
+or-else-requires-4 c κs = search needs
+
+or-else-requires-5 : tie.Need-or-else-requires-5
+or-else-requires-5 c κs = search needs
+
+returns : tie.Need-returns
+unfolding viewsRefusal
+returns c =
+    let p3 = c .before .before .before in
+    let p4 = p3 .before in
+    let p5 = p4 .before in
+    let p6 = p5 .before in
+    let p7 = p6 .before in
+    let p8 = p7 .before in
+    let p9 = p8 .before in
+    let p10 = p9 .before in
+    rw (c .or-else5 .ensures, c .before .or-else4 .ensures, c .before .before .or-else3 .ensures, p3 .or-else2 .ensures, p4 .or-else .ensures, p10 .check-stride-length .ensures, p9 .check-stride-length2 .ensures, p8 .check-stride-length3 .ensures, p7 .check-rank .ensures, p6 .check-rank2 .ensures, p5 .check-rank3 .ensures)
+
+pub check-views-spec : {M : Type 1} → statement M
+check-views-spec =
+    tie.close
+    (tie.spec
+    check-stride-length-requires
+    check-stride-length-requires-2
+    check-stride-length-requires-3
+    check-rank-requires
+    check-rank-requires-2
+    check-rank-requires-3
+    or-else-requires
+    or-else-requires-2
+    or-else-requires-3
+    or-else-requires-4
+    or-else-requires-5
+    returns)

@@ -1,0 +1,16 @@
+use Rattle.integer.specs.Z.{back}
+use borrow.Author.Needs.{needs}
+use Rattle.job.proofs.view_from.Statement.{statement}
+use Rattle.job.proofs.view_from.Tie as tie
+
+padded-extents-requires : tie.Need-padded-extents-requires
+padded-extents-requires c κs = search needs
+
+padded-strides-requires : tie.Need-padded-strides-requires
+padded-strides-requires c κs = search needs
+
+returns : tie.Need-returns
+returns c = rw (c .before .padded-extents .ensures, c .padded-strides .ensures, back (c .before .before .before .fits .offset))
+
+pub view-from-spec : {M : Type 1} → statement M
+view-from-spec = tie.close (tie.spec padded-extents-requires padded-strides-requires returns)

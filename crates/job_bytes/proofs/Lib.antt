@@ -1,0 +1,5 @@
+pub mod Counting
+pub mod Putting
+pub mod Reading
+pub mod Signs
+pub mod Back

@@ -1,0 +1,30 @@
+use mathlib.Core.Path.{_∙_}
+use native.Mathlib.Omega.{arith}
+use mir.Facts.{toZ-ofZ}
+use Rattle.integer.specs.Z.{znorm, zflat, known}
+use Rattle.job_bytes.proofs.Signs.{high-word}
+use borrow.Author.Needs.{needs}
+use Rattle.job_bytes.proofs.signed_word.Statement.{statement}
+use Rattle.job_bytes.proofs.signed_word.Tie as tie
+
+cast-result : tie.Need-cast-result
+cast-result c = search needs
+
+sub-result : tie.Need-sub-result
+sub-result c = search needs
+
+cast-result-2 : tie.Need-cast-result-2
+cast-result-2 c = search needs
+
+sub-result-2 : tie.Need-sub-result-2
+sub-result-2 c = simp znorm (simp zflat (omega (arith, known (cast-result-2 c))))
+
+returns : tie.Need-returns
+returns c = search needs
+
+returns-2 : tie.Need-returns-2
+returns-2 c = toZ-ofZ (sub-result-2 c) ∙ high-word (c .before .args .word) (omega arith) (omega arith)
+
+pub signed-word-spec : {M : Type 1} → statement M
+signed-word-spec =
+    tie.close (tie.spec cast-result sub-result cast-result-2 sub-result-2 returns returns-2)

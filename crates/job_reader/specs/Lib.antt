@@ -1,0 +1,2 @@
+-- What the reader hands back.
+pub mod Held

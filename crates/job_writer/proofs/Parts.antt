@@ -1,0 +1,189 @@
+-- Parts of a job as bytes: how many they are, and one stored behind another. Assumes nothing.
+use mathlib.Core.Path.{_≡_, refl, sym, ap, ap₂, _∙_}
+use mathlib.Core.Bool.{true, false}
+use mathlib.Core.List.{List, [], _∷_, _++_, append-nil, map}
+use Prim.Native.Nat.{ℕ, zero, suc, _+_, _-_, _*_, _≤_, _<_, min}
+use native.Mathlib.Omega.{arith}
+use native.Mathlib.Nat.{zero-add}
+use borrow.Author.Tests.{le-leb, lt-leb}
+use lib.Dec.{leb}
+use lib.ListN.{length, take, drop, getD, set, replicate, length-append, length-take, length-map, List·getD-map}
+use lib.Seq.{sets, length-sets, sets-eq, take-all}
+use lib.IntN.{ℤ, pos}
+use Rattle.layout.specs.declared.Answer.the-variants as A
+use Rattle.layout.specs.declared.View.{View}
+use Rattle.layout.specs.Layouts.{rankLimit, extentsOf, stridesOf}
+use Rattle.layout.proofs.Fill.{fill-one}
+use Rattle.axis_lists.proofs.Filling.{take-count}
+use Rattle.job_bytes.specs.Fields.{bytesOf, wordsOf, wordOf, listLimit}
+use Rattle.job_bytes.proofs.Putting.{sets-append, length-bytes, length-words}
+use Rattle.job.specs.declared.Kind.{Kind}
+use Rattle.job.specs.declared.List16.{List16}
+use Rattle.job.specs.declared.Views.{Views}
+use Rattle.job.specs.declared.Spec.{Spec}
+use Rattle.job.specs.declared.Job.{Job}
+use Rattle.job.specs.Jobs.{entriesOf}
+use Rattle.job.specs.Format.{viewBytes, listBytes, sizesBytes, specBytes, viewsBytes, bodyBytes, encoded, version, kindByte, elementByte}
+use Rattle.job_writer.specs.Written.{Put, Written, Sized}
+
+-- ---- how many bytes
+pub length-view : (v : View) → length (v .layout .extents) ≡ rankLimit → length (v .layout .strides) ≡ rankLimit → length (viewBytes v) ≡ 9 + 16 * min (v .layout .rank) rankLimit
+unfolding viewBytes
+length-view v e s =
+    let n : ℕ = length (extentsOf (v .layout)) in
+    let xs : List ℕ = wordsOf (extentsOf (v .layout)) in
+    let ys : List ℕ = wordsOf (map wordOf (stridesOf (v .layout))) in
+    let zs : List ℕ = bytesOf 8 (wordOf (v .offset)) in
+    omega (arith, length-append (bytesOf 1 n) (xs ++ (ys ++ zs)), length-append xs (ys ++ zs), length-append ys zs, length-bytes 1 n, length-bytes 8 (wordOf (v .offset)), length-words (extentsOf (v .layout)), length-words (map wordOf (stridesOf (v .layout))), length-map (stridesOf (v .layout)) wordOf, length-take (v .layout .rank) (v .layout .extents), length-take (v .layout .rank) (v .layout .strides))
+
+pub length-list : (l : List16) → length (l .entries) ≡ listLimit → length (listBytes l) ≡ 1 + 8 * min (l .count) listLimit
+unfolding listBytes
+length-list l e =
+    omega (arith, length-append (bytesOf 1 (length (entriesOf l))) (wordsOf (entriesOf l)), length-bytes 1 (length (entriesOf l)), length-words (entriesOf l), length-take (l .count) (l .entries))
+
+-- ---- sums of sizes
+pub sized-two : (a b : List ℕ) (m n x y : ℕ) → Sized a m x → Sized b n y → Sized (a ++ b) (m + n) (x + y)
+sized-two a b m n x y p q = record { is = ap₂ _+_ (p .is) (q .is) ∙ sym (length-append a b); most = omega arith }
+
+pub sized-number : (w v : ℕ) → Sized (bytesOf w v) w w
+sized-number w v = record { is = sym (length-bytes w v); most = omega arith }
+
+pub sized-views : (vs : Views) (x y z : ℕ) → Sized (viewBytes (vs .first)) 137 x → Sized (viewBytes (vs .second)) 137 y → Sized (viewBytes (vs .third)) 137 z → Sized (viewsBytes vs) 411 (x + (y + z))
+unfolding viewsBytes
+sized-views vs x y z p q r = sized-two _ _ _ _ _ _ p (sized-two _ _ _ _ _ _ q r)
+
+pub sized-spec : (kind : Kind) (s : Spec) (a b c d : ℕ) → Sized (listBytes (s .«window_dims»)) 129 a → Sized (listBytes (s .«unit_dims»)) 129 b → Sized (listBytes (s .«start_map»)) 129 c → Sized (sizesBytes kind (s .«slice_sizes»)) 129 d → Sized (specBytes kind s) 524 (a + (b + (c + (8 + d))))
+unfolding specBytes
+sized-spec kind s a b c d p q r t = sized-two _ _ _ _ _ _ p (sized-two _ _ _ _ _ _ q (sized-two _ _ _ _ _ _ r (sized-two _ _ _ _ _ _ (sized-number 8 (s .«index_vector_dim»)) t)))
+
+pub sized-body : (j : Job) (a b : ℕ) → Sized (viewsBytes (j .views)) 411 a → Sized (specBytes (j .kind) (j .spec)) 524 b → Sized (bodyBytes j) 938 (3 + (a + b))
+unfolding bodyBytes
+sized-body j a b p q =
+    let t = sized-two _ _ _ _ _ _ (sized-number 1 version) (sized-two _ _ _ _ _ _ (sized-number 1 (kindByte (j .kind))) (sized-two _ _ _ _ _ _ (sized-number 1 (elementByte (j .element))) (sized-two _ _ _ _ _ _ p q))) in
+    record { is = omega (arith, t .is); most = omega (arith, t .most) }
+
+-- ---- one part behind another
+pub put-of : {before after part : List ℕ} {at next : ℕ} → after ≡ sets before at part → next ≡ at + length part → Put before after at part next
+put-of e f = record { cells = e; place = f }
+
+pub put-then : {before mid after a b : List ℕ} {at k next : ℕ} → Put before mid at a k → Put mid after k b next → Put before after at (a ++ b) next
+put-then {before} {mid} {after} {a} {b} {at} {k} {next} p q =
+    record {
+      cells = q .cells ∙ ap₂ (λ (l : List ℕ) (i : ℕ). sets l i b) (p .cells) (p .place) ∙ sym (sets-append before at a b);
+      place = omega (arith, q .place, p .place, length-append a b);
+    }
+
+pub put-same : {before after part : List ℕ} {at next : ℕ} → Put before after at part next → length after ≡ length before
+put-same {before} {after} {part} {at} {next} p = ap length (p .cells) ∙ length-sets before at part
+
+-- ---- the parts themselves
+take-map : {A B : Type 0} (f : A → B) (n : ℕ) (xs : List A) → take n (map f xs) ≡ map f (take n xs)
+take-map f zero xs = refl
+take-map f (suc n) [] = refl
+take-map f (suc n) (x ∷ xs) = ap (λ (l : List _). f x ∷ l) (take-map f n xs)
+
+pub put-list-is : (l : List16) (n at : ℕ) (before mid after : List ℕ) → length (l .entries) ≡ listLimit → n ≡ min (l .count) listLimit
+    → mid ≡ sets before at (bytesOf 1 n) → after ≡ sets mid (at + 1) (wordsOf (take n (l .entries))) → Put before after at (listBytes l) (at + 1 + 8 * n)
+unfolding listBytes
+put-list-is l n at before mid after s h e f =
+    let t : take n (l .entries) ≡ entriesOf l = take-count n (l .count) (l .entries) (omega arith) in
+    let m : n ≡ length (entriesOf l) = omega (arith, length-take (l .count) (l .entries)) in
+    let p : Put before mid at (bytesOf 1 (length (entriesOf l))) (at + 1) = put-of (rw (← m) e) (omega (arith, length-bytes 1 (length (entriesOf l)))) in
+    let q : Put mid after (at + 1) (wordsOf (entriesOf l)) (at + 1 + 8 * n) = put-of (rw (← t) f) (omega (arith, length-words (entriesOf l))) in
+    put-then p q
+
+pub put-view-is : (v : View) (n k at w : ℕ) (ws before a b c after : List ℕ) → length (v .layout .extents) ≡ rankLimit → length (v .layout .strides) ≡ rankLimit → n ≡ min (v .layout .rank) rankLimit
+    → ws ≡ map wordOf (v .layout .strides) → w ≡ wordOf (v .offset) → k ≡ 9 + 16 * n
+    → a ≡ sets before at (bytesOf 1 n) → b ≡ sets a (at + 1) (wordsOf (take n (v .layout .extents))) → c ≡ sets b (at + 1 + 8 * n) (wordsOf (take n ws)) → after ≡ sets c (at + 1 + 16 * n) (bytesOf 8 w)
+    → Put before after at (viewBytes v) (at + k)
+unfolding viewBytes
+put-view-is v n k at w ws before a b c after se ss h ew eo ek p q r t =
+    let te : take n (v .layout .extents) ≡ extentsOf (v .layout) = take-count n (v .layout .rank) (v .layout .extents) (omega arith) in
+    let ts : take n ws ≡ map wordOf (stridesOf (v .layout)) = ap (take n) ew ∙ take-map wordOf n (v .layout .strides) ∙ ap (map wordOf) (take-count n (v .layout .rank) (v .layout .strides) (omega arith)) in
+    let m : n ≡ length (extentsOf (v .layout)) = omega (arith, length-take (v .layout .rank) (v .layout .extents)) in
+    let o : n ≡ length (map wordOf (stridesOf (v .layout))) = omega (arith, length-map (stridesOf (v .layout)) wordOf, length-take (v .layout .rank) (v .layout .strides)) in
+    let p1 : Put before a at (bytesOf 1 (length (extentsOf (v .layout)))) (at + 1) = put-of (rw (← m) p) (omega (arith, length-bytes 1 (length (extentsOf (v .layout))))) in
+    let p2 : Put a b (at + 1) (wordsOf (extentsOf (v .layout))) (at + 1 + 8 * n) = put-of (rw (← te) q) (omega (arith, length-words (extentsOf (v .layout)))) in
+    let p3 : Put b c (at + 1 + 8 * n) (wordsOf (map wordOf (stridesOf (v .layout)))) (at + 1 + 16 * n) = put-of (rw (← ts) r) (omega (arith, length-words (map wordOf (stridesOf (v .layout))))) in
+    let p4 : Put c after (at + 1 + 16 * n) (bytesOf 8 (wordOf (v .offset))) (at + k) = put-of (rw (← eo) t) (omega (arith, length-bytes 8 (wordOf (v .offset)))) in
+    put-then p1 (put-then p2 (put-then p3 p4))
+
+-- the strides as words, i of them written
+abbrev pub worded : List ℤ → ℕ → List ℕ
+worded ss i = take i (map wordOf ss) ++ replicate (rankLimit - i) 0
+
+pub word-one : (ss : List ℤ) (out : List ℕ) (i x : ℕ) → length ss ≡ rankLimit → i < rankLimit → out ≡ worded ss i → x ≡ wordOf (getD ss i (pos 0)) → set out i x ≡ worded ss (i + 1)
+word-one ss out i x s h e f =
+    ap₂ (λ (o : List ℕ) (y : ℕ). set o i y) e (f ∙ sym (List·getD-map wordOf ss i (pos 0)))
+    ∙ fill-one rankLimit 0 0 (map wordOf ss) i h (omega (arith, length-map ss wordOf))
+
+pub word-all : (ss : List ℤ) (out : List ℕ) (i : ℕ) → length ss ≡ rankLimit → rankLimit ≤ i → i ≤ rankLimit → out ≡ worded ss i → out ≡ map wordOf ss
+word-all ss out i s h k e =
+    let n : rankLimit - i ≡ 0 = omega arith in
+    e ∙ rw (n, take-all i (map wordOf ss) (omega (arith, length-map ss wordOf))) (append-nil (map wordOf ss))
+
+pub put-views-is : (vs : Views) (before a b after : List ℕ) (at k l m : ℕ) → Put before a at (viewBytes (vs .first)) k → Put a b k (viewBytes (vs .second)) l → Put b after l (viewBytes (vs .third)) m → Put before after at (viewsBytes vs) m
+unfolding viewsBytes
+put-views-is vs before a b after at k l m p q r = put-then p (put-then q r)
+
+pub put-spec-is : (kind : Kind) (s : Spec) (before a b c d after : List ℕ) (at k l m o : ℕ) → Put before a at (listBytes (s .«window_dims»)) k → Put a b k (listBytes (s .«unit_dims»)) l → Put b c l (listBytes (s .«start_map»)) m
+    → d ≡ sets c m (bytesOf 8 (s .«index_vector_dim»)) → Put d after (m + 8) (sizesBytes kind (s .«slice_sizes»)) o → Put before after at (specBytes kind s) o
+unfolding specBytes
+put-spec-is kind s before a b c d after at k l m o p q r e t =
+    let n : Put c d m (bytesOf 8 (s .«index_vector_dim»)) (m + 8) = put-of e (omega (arith, length-bytes 8 (s .«index_vector_dim»))) in
+    put-then p (put-then q (put-then r (put-then n t)))
+
+-- how long the rest is
+pub length-views : (vs : Views) → length (viewsBytes vs) ≡ length (viewBytes (vs .first)) + (length (viewBytes (vs .second)) + length (viewBytes (vs .third)))
+unfolding viewsBytes
+length-views vs = length-append (viewBytes (vs .first)) (viewBytes (vs .second) ++ viewBytes (vs .third)) ∙ ap (λ (n : ℕ). length (viewBytes (vs .first)) + n) (length-append (viewBytes (vs .second)) (viewBytes (vs .third)))
+
+pub length-spec : (kind : Kind) (s : Spec) → length (specBytes kind s) ≡ length (listBytes (s .«window_dims»)) + (length (listBytes (s .«unit_dims»)) + (length (listBytes (s .«start_map»)) + (8 + length (sizesBytes kind (s .«slice_sizes»)))))
+unfolding specBytes
+length-spec kind s =
+    let a : List ℕ = listBytes (s .«window_dims») in
+    let b : List ℕ = listBytes (s .«unit_dims») in
+    let c : List ℕ = listBytes (s .«start_map») in
+    let d : List ℕ = bytesOf 8 (s .«index_vector_dim») in
+    let e : List ℕ = sizesBytes kind (s .«slice_sizes») in
+    omega (arith, length-append a (b ++ (c ++ (d ++ e))), length-append b (c ++ (d ++ e)), length-append c (d ++ e), length-append d e, length-bytes 8 (s .«index_vector_dim»))
+
+pub put-none : (l : List ℕ) (at : ℕ) → Put l l at [] at
+put-none l at = record { cells = refl; place = omega arith }
+
+-- ---- the whole job
+pub length-body : (j : Job) → length (bodyBytes j) ≡ 3 + (length (viewsBytes (j .views)) + length (specBytes (j .kind) (j .spec)))
+unfolding bodyBytes
+length-body j =
+    let a : List ℕ = bytesOf 1 version in
+    let b : List ℕ = bytesOf 1 (kindByte (j .kind)) in
+    let c : List ℕ = bytesOf 1 (elementByte (j .element)) in
+    let d : List ℕ = viewsBytes (j .views) in
+    let e : List ℕ = specBytes (j .kind) (j .spec) in
+    omega (arith, length-append a (b ++ (c ++ (d ++ e))), length-append b (c ++ (d ++ e)), length-append c (d ++ e), length-append d e, length-bytes 1 version, length-bytes 1 (kindByte (j .kind)), length-bytes 1 (elementByte (j .element)))
+
+pub length-encoded : (j : Job) → length (encoded j) ≡ 4 + length (bodyBytes j)
+unfolding encoded
+length-encoded j = omega (arith, length-append (bytesOf 4 (length (bodyBytes j))) (bodyBytes j), length-bytes 4 (length (bodyBytes j)))
+
+module _ (j : Job) (size : ℕ) (is : size ≡ length (bodyBytes j)) (before : List ℕ) where
+  pub no-room : length before < 4 + size → Written j before (A.BufferBounds 0 (4 + size)) before
+  no-room h =
+      let n : 4 + size ≡ length (encoded j) = omega (arith, length-encoded j) in
+      let t : leb (length (encoded j)) (length before) ≡ false = lt-leb (length (encoded j)) (length before) (omega arith) in
+      record { answers = rw (t, n); leaves = rw t }
+
+  pub put-job-is : (a b c d e after : List ℕ) (kind element k m : ℕ) → kind ≡ kindByte (j .kind) → element ≡ elementByte (j .element) → 4 + size ≤ length before
+      → a ≡ sets before 0 (bytesOf 4 size) → b ≡ sets a 4 (bytesOf 1 version) → c ≡ sets b 5 (bytesOf 1 kind) → d ≡ sets c 6 (bytesOf 1 element)
+      → Put d e 7 (viewsBytes (j .views)) k → Put e after k (specBytes (j .kind) (j .spec)) m → Written j before A.Done after
+  unfolding encoded bodyBytes
+  put-job-is a b c d e after kind element k m ek ee h p q r s u v =
+      let p1 : Put before a 0 (bytesOf 4 (length (bodyBytes j))) 4 = put-of (rw (← is) p) (omega (arith, length-bytes 4 (length (bodyBytes j)))) in
+      let p2 : Put a b 4 (bytesOf 1 version) 5 = put-of q (omega (arith, length-bytes 1 version)) in
+      let p3 : Put b c 5 (bytesOf 1 (kindByte (j .kind))) 6 = put-of (rw (← ek) r) (omega (arith, length-bytes 1 (kindByte (j .kind)))) in
+      let p4 : Put c d 6 (bytesOf 1 (elementByte (j .element))) 7 = put-of (rw (← ee) s) (omega (arith, length-bytes 1 (elementByte (j .element)))) in
+      let whole : Put before after 0 (encoded j) m = put-then p1 (put-then p2 (put-then p3 (put-then p4 (put-then u v)))) in
+      let n : 4 + size ≡ length (encoded j) = omega (arith, length-encoded j) in
+      let t : leb (length (encoded j)) (length before) ≡ true = le-leb (length (encoded j)) (length before) (omega arith) in
+      let w : after ≡ encoded j ++ drop (length (encoded j)) before = whole .cells ∙ sets-eq (encoded j) before 0 (omega arith) ∙ ap (λ (i : ℕ). encoded j ++ drop i before) (zero-add (length (encoded j))) in
+      record { answers = rw t; leaves = rw t w }

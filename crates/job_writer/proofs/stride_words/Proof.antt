@@ -1,0 +1,69 @@
+use mathlib.Core.Path.{_≡_, refl, ap, _∙_}
+use native.Mathlib.Omega.{arith}
+use lib.ListN.{length}
+use Prim.Native.Nat.{_≤_, _-_}
+use lib.ListN.{length, getD}
+use lib.IntN.{pos}
+use mir.Syntax.{w64}
+use mir.Val.{SFits, ofZ}
+use Rattle.integer.specs.Z.{back}
+use Rattle.job_writer.proofs.Parts.{worded, word-one, word-all}
+use borrow.Author.Needs.{needs}
+use Rattle.job_writer.proofs.stride_words.Statement.{statement}
+use Rattle.job_writer.proofs.stride_words.Tie as tie
+
+abbrev Inv-loop : tie.InvT-loop
+Inv-loop strides out₀ i₀ out i = (i ≤ 8) × (out ≡ worded strides i)
+
+abbrev μ-loop : tie.MeasureT-loop
+μ-loop strides out₀ i₀ out i = 8 - i
+
+loop-holds : tie.Need-loop-holds Inv-loop μ-loop
+loop-holds c = (search needs, refl)
+
+mul-stride : tie.Need-mul-stride Inv-loop μ-loop
+mul-stride c = search needs
+
+array-copy-out-stride : tie.Need-array-copy-out-stride Inv-loop μ-loop
+array-copy-out-stride c = search needs
+
+word-of-requires : tie.Need-word-of-requires Inv-loop μ-loop
+word-of-requires c κs = search needs
+
+mul-out : tie.Need-mul-out Inv-loop μ-loop
+mul-out c = search needs
+
+array-write-out : tie.Need-array-write-out Inv-loop μ-loop
+array-write-out c = search needs
+
+add-i : tie.Need-add-i Inv-loop μ-loop
+add-i c = search needs
+
+loop-less : tie.Need-loop-less Inv-loop μ-loop
+loop-less c = search needs
+
+loop-again : tie.Need-loop-again Inv-loop μ-loop
+loop-again c =
+    let p3 = c .before .before .before in
+    let p4 = p3 .before in
+    let s : length (p4 .args .t1) ≡ 8 = search needs in let f : SFits w64 (getD (p4 .args .t1) (p3 .loop .i) (pos 0)) = search needs in (omega arith, word-one (p4 .args .t1) _ _ _ s (omega arith) (p3 .loop .inv .1) (c .word-of .ensures ∙ ap (ofZ w64) (back f)))
+
+returns : tie.Need-returns Inv-loop μ-loop
+returns c = let s : length (c .before .before .args .t1) ≡ 8 = search needs in word-all (c .before .before .args .t1) _ (c .before .loop .i) s (omega arith) (omega arith) (c .before .loop .inv .1)
+
+pub stride-words-spec : {M : Type 1} → statement M
+stride-words-spec =
+    tie.close
+    (tie.spec
+    Inv-loop
+    μ-loop
+    loop-holds
+    mul-stride
+    array-copy-out-stride
+    word-of-requires
+    mul-out
+    array-write-out
+    add-i
+    loop-less
+    loop-again
+    returns)

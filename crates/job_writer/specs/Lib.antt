@@ -1,0 +1,2 @@
+-- What the writer leaves.
+pub mod Written
