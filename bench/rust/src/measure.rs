@@ -99,8 +99,9 @@ pub fn measure<T: Element, K: Kind>(name: &str, job: &Job, rounds: usize) {
         let first = left.get_or_insert_with(|| dest.clone());
         assert!(*first == dest, "{name}: the ways leave different slices");
     }
-    // then in turn on one slice, so that where it lies in memory favours none; the ways are five, a prime, so steps of 1 to 4
-    // reach each, and each follows each other as often
+    // then in turn on one slice, so that where it lies in memory favours
+    // none. The ways are five, a prime: steps of 1 to 4 reach each of them, and
+    // each comes after each other as often.
     let mut dest = vec![T::of(7); to.room()];
     let times = (100_000 / cells).clamp(1, 1000);
     let mut taken: [Vec<f64>; WAYS.len()] = Default::default();
