@@ -1,0 +1,102 @@
+//! Calls of the static library beside the Rust original, in one process on
+//! the same inputs. gather_plan.rs and inline.rs are compiled unchanged from
+//! beside the repository, with the differential run's stand-ins for what they
+//! name from outside, and with two of `lean` in their place.
+
+mod job;
+mod lean;
+mod library;
+mod measure;
+mod original;
+mod plain;
+
+#[rustfmt::skip]
+#[allow(dead_code, clippy::all)]
+#[path = "../../../../shared/docs/src/strided-basic/src/gather_plan.rs"]
+mod gather_plan;
+#[rustfmt::skip]
+#[allow(dead_code, clippy::all)]
+#[path = "../../../../shared/docs/src/strided-basic/src/inline.rs"]
+mod inline;
+#[allow(dead_code)]
+#[path = "../../../differential/rust/oracle/src/stubs.rs"]
+mod stubs;
+
+// inline.rs takes INLINE_RANK from the view crate: this crate is that one too.
+extern crate self as strided_view;
+
+use lean::{copy_plan, layout_check};
+use stubs::{cost, raw_ops, threading};
+use stubs::{Exec, RawStridedMut, RawStridedRef, Result, StridedError};
+pub use stubs::{INLINE_RANK, RAW_FUSED_RANK_LIMIT};
+
+use job::Job;
+use measure::measure;
+use original::Gather;
+
+fn main() {
+    let rounds = std::env::var("BENCH_ROUNDS")
+        .ok()
+        .and_then(|v| v.parse().ok())
+        .unwrap_or(101);
+    let some = std::env::args().nth(1).unwrap_or_default();
+    println!("The library's time over each, medians of {rounds} rounds");
+    println!("| call | element | cells | Rust, compile and execute | Rust, execute alone | memcpy | plain loop |");
+    println!("|---|---|---|---|---|---|---|");
+    gathers(rounds, &some);
+    #[cfg(feature = "scatter")]
+    scatters(rounds, &some);
+}
+
+fn gathers(rounds: usize, some: &str) {
+    let square = [1000, 1000];
+    let narrow = [500, 2000];
+    let rank_four = [20, 20, 20, 20];
+    for (name, job) in [
+        ("64×64, 256 starts", Job::windows(&square, &[64, 64], 256)),
+        (
+            "64×64, 256 starts, batch axis first",
+            Job::windows(&square, &[64, 64], 256).batch_first(),
+        ),
+        ("4×4, 65536 starts", Job::windows(&square, &[4, 4], 65536)),
+        ("256×256, 16 starts", Job::windows(&square, &[256, 256], 16)),
+        ("4×1024, 256 starts", Job::windows(&narrow, &[4, 1024], 256)),
+        ("take, rank one", Job::takes(1_000_000, 1_000_000)),
+        (
+            "8×8×8×8, 256 starts, strides of 2",
+            Job::windows(&rank_four, &[8, 8, 8, 8], 256).apart(2),
+        ),
+        ("1×1, 1 start", Job::windows(&[100, 100], &[1, 1], 1)),
+        ("5×2, 1 start", Job::windows(&[100, 100], &[5, 2], 1)),
+        ("10×10, 1 start", Job::windows(&[100, 100], &[10, 10], 1)),
+    ] {
+        let name = format!("gather {name}");
+        if name.contains(some) {
+            measure::<i32, Gather>(&name, &job, rounds);
+            measure::<f64, Gather>(&name, &job, rounds);
+        }
+    }
+}
+
+#[cfg(feature = "scatter")]
+fn scatters(rounds: usize, some: &str) {
+    use original::Scatter;
+    let rank_four = [20, 20, 20, 20];
+    for (name, job) in [
+        (
+            "64×64, 256 starts",
+            Job::windows(&[1000, 1000], &[64, 64], 256),
+        ),
+        ("scalars, rank one", Job::puts(1_000_000, 1_000_000)),
+        (
+            "8×8×8×8, 256 starts, strides of 2",
+            Job::windows(&rank_four, &[8, 8, 8, 8], 256).apart(2),
+        ),
+    ] {
+        let name = format!("scatter {name}");
+        if name.contains(some) {
+            measure::<i32, Scatter>(&name, &job, rounds);
+            measure::<f64, Scatter>(&name, &job, rounds);
+        }
+    }
+}

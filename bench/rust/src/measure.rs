@@ -1,0 +1,125 @@
+//! One row: the ways compared, then timed in turn.
+
+use crate::job::Job;
+use crate::library::Element;
+use crate::original::Kind;
+use crate::plain;
+use std::hint::black_box;
+use std::time::Instant;
+
+#[derive(Clone, Copy, PartialEq)]
+enum Way {
+    Library,
+    CompileAndExecute,
+    Execute,
+    Memcpy,
+    PlainLoop,
+}
+
+const WAYS: [Way; 5] = [
+    Way::Library,
+    Way::CompileAndExecute,
+    Way::Execute,
+    Way::Memcpy,
+    Way::PlainLoop,
+];
+
+/// What the ways work with besides the destination.
+struct Bench<'a, T, K: Kind> {
+    job: &'a Job,
+    spec: K::Spec,
+    plan: K::Plan,
+    source: Vec<T>,
+    /// As many elements as the job has cells, and where memcpy puts them.
+    copied: Vec<T>,
+    copy: Vec<T>,
+    bases: Vec<isize>,
+}
+
+impl<T: Element, K: Kind> Bench<'_, T, K> {
+    fn make(&mut self, way: Way, dest: &mut [T]) {
+        let job = black_box(self.job);
+        match way {
+            Way::Library => {
+                let answer = K::library(job, &self.source, dest);
+                assert!(answer == [0; 3], "the library refuses: {answer:?}");
+            }
+            Way::CompileAndExecute => {
+                let plan = K::compile(job, self.spec.clone());
+                K::execute(&plan, job, &self.source, dest);
+            }
+            Way::Execute => K::execute(black_box(&self.plan), job, &self.source, dest),
+            Way::Memcpy => black_box(&mut self.copy[..]).copy_from_slice(black_box(&self.copied)),
+            Way::PlainLoop => {
+                let (from, to) = (self.source.as_ptr(), dest.as_mut_ptr());
+                // SAFETY: both slices were made with room for their layouts,
+                // and every start is clamped.
+                unsafe {
+                    if K::ADD {
+                        plain::run::<T, true>(job, from, to, &mut self.bases);
+                    } else {
+                        plain::run::<T, false>(job, from, to, &mut self.bases);
+                    }
+                }
+            }
+        }
+    }
+}
+
+fn median(mut times: Vec<f64>) -> f64 {
+    times.sort_by(f64::total_cmp);
+    times[times.len() / 2]
+}
+
+fn elements<T: Element>(count: usize) -> Vec<T> {
+    (0..count).map(|i| T::of(i % 1000)).collect()
+}
+
+pub fn measure<T: Element, K: Kind>(name: &str, job: &Job, rounds: usize) {
+    let (from, to) = if K::ADD {
+        (&job.windows, &job.grid)
+    } else {
+        (&job.grid, &job.windows)
+    };
+    let cells = job.cells();
+    let mut bench = Bench::<T, K> {
+        job,
+        spec: K::spec(job),
+        plan: K::compile(job, K::spec(job)),
+        source: elements(from.room()),
+        copied: elements(cells),
+        copy: elements(cells),
+        bases: vec![0; job.batch],
+    };
+    // each way once on a slice of its own: they leave the same
+    let mut left: Option<Vec<T>> = None;
+    for way in WAYS.into_iter().filter(|&way| way != Way::Memcpy) {
+        let mut dest = vec![T::of(7); to.room()];
+        bench.make(way, &mut dest);
+        let first = left.get_or_insert_with(|| dest.clone());
+        assert!(*first == dest, "{name}: the ways leave different slices");
+    }
+    // then in turn on one slice, so that where it lies in memory favours
+    // none. The ways are five, a prime: steps of 1 to 4 reach each of them, and
+    // each comes after each other as often.
+    let mut dest = vec![T::of(7); to.room()];
+    let times = (100_000 / cells).clamp(1, 1000);
+    let mut taken: [Vec<f64>; WAYS.len()] = Default::default();
+    for round in 0..rounds {
+        let step = 1 + round % (WAYS.len() - 1);
+        for turn in 0..WAYS.len() {
+            let which = (round + turn * step) % WAYS.len();
+            let start = Instant::now();
+            for _ in 0..times {
+                bench.make(WAYS[which], &mut dest);
+            }
+            taken[which].push(start.elapsed().as_secs_f64());
+        }
+    }
+    let [library, others @ ..] = taken.map(median);
+    let [compiled, executed, copied, looped] = others.map(|other| library / other);
+    println!(
+        "| {name} | {} | {cells} | {compiled:.3} | {executed:.3} | {copied:.2} | {looped:.2} |",
+        T::NAME
+    );
+}

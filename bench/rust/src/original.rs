@@ -1,0 +1,144 @@
+//! Gather and scatter by the Rust, in the two steps that it has, and by the
+//! library in one.
+
+use crate::gather_plan::{GatherPlan, GatherSpec};
+use crate::job::{usizes, Job, Layout};
+use crate::library::Element;
+use crate::stubs::{Exec, RawStridedMut, RawStridedRef};
+
+pub trait Kind {
+    /// Whether the windows are added to the grid.
+    const ADD: bool;
+    type Spec: Clone;
+    type Plan;
+    fn spec(job: &Job) -> Self::Spec;
+    /// The Rust takes the lists by value, so each compile needs its own.
+    fn compile(job: &Job, spec: Self::Spec) -> Self::Plan;
+    /// Never inlined: one machine code for both columns of the Rust.
+    fn execute<T: Element>(plan: &Self::Plan, job: &Job, source: &[T], dest: &mut [T]);
+    fn library<T: Element>(job: &Job, source: &[T], dest: &mut [T]) -> [u64; 3];
+}
+
+fn read<'a, T>(layout: &'a Layout, data: &'a [T]) -> RawStridedRef<'a, T> {
+    RawStridedRef {
+        data,
+        dims: &layout.dims,
+        strides: &layout.steps,
+        offset: 0,
+    }
+}
+
+fn write<'a, T>(layout: &'a Layout, data: &'a mut [T]) -> RawStridedMut<'a, T> {
+    RawStridedMut {
+        data,
+        dims: &layout.dims,
+        strides: &layout.steps,
+        offset: 0,
+    }
+}
+
+pub struct Gather;
+
+impl Kind for Gather {
+    const ADD: bool = false;
+    type Spec = GatherSpec;
+    type Plan = GatherPlan;
+
+    fn spec(job: &Job) -> GatherSpec {
+        GatherSpec {
+            offset_dims: usizes(&job.window_dims),
+            collapsed_slice_dims: usizes(&job.dropped_dims),
+            start_index_map: usizes(&job.map),
+            index_vector_dim: job.index_vector_dim as usize,
+            slice_sizes: usizes(&job.slice_sizes),
+        }
+    }
+
+    #[inline(never)]
+    fn compile(job: &Job, spec: GatherSpec) -> GatherPlan {
+        GatherPlan::compile(
+            &job.grid.dims,
+            &job.grid.steps,
+            &job.index.dims,
+            &job.index.steps,
+            &job.windows.dims,
+            &job.windows.steps,
+            spec,
+        )
+        .expect("the Rust refuses")
+    }
+
+    #[inline(never)]
+    fn execute<T: Element>(plan: &GatherPlan, job: &Job, source: &[T], dest: &mut [T]) {
+        plan.execute(
+            &mut write(&job.windows, dest),
+            &read(&job.grid, source),
+            &read(&job.index, &job.starts),
+            Exec::serial(),
+        )
+        .expect("the Rust refuses");
+    }
+
+    fn library<T: Element>(job: &Job, source: &[T], dest: &mut [T]) -> [u64; 3] {
+        T::gather(job, source, dest)
+    }
+}
+
+#[cfg(feature = "scatter")]
+pub use scatter::Scatter;
+
+#[cfg(feature = "scatter")]
+mod scatter {
+    use super::{read, usizes, write, Element, Exec, Job, Kind};
+    use crate::gather_plan::{ScatterPlan, ScatterSpec};
+
+    pub struct Scatter;
+
+    impl Kind for Scatter {
+        const ADD: bool = true;
+        type Spec = ScatterSpec;
+        type Plan = ScatterPlan;
+
+        fn spec(job: &Job) -> ScatterSpec {
+            ScatterSpec {
+                update_window_dims: usizes(&job.window_dims),
+                inserted_window_dims: usizes(&job.dropped_dims),
+                scatter_dims_to_operand_dims: usizes(&job.map),
+                index_vector_dim: job.index_vector_dim as usize,
+            }
+        }
+
+        #[inline(never)]
+        fn compile(job: &Job, spec: ScatterSpec) -> ScatterPlan {
+            ScatterPlan::compile(
+                &job.grid.dims,
+                &job.grid.steps,
+                &job.index.dims,
+                &job.index.steps,
+                &job.windows.dims,
+                &job.windows.steps,
+                &job.grid.dims,
+                &job.grid.steps,
+                spec,
+            )
+            .expect("the Rust refuses")
+        }
+
+        /// The operand's elements are never read: its copy does nothing here.
+        #[inline(never)]
+        fn execute<T: Element>(plan: &ScatterPlan, job: &Job, source: &[T], dest: &mut [T]) {
+            plan.execute(
+                &mut write(&job.grid, dest),
+                &read(&job.grid, &[]),
+                &read(&job.index, &job.starts),
+                &read(&job.windows, source),
+                Exec::serial(),
+            )
+            .expect("the Rust refuses");
+        }
+
+        fn library<T: Element>(job: &Job, source: &[T], dest: &mut [T]) -> [u64; 3] {
+            T::scatter(job, source, dest)
+        }
+    }
+}
