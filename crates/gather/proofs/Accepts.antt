@@ -116,7 +116,7 @@ span-small low high (d ∷ ds) (s ∷ ss) l h k e (suc i) n =
     let t = and-span-inv (widened low high d s) (λ a b. spanFrom a b ds ss) l h e in
     span-small (t .0) (t .1) ds ss l h (omega arith) (t .3) i (omega arith)
 
-spans-small : (ds : List ℕ) (ss : List ℤ) → length ss ≡ length ds → isDone (spanFits (spanned ds ss)) ≡ true → (i : ℕ) → i < length ds → getD ds i 0 ≤ 2 ^ 63
+pub spans-small : (ds : List ℕ) (ss : List ℤ) → length ss ≡ length ds → isDone (spanFits (spanned ds ss)) ≡ true → (i : ℕ) → i < length ds → getD ds i 0 ≤ 2 ^ 63
 spans-small ds ss k e = let t = span-fits (spanned ds ss) e in span-small (pos 0) (pos 0) ds ss (t .0) (t .1) k (t .2)
 
 -- ---- a gather that compile does not refuse

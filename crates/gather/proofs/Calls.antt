@@ -31,12 +31,12 @@ use Rattle.windows.proofs.Last.{no-cells}
 use Rattle.gather.specs.Calls.{gatherOf, planFits, planRefusal, reachOf, callAnswer, Called}
 use Rattle.gather.specs.Walks.{gatherAt, Reached}
 
-plan-done : (t : Bool) → isDone (planRefusal t) ≡ true → t ≡ true
+pub plan-done : (t : Bool) → isDone (planRefusal t) ≡ true → t ≡ true
 plan-done true e = refl
 plan-done false e = absurd (true≢false (sym e))
 
 -- a view without cells
-zero-of : (ds : List ℕ) (ss : List ℤ) (offset : ℤ) (n : ℕ) → viewReach ds ss offset n ≡ R.NoCells → hasZero ds ≡ true
+pub zero-of : (ds : List ℕ) (ss : List ℤ) (offset : ℤ) (n : ℕ) → viewReach ds ss offset n ≡ R.NoCells → hasZero ds ≡ true
 unfolding viewReach
 zero-of ds ss offset n e = go (hasZero ds) e
   where

@@ -28,7 +28,7 @@ use Rattle.gather_plan.proofs.Accepted.{Accepted, accepted}
 use Rattle.gather.specs.Walks.{windowStepsOf, batchStepsOf, limitAt, unlessNone, walkOf}
 
 -- ---- lists as they are held
-padded-entry : {A : Type 0} (d : A) (l : List A) (i : ℕ) → i < length l → length l ≤ rankLimit → getD (padded rankLimit d l) i d ≡ getD l i d
+pub padded-entry : {A : Type 0} (d : A) (l : List A) (i : ℕ) → i < length l → length l ≤ rankLimit → getD (padded rankLimit d l) i d ≡ getD l i d
 padded-entry {A} d l i h f = entry-below (length l) (padded rankLimit d l) i d h ∙ ap (λ (x : List A). getD x i d) (read-back d l f)
 
 -- the first entries of a number for each axis

@@ -48,25 +48,25 @@ use Rattle.gather.proofs.Covers.{no-zero, covered}
 use Rattle.gather.proofs.Planned.{done, rank-is, rank-few, rank-room, strides-room, window-steps, batch-steps, count-is, count-few, offset-at, stride-at, limit-at, unless-some}
 
 -- ---- sums and clamps
-sum-same : (n : ℕ) (f g : ℕ → ℤ) → ((c : ℕ) → c < n → f c ≡ g c) → sumOf n f ≡ sumOf n g
+pub sum-same : (n : ℕ) (f g : ℕ → ℤ) → ((c : ℕ) → c < n → f c ≡ g c) → sumOf n f ≡ sumOf n g
 unfolding sumOf
 sum-same zero f g e = refl
 sum-same (suc n) f g e = ap₂ _+ℤ_ (sum-same n f g (λ c l. e c (omega arith))) (e n (omega arith))
 
-clamp-limit : (x : ℤ) (extent window : ℕ) → clamp x (extent - window) 0 ≡ clamp x extent window
+pub clamp-limit : (x : ℤ) (extent window : ℕ) → clamp x (extent - window) 0 ≡ clamp x extent window
 clamp-limit x extent window =
     let e : extent - window - 0 ≡ extent - window = omega arith in
     clamp-is x (extent - window) 0 ∙ ap (λ (m : ℕ). pos (min (up x) m)) e ∙ sym (clamp-is x extent window)
 
 -- steps of 0 add nothing
-zero-dot : (n m : ℕ) (cs : List ℕ) → dot (take n (replicate m (pos 0))) cs ≡ pos 0
+pub zero-dot : (n m : ℕ) (cs : List ℕ) → dot (take n (replicate m (pos 0))) cs ≡ pos 0
 unfolding dot
 zero-dot zero m cs = refl
 zero-dot (suc n) zero cs = refl
 zero-dot (suc n) (suc m) [] = refl
 zero-dot (suc n) (suc m) (c ∷ cs) = ap₂ _+ℤ_ (ap pos (zero-mul c)) (zero-dot n m cs)
 
-axis-below : (m : ℕ) (axes : List ℕ) → Axes m axes → (j : ℕ) → j < length axes → getD axes j 0 < m
+pub axis-below : (m : ℕ) (axes : List ℕ) → Axes m axes → (j : ℕ) → j < length axes → getD axes j 0 < m
 unfolding Axes
 axis-below m [] q j h = absurd (omega arith)
 axis-below m (x ∷ axes) q zero h = q .0

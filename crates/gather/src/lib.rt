@@ -72,7 +72,7 @@ fn last_start(extent: u64, window: u64) -> u64
 }
 
 // The last start of each component.
-fn limits_of(operand: Layout, sizes: Numbers, map: Numbers) -> [u64; RAW_FUSED_RANK_LIMIT]
+pub fn limits_of(operand: Layout, sizes: Numbers, map: Numbers) -> [u64; RAW_FUSED_RANK_LIMIT]
     ensures { λ r. ⌜ r ≡ tabulate rankLimit (limitAt (extentsOf operand) (numbersOf sizes) (numbersOf map)) ⌝ }
 {
     let extents = axis_lists::extents_of(operand);
@@ -89,7 +89,7 @@ fn limits_of(operand: Layout, sizes: Numbers, map: Numbers) -> [u64; RAW_FUSED_R
 }
 
 // The steps, or zeros where there are no components: then nothing of the index view is read or stepped.
-fn unless_none(count: usize, steps: [i64; RAW_FUSED_RANK_LIMIT]) -> [i64; RAW_FUSED_RANK_LIMIT]
+pub fn unless_none(count: usize, steps: [i64; RAW_FUSED_RANK_LIMIT]) -> [i64; RAW_FUSED_RANK_LIMIT]
     ensures { λ r. ⌜ r ≡ unlessNone count (replicate rankLimit (pos 0)) steps ⌝ }
 {
     if count == 0 {
@@ -99,7 +99,7 @@ fn unless_none(count: usize, steps: [i64; RAW_FUSED_RANK_LIMIT]) -> [i64; RAW_FU
     }
 }
 
-fn start_base(count: usize, offset: i64) -> i64
+pub fn start_base(count: usize, offset: i64) -> i64
     ensures { λ r. ⌜ r ≡ unlessNone count (pos 0) offset ⌝ }
 {
     if count == 0 { 0 } else { offset }
@@ -159,7 +159,7 @@ fn plan_fits(plan: GatherPlan, operand: View, index: View, dest: View) -> bool
     gather_plan::is_compiled(plan)
 }
 
-fn check_plan(fits: bool) -> Answer
+pub fn check_plan(fits: bool) -> Answer
     ensures { λ r. ⌜ r ≡ planRefusal fits ⌝ }
 {
     if fits {

@@ -1,0 +1,5 @@
+pub mod Merged
+pub mod Planned
+pub mod Walking
+pub mod Parts
+pub mod Calls

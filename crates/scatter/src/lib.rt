@@ -1,0 +1,400 @@
+// Scatter: the calls. A call takes a plan by value with the rows of its two walks, made by compile or by anyone, the three views and
+// their slices. It answers 8 where the plan, its rows or a layout does not fit, then 9 for each view in turn; otherwise it is done.
+ghost use mathlib.Core.Path.{_≡_};
+ghost use lib.Ieee.{nan};
+ghost use lib.IntN.{pos};
+ghost use lib.ListN.{length};
+ghost use Rattle.indexing.specs.Scatter.{cuts, combined, scatteredI32, scatteredF64};
+ghost use Rattle.runs.specs.Runs.{ruleI32, ruleF64};
+ghost use Rattle.runs.specs.declared.Rule.the-variants as R;
+ghost use Rattle.scatter_windows.specs.Scattering.{scatteredBy, Scattering};
+ghost use Rattle.scatter.specs.Calls.{planFits, callAnswer, Called};
+ghost use Rattle.scatter.specs.Walks.{stepsAt, walkOf, scatterAt, Reached};
+use layout::Answer;
+use layout::RAW_FUSED_RANK_LIMIT;
+use layout::Reach;
+use layout::View;
+use scatter_plan::ScatterPlan;
+
+// The numbers that the batches and the windows of a plan are walked with.
+pub struct ScatterWalk {
+    pub batch_rank: usize,
+    pub batch_extents: [u64; RAW_FUSED_RANK_LIMIT],
+    pub index_steps: [i64; RAW_FUSED_RANK_LIMIT],
+    pub update_steps: [i64; RAW_FUSED_RANK_LIMIT],
+    pub window_rank: usize,
+    pub window_extents: [u64; RAW_FUSED_RANK_LIMIT],
+    pub window_steps: [i64; RAW_FUSED_RANK_LIMIT],
+    pub dest_steps: [i64; RAW_FUSED_RANK_LIMIT],
+    pub count: usize,
+    pub offsets: [i64; RAW_FUSED_RANK_LIMIT],
+    pub strides: [i64; RAW_FUSED_RANK_LIMIT],
+    pub limits: [u64; RAW_FUSED_RANK_LIMIT],
+}
+
+// The steps of a walk's rows, on the source's side and on the destination's.
+fn source_steps(rows: [[i64; 4]; RAW_FUSED_RANK_LIMIT]) -> [i64; RAW_FUSED_RANK_LIMIT]
+    ensures { λ r. ⌜ r ≡ stepsAt 0 rows ⌝ }
+{
+    let mut out = [0i64; RAW_FUSED_RANK_LIMIT];
+    let mut i: usize = 0;
+    while i < RAW_FUSED_RANK_LIMIT {
+        let row = rows[i];
+        let step = row[0];
+        out[i] = step;
+        i += 1;
+    }
+    out
+}
+
+fn dest_steps(rows: [[i64; 4]; RAW_FUSED_RANK_LIMIT]) -> [i64; RAW_FUSED_RANK_LIMIT]
+    ensures { λ r. ⌜ r ≡ stepsAt 2 rows ⌝ }
+{
+    let mut out = [0i64; RAW_FUSED_RANK_LIMIT];
+    let mut i: usize = 0;
+    while i < RAW_FUSED_RANK_LIMIT {
+        let row = rows[i];
+        let step = row[2];
+        out[i] = step;
+        i += 1;
+    }
+    out
+}
+
+// What the batches and the windows of a plan are walked with.
+pub fn walk_of(
+    plan: ScatterPlan,
+    batch_rows: [[i64; 4]; RAW_FUSED_RANK_LIMIT],
+    window_rows: [[i64; 4]; RAW_FUSED_RANK_LIMIT],
+) -> ScatterWalk
+    ensures { λ r. ⌜ r ≡ walkOf plan «batch_rows» «window_rows» ⌝ }
+{
+    let batch = plan.batch;
+    let window = plan.window;
+    let dest = plan.dest;
+    let map = plan.scatter_dims_to_operand_dims;
+    let windows = plan.windows;
+    let component_offsets = plan.component_offsets;
+    let component_strides = plan.component_strides;
+    let batch_axes = batch.axes;
+    let window_axes = window.axes;
+    let batch_extents = replay::shape_of(batch_axes);
+    let window_extents = replay::shape_of(window_axes);
+    let index = source_steps(batch_rows);
+    let stepped = gather::unless_none(map.count, index);
+    let update_steps = dest_steps(batch_rows);
+    let window_steps = source_steps(window_rows);
+    let steps = dest_steps(window_rows);
+    let limits = gather::limits_of(dest, windows, map);
+    let offsets = component_offsets.entries;
+    let strides = component_strides.entries;
+    ScatterWalk {
+        batch_rank: batch.rank,
+        batch_extents,
+        index_steps: stepped,
+        update_steps,
+        window_rank: window.rank,
+        window_extents,
+        window_steps,
+        dest_steps: steps,
+        count: map.count,
+        offsets,
+        strides,
+        limits,
+    }
+}
+
+// Whether the plan with its rows is what compile gives, and the views have its layouts.
+fn plan_fits(
+    plan: ScatterPlan,
+    batch_rows: [[i64; 4]; RAW_FUSED_RANK_LIMIT],
+    window_rows: [[i64; 4]; RAW_FUSED_RANK_LIMIT],
+    index: View,
+    updates: View,
+    dest: View,
+) -> bool
+    ensures { λ r. ⌜ r ≡ planFits plan «batch_rows» «window_rows» index updates dest ⌝ }
+{
+    let a = index.layout;
+    let b = updates.layout;
+    let c = dest.layout;
+    let x = plan.index;
+    let y = plan.updates;
+    let z = plan.dest;
+    if !gather_plan::same_layout(a, x) {
+        return false;
+    }
+    if !gather_plan::same_layout(b, y) {
+        return false;
+    }
+    if !gather_plan::same_layout(c, z) {
+        return false;
+    }
+    scatter_plan::is_compiled(plan, batch_rows, window_rows)
+}
+
+// What a call answers, given the lengths of the three slices.
+pub fn check_call(
+    plan: ScatterPlan,
+    batch_rows: [[i64; 4]; RAW_FUSED_RANK_LIMIT],
+    window_rows: [[i64; 4]; RAW_FUSED_RANK_LIMIT],
+    index: View,
+    updates: View,
+    dest: View,
+    starts_len: usize,
+    updates_len: usize,
+    dest_len: usize,
+) -> Answer
+    ensures { λ r. ⌜ r ≡ callAnswer plan «batch_rows» «window_rows» index updates dest «starts_len» «updates_len» «dest_len» ⌝ }
+{
+    let fits = plan_fits(plan, batch_rows, window_rows, index, updates, dest);
+    let eight = gather::check_plan(fits);
+    let x = layout::view_reach(index, starts_len);
+    let y = layout::view_reach(updates, updates_len);
+    let z = layout::view_reach(dest, dest_len);
+    let a = layout::check_reach(x, 1);
+    let b = layout::check_reach(y, 2);
+    let c = layout::check_reach(z, 3);
+    let views = checks::or_else(a, checks::or_else(b, c));
+    checks::or_else(eight, views)
+}
+
+// The batches of a walk from the places t, u and d.
+fn run_i32(
+    walk: ScatterWalk,
+    starts: &[i64],
+    source: &[i32],
+    into: &mut [i32],
+    t: i64,
+    u: i64,
+    d: i64,
+)
+    requires { ⌜ Scattering (now starts) (walk .offsets) (walk .strides) (walk .limits) (walk .count) t u d (walk .«batch_extents») (walk .«index_steps») (walk .«update_steps») (walk .«batch_rank») (walk .«window_extents») (walk .«window_steps») (walk .«dest_steps») (walk .«window_rank») (length (now source)) (length (now into)) ⌝ }
+    ensures { λ _. ⌜ now (into .exit) ≡ scatteredBy (pos 0) (ruleI32 R.Add) (now (source .entry)) (now (starts .entry)) (walk .offsets) (walk .strides) (walk .limits) (walk .count) t u d (walk .«batch_extents») (walk .«index_steps») (walk .«update_steps») (walk .«batch_rank») (walk .«window_extents») (walk .«window_steps») (walk .«dest_steps») (walk .«window_rank») (now (into .entry)) ⌝ }
+{
+    let batch_extents = walk.batch_extents;
+    let index_steps = walk.index_steps;
+    let update_steps = walk.update_steps;
+    let window_extents = walk.window_extents;
+    let window_steps = walk.window_steps;
+    let steps = walk.dest_steps;
+    let offsets = walk.offsets;
+    let strides = walk.strides;
+    let limits = walk.limits;
+    scatter_windows::scatter_window(
+        source,
+        starts,
+        into,
+        &batch_extents,
+        &index_steps,
+        &update_steps,
+        walk.batch_rank,
+        walk.count,
+        &offsets,
+        &strides,
+        &limits,
+        &window_extents,
+        &window_steps,
+        &steps,
+        walk.window_rank,
+        t,
+        u,
+        d,
+    );
+}
+
+// The scatter where the destination has cells, from the index low to the index high: it is lent on as that part.
+fn cells_i32(
+    plan: ScatterPlan,
+    batch_rows: [[i64; 4]; RAW_FUSED_RANK_LIMIT],
+    window_rows: [[i64; 4]; RAW_FUSED_RANK_LIMIT],
+    starts: &[i64],
+    source: &[i32],
+    into: &mut [i32],
+    t: i64,
+    u: i64,
+    d: i64,
+    low: usize,
+    high: usize,
+)
+    requires { ⌜ Reached plan «batch_rows» «window_rows» t u d low high (length (now starts)) (length (now source)) (length (now into)) ⌝ }
+    ensures { λ _. ⌜ now (into .exit) ≡ combined (ruleI32 R.Add) (pos 0) (cuts (pos 0) (scatterAt plan t u d) (now (starts .entry)) (now (source .entry))) (now (into .entry)) ⌝ }
+{
+    let end = high + 1;
+    let walk = walk_of(plan, batch_rows, window_rows);
+    let base = gather::start_base(walk.count, t);
+    let from = low as i64;
+    let at = d - from;
+    run_i32(walk, starts, source, &mut into[low..end], base, u, at);
+}
+
+// The scatter of a plan on these views.
+pub fn scatter_i32(
+    plan: ScatterPlan,
+    batch_rows: [[i64; 4]; RAW_FUSED_RANK_LIMIT],
+    window_rows: [[i64; 4]; RAW_FUSED_RANK_LIMIT],
+    index: View,
+    updates: View,
+    dest: View,
+    starts: &[i64],
+    source: &[i32],
+    into: &mut [i32],
+) -> Answer
+    ensures { λ r. ⌜ Called scatteredI32 plan «batch_rows» «window_rows» index updates dest (now (starts .entry)) (now (source .entry)) (now (into .entry)) (now (into .exit)) r ⌝ }
+{
+    let answer = check_call(
+        plan,
+        batch_rows,
+        window_rows,
+        index,
+        updates,
+        dest,
+        starts.len(),
+        source.len(),
+        into.len(),
+    );
+    if !layout::is_done(answer) {
+        return answer;
+    }
+    let reach = layout::view_reach(dest, into.len());
+    match reach {
+        Reach::Cells(low, high) => {
+            cells_i32(
+                plan,
+                batch_rows,
+                window_rows,
+                starts,
+                source,
+                into,
+                index.offset,
+                updates.offset,
+                dest.offset,
+                low,
+                high,
+            );
+            answer
+        }
+        Reach::NoCells => answer,
+        Reach::Outside => answer,
+    }
+}
+
+// The batches of a walk from the places t, u and d.
+fn run_f64(
+    walk: ScatterWalk,
+    starts: &[i64],
+    source: &[f64],
+    into: &mut [f64],
+    t: i64,
+    u: i64,
+    d: i64,
+)
+    requires { ⌜ Scattering (now starts) (walk .offsets) (walk .strides) (walk .limits) (walk .count) t u d (walk .«batch_extents») (walk .«index_steps») (walk .«update_steps») (walk .«batch_rank») (walk .«window_extents») (walk .«window_steps») (walk .«dest_steps») (walk .«window_rank») (length (now source)) (length (now into)) ⌝ }
+    ensures { λ _. ⌜ now (into .exit) ≡ scatteredBy nan (ruleF64 R.Add) (now (source .entry)) (now (starts .entry)) (walk .offsets) (walk .strides) (walk .limits) (walk .count) t u d (walk .«batch_extents») (walk .«index_steps») (walk .«update_steps») (walk .«batch_rank») (walk .«window_extents») (walk .«window_steps») (walk .«dest_steps») (walk .«window_rank») (now (into .entry)) ⌝ }
+{
+    let batch_extents = walk.batch_extents;
+    let index_steps = walk.index_steps;
+    let update_steps = walk.update_steps;
+    let window_extents = walk.window_extents;
+    let window_steps = walk.window_steps;
+    let steps = walk.dest_steps;
+    let offsets = walk.offsets;
+    let strides = walk.strides;
+    let limits = walk.limits;
+    scatter_windows_f64::scatter_window_f64(
+        source,
+        starts,
+        into,
+        &batch_extents,
+        &index_steps,
+        &update_steps,
+        walk.batch_rank,
+        walk.count,
+        &offsets,
+        &strides,
+        &limits,
+        &window_extents,
+        &window_steps,
+        &steps,
+        walk.window_rank,
+        t,
+        u,
+        d,
+    );
+}
+
+// The scatter where the destination has cells, from the index low to the index high: it is lent on as that part.
+fn cells_f64(
+    plan: ScatterPlan,
+    batch_rows: [[i64; 4]; RAW_FUSED_RANK_LIMIT],
+    window_rows: [[i64; 4]; RAW_FUSED_RANK_LIMIT],
+    starts: &[i64],
+    source: &[f64],
+    into: &mut [f64],
+    t: i64,
+    u: i64,
+    d: i64,
+    low: usize,
+    high: usize,
+)
+    requires { ⌜ Reached plan «batch_rows» «window_rows» t u d low high (length (now starts)) (length (now source)) (length (now into)) ⌝ }
+    ensures { λ _. ⌜ now (into .exit) ≡ combined (ruleF64 R.Add) nan (cuts nan (scatterAt plan t u d) (now (starts .entry)) (now (source .entry))) (now (into .entry)) ⌝ }
+{
+    let end = high + 1;
+    let walk = walk_of(plan, batch_rows, window_rows);
+    let base = gather::start_base(walk.count, t);
+    let from = low as i64;
+    let at = d - from;
+    run_f64(walk, starts, source, &mut into[low..end], base, u, at);
+}
+
+// The scatter of a plan on these views.
+pub fn scatter_f64(
+    plan: ScatterPlan,
+    batch_rows: [[i64; 4]; RAW_FUSED_RANK_LIMIT],
+    window_rows: [[i64; 4]; RAW_FUSED_RANK_LIMIT],
+    index: View,
+    updates: View,
+    dest: View,
+    starts: &[i64],
+    source: &[f64],
+    into: &mut [f64],
+) -> Answer
+    ensures { λ r. ⌜ Called scatteredF64 plan «batch_rows» «window_rows» index updates dest (now (starts .entry)) (now (source .entry)) (now (into .entry)) (now (into .exit)) r ⌝ }
+{
+    let answer = check_call(
+        plan,
+        batch_rows,
+        window_rows,
+        index,
+        updates,
+        dest,
+        starts.len(),
+        source.len(),
+        into.len(),
+    );
+    if !layout::is_done(answer) {
+        return answer;
+    }
+    let reach = layout::view_reach(dest, into.len());
+    match reach {
+        Reach::Cells(low, high) => {
+            cells_f64(
+                plan,
+                batch_rows,
+                window_rows,
+                starts,
+                source,
+                into,
+                index.offset,
+                updates.offset,
+                dest.offset,
+                low,
+                high,
+            );
+            answer
+        }
+        Reach::NoCells => answer,
+        Reach::Outside => answer,
+    }
+}
