@@ -1,6 +1,5 @@
 // Replays the stored cases (data/README.md says what they are and how they were made) through the crates, and prints how
 // many of the stored answers came out again. A case is read as a whole, also what no call uses yet.
-mod gathers;
 mod report;
 
 use layout::Answer;
@@ -9,6 +8,7 @@ use stored_reader::packed;
 use stored_reader::packed::list;
 use stored_reader::packed::signed_list;
 use stored_reader::packed::word_at;
+use stored_reader::verdicts;
 
 fn answer_scatter(head: &[u8], words: &[u64], numbers: &[i64]) -> Answer {
     scatter_checks::scatter_refusal(
@@ -34,9 +34,9 @@ fn is_whole(number: u64) -> bool {
 // Where no check of the library refuses, the rest of the call is not reached.
 fn judge_passed(number: u64) -> usize {
     if is_whole(number) {
-        report::DIFFERENT
+        verdicts::DIFFERENT
     } else {
-        report::NOT_REACHED
+        verdicts::NOT_REACHED
     }
 }
 
@@ -44,11 +44,7 @@ fn judge_passed(number: u64) -> usize {
 fn judge_refused(answer: Answer, head: &[u8], words: &[u64]) -> usize {
     let before = list(words, head, packed::DEST);
     let after = list(words, head, packed::DEST_AFTER);
-    if packed::same(before, after) && report::is_stored(answer, head, words) {
-        report::EQUAL
-    } else {
-        report::DIFFERENT
-    }
+    verdicts::judge(answer, packed::same(before, after), head, words)
 }
 
 fn judge(answer: Answer, head: &[u8], words: &[u64]) -> usize {
@@ -62,7 +58,7 @@ fn judge(answer: Answer, head: &[u8], words: &[u64]) -> usize {
 // What comes of a case.
 fn verdict(head: &[u8], words: &[u64], numbers: &[i64]) -> usize {
     if packed::is_gather(head) {
-        gathers::verdict(head, words, numbers)
+        stored_gathers::verdict(head, words, numbers)
     } else {
         judge(answer_scatter(head, words, numbers), head, words)
     }

@@ -1,25 +1,10 @@
 // What the program prints, and the counts that it prints: for each verdict thirteen, one for each number of an answer, one
 // for the gathers and one for the scatters.
-use layout::Answer;
 use stored_reader::packed;
-use stored_reader::packed::word_at;
-
-// The verdicts on a case.
-pub const EQUAL: usize = 0;
-
-pub const DIFFERENT: usize = 1;
-
-pub const NOT_REACHED: usize = 2;
-
-// Larger than the arrays of the program.
-pub const TOO_LARGE: usize = 3;
-
-// Whether this is the stored answer.
-pub fn is_stored(answer: Answer, head: &[u8], words: &[u64]) -> bool {
-    layout::number(answer) == packed::number(head)
-        && layout::first_number(answer) == word_at(words, packed::A)
-        && layout::second_number(answer) == word_at(words, packed::B)
-}
+use stored_reader::verdicts::DIFFERENT;
+use stored_reader::verdicts::EQUAL;
+use stored_reader::verdicts::NOT_REACHED;
+use stored_reader::verdicts::TOO_LARGE;
 
 pub fn put(text: &[u8]) {
     io::write_all(1, text);

@@ -1,5 +1,4 @@
 // The stored gathers, whole: compile, then the call on copies of the stored slices.
-use crate::report;
 use gather_plan::CompiledGather;
 use gather_plan::GatherPlan;
 use layout::Answer;
@@ -9,6 +8,7 @@ use stored_reader::elements;
 use stored_reader::packed;
 use stored_reader::packed::list;
 use stored_reader::packed::signed_list;
+use stored_reader::verdicts;
 
 fn compile(head: &[u8], words: &[u64], numbers: &[i64]) -> CompiledGather {
     gather_plan::compile(
@@ -128,14 +128,6 @@ fn call_f64(
     run_f64(plan, head, words, numbers, source, into)
 }
 
-fn judge(answered: bool, left: bool) -> usize {
-    if answered && left {
-        report::EQUAL
-    } else {
-        report::DIFFERENT
-    }
-}
-
 // The call on a case's own slices.
 fn judge_i32(
     head: &[u8],
@@ -147,7 +139,7 @@ fn judge_i32(
     let compiled = compile(head, words, numbers);
     let answer = call_i32(compiled, head, words, numbers, source, into);
     let left = elements::same_i32(into, signed_list(numbers, head, packed::DEST_AFTER));
-    judge(report::is_stored(answer, head, words), left)
+    verdicts::judge(answer, left, head, words)
 }
 
 // Of the arrays, the parts that a case's slices have filled.
@@ -161,10 +153,10 @@ fn parts_i32(
     let n = packed::list_count(head, packed::OPERAND);
     let m = packed::list_count(head, packed::DEST);
     if n > source.len() {
-        return report::TOO_LARGE;
+        return verdicts::TOO_LARGE;
     }
     if m > into.len() {
-        return report::TOO_LARGE;
+        return verdicts::TOO_LARGE;
     }
     judge_i32(head, words, numbers, &source[..n], &mut into[..m])
 }
@@ -188,7 +180,7 @@ fn judge_f64(
     let compiled = compile(head, words, numbers);
     let answer = call_f64(compiled, head, words, numbers, source, into);
     let left = elements::same_f64(into, list(words, head, packed::DEST_AFTER));
-    judge(report::is_stored(answer, head, words), left)
+    verdicts::judge(answer, left, head, words)
 }
 
 // Of the arrays, the parts that a case's slices have filled.
@@ -202,10 +194,10 @@ fn parts_f64(
     let n = packed::list_count(head, packed::OPERAND);
     let m = packed::list_count(head, packed::DEST);
     if n > source.len() {
-        return report::TOO_LARGE;
+        return verdicts::TOO_LARGE;
     }
     if m > into.len() {
-        return report::TOO_LARGE;
+        return verdicts::TOO_LARGE;
     }
     judge_f64(head, words, numbers, &source[..n], &mut into[..m])
 }

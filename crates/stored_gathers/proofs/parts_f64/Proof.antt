@@ -1,11 +1,11 @@
 use native.Mathlib.Omega.{arith}
 use lib.ListN.{length-take}
 use borrow.Author.Needs.{needs}
-use Rattle.stored_cases.proofs.gathers.parts_f64.Statement.{statement}
-use Rattle.stored_cases.proofs.gathers.parts_f64.Tie as tie
-use Rattle.stored_cases.proofs.gathers.parts_f64.Reads as reads
-use Rattle.stored_cases.proofs.gathers.parts_f64.Lts as lts
-use Rattle.stored_cases.proofs.gathers.judge_f64.Reads as judge-f64-reads
+use Rattle.stored_gathers.proofs.parts_f64.Statement.{statement}
+use Rattle.stored_gathers.proofs.parts_f64.Tie as tie
+use Rattle.stored_gathers.proofs.parts_f64.Reads as reads
+use Rattle.stored_gathers.proofs.parts_f64.Lts as lts
+use Rattle.stored_gathers.proofs.judge_f64.Reads as judge-f64-reads
 use Rattle.stored_reader.proofs.packed.list_count.Reads as list-count-reads
 
 list-count-requires : tie.Need-list-count-requires
