@@ -132,46 +132,83 @@ fn eight(plan: GatherPlan, name: &[u8], field: Field) {
     put_tally(try_places(plan, field, 8));
 }
 
-fn layouts(plan: GatherPlan) {
+fn operand(plan: GatherPlan) {
     number(plan, b"operand rank", Field::Layout(0, 0));
     eight(plan, b"operand extents", Field::Layout(0, 1));
     eight(plan, b"operand strides", Field::Layout(0, 2));
+}
+
+fn index(plan: GatherPlan) {
     number(plan, b"index rank", Field::Layout(1, 0));
     eight(plan, b"index extents", Field::Layout(1, 1));
     eight(plan, b"index strides", Field::Layout(1, 2));
+}
+
+fn dest(plan: GatherPlan) {
     number(plan, b"destination rank", Field::Layout(2, 0));
     eight(plan, b"destination extents", Field::Layout(2, 1));
     eight(plan, b"destination strides", Field::Layout(2, 2));
 }
 
-fn spec(plan: GatherPlan) {
+fn window_axes(plan: GatherPlan) {
     number(plan, b"offset_dims count", Field::Numbers(0, 0));
     eight(plan, b"offset_dims entries", Field::Numbers(0, 1));
     number(plan, b"collapsed_slice_dims count", Field::Numbers(1, 0));
     eight(plan, b"collapsed_slice_dims entries", Field::Numbers(1, 1));
+}
+
+fn start_axes(plan: GatherPlan) {
     number(plan, b"start_index_map count", Field::Numbers(2, 0));
     eight(plan, b"start_index_map entries", Field::Numbers(2, 1));
     number(plan, b"index_vector_dim", Field::VectorAxis);
+}
+
+fn windows(plan: GatherPlan) {
     number(plan, b"slice_sizes count", Field::Numbers(3, 0));
     eight(plan, b"slice_sizes entries", Field::Numbers(3, 1));
 }
 
-fn axes(plan: GatherPlan) {
+fn axes_in_dest(plan: GatherPlan) {
     eight(plan, b"axes, role", Field::Axis(0));
     eight(plan, b"axes, destination step", Field::Axis(1));
     eight(plan, b"axes, destination reset", Field::Axis(2));
+}
+
+fn axes_in_views(plan: GatherPlan) {
     eight(plan, b"axes, window step", Field::Axis(3));
     eight(plan, b"axes, window reset", Field::Axis(4));
     eight(plan, b"axes, batch step", Field::Axis(5));
     eight(plan, b"axes, batch reset", Field::Axis(6));
 }
 
-fn components(plan: GatherPlan) {
+fn component_offsets(plan: GatherPlan) {
     number(plan, b"component offsets count", Field::Steps(0, 0));
     eight(plan, b"component offsets entries", Field::Steps(0, 1));
+}
+
+fn component_strides(plan: GatherPlan) {
     number(plan, b"component strides count", Field::Steps(1, 0));
     eight(plan, b"component strides entries", Field::Steps(1, 1));
     number(plan, b"total", Field::Total);
+}
+
+fn layouts(plan: GatherPlan) {
+    operand(plan);
+    index(plan);
+    dest(plan);
+}
+
+fn spec(plan: GatherPlan) {
+    window_axes(plan);
+    start_axes(plan);
+    windows(plan);
+}
+
+fn walk(plan: GatherPlan) {
+    axes_in_dest(plan);
+    axes_in_views(plan);
+    component_offsets(plan);
+    component_strides(plan);
 }
 
 fn put_element(n: i32) {
@@ -179,14 +216,18 @@ fn put_element(n: i32) {
     printing::put_i64(n as i64);
 }
 
-fn put_called(name: &[u8], answer: Answer, into: &[i32; 4]) {
-    printing::put(name);
-    put_with(b": answer ", layout::number(answer));
-    printing::put(b", destination");
+fn put_elements(into: &[i32; 4]) {
     put_element(into[0]);
     put_element(into[1]);
     put_element(into[2]);
     put_element(into[3]);
+}
+
+fn put_called(name: &[u8], answer: Answer, into: &[i32; 4]) {
+    printing::put(name);
+    put_with(b": answer ", layout::number(answer));
+    printing::put(b", destination");
+    put_elements(into);
     printing::end_line();
 }
 
@@ -232,7 +273,6 @@ fn main() {
     compiled_plan(plan);
     layouts(plan);
     spec(plan);
-    axes(plan);
-    components(plan);
+    walk(plan);
     refused();
 }

@@ -163,7 +163,8 @@ pub fn signed_list<'a>(numbers: &'a [i64], head: &[u8], place: usize) -> &'a [i6
     }
 }
 
-// Where the extents of a view of the call stand, the views counted from 0: its own layout's, or the plan's. Its strides stand next.
+// Where the extents of a view of the call stand, the views counted from 0: its own layout's, or the plan's. Its strides
+// stand next.
 pub fn call_extents(head: &[u8], view: usize) -> usize
     ensures { λ r. ⌜ r ≤ 14 ⌝ }
 {
