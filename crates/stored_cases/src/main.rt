@@ -1,30 +1,14 @@
 // Replays the stored cases (data/README.md says what they are and how they were made) through the crates, and prints how
 // many of the stored answers came out again. A case is read as a whole, also what no call uses yet.
-mod file;
-mod packed;
 mod report;
 
 use layout::Answer;
-use packed::list;
-use packed::signed_list;
-use packed::word_at;
-
-fn answer_gather(head: &[u8], words: &[u64], numbers: &[i64]) -> Answer {
-    gather_checks::gather_refusal(
-        list(words, head, 0),
-        signed_list(numbers, head, 1),
-        list(words, head, 2),
-        signed_list(numbers, head, 3),
-        list(words, head, 4),
-        signed_list(numbers, head, 5),
-        list(words, head, 6),
-        list(words, head, 7),
-        list(words, head, 8),
-        word_at(words, packed::VECTOR_AXIS),
-        list(words, head, 9),
-        true,
-    )
-}
+use stored_reader::file;
+use stored_reader::packed;
+use stored_reader::packed::list;
+use stored_reader::packed::signed_list;
+use stored_reader::packed::word_at;
+use stored_reader::verdicts;
 
 fn answer_scatter(head: &[u8], words: &[u64], numbers: &[i64]) -> Answer {
     scatter_checks::scatter_refusal(
@@ -42,14 +26,7 @@ fn answer_scatter(head: &[u8], words: &[u64], numbers: &[i64]) -> Answer {
     )
 }
 
-// Whether this is the stored answer.
-fn is_stored(answer: Answer, head: &[u8], words: &[u64]) -> bool {
-    layout::number(answer) == packed::number(head)
-        && layout::first_number(answer) == word_at(words, packed::A)
-        && layout::second_number(answer) == word_at(words, packed::B)
-}
-
-// Whether the library has all the checks that give this refusal: those of compile, 1 to 7.
+// Whether the library has all the checks that give this refusal of a scatter: those of compile, 1 to 7.
 fn is_whole(number: u64) -> bool {
     1 <= number && number <= 7
 }
@@ -57,9 +34,9 @@ fn is_whole(number: u64) -> bool {
 // Where no check of the library refuses, the rest of the call is not reached.
 fn judge_passed(number: u64) -> usize {
     if is_whole(number) {
-        report::DIFFERENT
+        verdicts::DIFFERENT
     } else {
-        report::NOT_REACHED
+        verdicts::NOT_REACHED
     }
 }
 
@@ -67,11 +44,7 @@ fn judge_passed(number: u64) -> usize {
 fn judge_refused(answer: Answer, head: &[u8], words: &[u64]) -> usize {
     let before = list(words, head, packed::DEST);
     let after = list(words, head, packed::DEST_AFTER);
-    if packed::same(before, after) && is_stored(answer, head, words) {
-        report::EQUAL
-    } else {
-        report::DIFFERENT
-    }
+    verdicts::judge(answer, packed::same(before, after), head, words)
 }
 
 fn judge(answer: Answer, head: &[u8], words: &[u64]) -> usize {
@@ -85,7 +58,7 @@ fn judge(answer: Answer, head: &[u8], words: &[u64]) -> usize {
 // What comes of a case.
 fn verdict(head: &[u8], words: &[u64], numbers: &[i64]) -> usize {
     if packed::is_gather(head) {
-        judge(answer_gather(head, words, numbers), head, words)
+        stored_gathers::verdict(head, words, numbers)
     } else {
         judge(answer_scatter(head, words, numbers), head, words)
     }
@@ -98,7 +71,7 @@ fn take_case(index: u64, head: &[u8], words: &[u64], numbers: &[i64], counts: &m
         return false;
     }
     let row = verdict(head, words, numbers);
-    report::count(counts, row, packed::number(head), index);
+    report::count(counts, row, head, index);
     true
 }
 
@@ -158,7 +131,7 @@ fn replay(fd: i32, cases: u64, counts: &mut [u64]) -> bool {
 
 // Replays the cases of the file, opened once more.
 fn replay_all(cases: u64) {
-    let mut counts = [0u64; 33];
+    let mut counts = [0u64; 52];
     let fd = file::open_at_cases();
     if replay(fd, cases, &mut counts) {
         if file::is_ended(fd) {

@@ -1,11 +1,10 @@
-// What the program prints, and the counts that it prints: for each verdict eleven, one for each number of an answer.
-
-// The verdicts on a case.
-pub const EQUAL: usize = 0;
-
-pub const DIFFERENT: usize = 1;
-
-pub const NOT_REACHED: usize = 2;
+// What the program prints, and the counts that it prints: for each verdict thirteen, one for each number of an answer, one
+// for the gathers and one for the scatters.
+use stored_reader::packed;
+use stored_reader::verdicts::DIFFERENT;
+use stored_reader::verdicts::EQUAL;
+use stored_reader::verdicts::NOT_REACHED;
+use stored_reader::verdicts::TOO_LARGE;
 
 pub fn put(text: &[u8]) {
     io::write_all(1, text);
@@ -21,28 +20,42 @@ pub fn line(text: &[u8], n: u64) {
     put(b"\n");
 }
 
-fn place(verdict: usize, number: u64) -> usize {
-    if verdict < 3 {
-        if number < 11 {
-            return verdict * 11 + number as usize;
+// The columns of the gathers and of the scatters, past those of the numbers.
+const GATHERS: u64 = 11;
+
+const SCATTERS: u64 = 12;
+
+fn place(verdict: usize, column: u64) -> usize {
+    if verdict < 4 {
+        if column < 13 {
+            return verdict * 13 + column as usize;
         }
     }
     0
 }
 
-// Counts the case of this index under its verdict and its stored number.
-pub fn count(counts: &mut [u64], verdict: usize, number: u64, index: u64) {
-    if verdict == DIFFERENT {
-        line(b"different: case ", index);
-    }
-    let i = place(verdict, number);
+fn count_at(counts: &mut [u64], i: usize) {
     if i < counts.len() {
         counts[i] = std::num::wrapping_add_u64(counts[i], 1);
     }
 }
 
-fn at(counts: &[u64], verdict: usize, number: u64) -> u64 {
-    let i = place(verdict, number);
+// Counts the case of this head and index under its verdict.
+pub fn count(counts: &mut [u64], verdict: usize, head: &[u8], index: u64) {
+    if verdict == DIFFERENT {
+        line(b"different: case ", index);
+    }
+    let kind = if packed::is_gather(head) {
+        GATHERS
+    } else {
+        SCATTERS
+    };
+    count_at(counts, place(verdict, packed::number(head)));
+    count_at(counts, place(verdict, kind));
+}
+
+fn at(counts: &[u64], verdict: usize, column: u64) -> u64 {
+    let i = place(verdict, column);
     if i < counts.len() { counts[i] } else { 0 }
 }
 
@@ -57,11 +70,22 @@ fn total(counts: &[u64], verdict: usize) -> u64 {
     sum
 }
 
+fn put_column(counts: &[u64], column: u64) {
+    put_with(b": equal ", at(counts, EQUAL, column));
+    put_with(b", different ", at(counts, DIFFERENT, column));
+    line(b", not reached ", at(counts, NOT_REACHED, column));
+}
+
+fn put_kinds(counts: &[u64]) {
+    put(b"gathers");
+    put_column(counts, GATHERS);
+    put(b"scatters");
+    put_column(counts, SCATTERS);
+}
+
 fn put_row(counts: &[u64], number: u64) {
     put_with(b"answer ", number);
-    put_with(b": equal ", at(counts, EQUAL, number));
-    put_with(b", different ", at(counts, DIFFERENT, number));
-    line(b", not reached ", at(counts, NOT_REACHED, number));
+    put_column(counts, number);
 }
 
 fn put_rows(counts: &[u64]) {
@@ -78,14 +102,20 @@ fn put_answered(answered: u64, equal: u64, different: u64) {
     line(b"different: ", different);
 }
 
-fn put_totals(equal: u64, different: u64, not_reached: u64) {
+fn put_others(not_reached: u64, too_large: u64) {
+    line(b"not reached by the library yet: ", not_reached);
+    line(b"too large: ", too_large);
+}
+
+fn put_totals(equal: u64, different: u64, not_reached: u64, too_large: u64) {
     let answered = std::num::wrapping_add_u64(equal, different);
+    let others = std::num::wrapping_add_u64(not_reached, too_large);
     line(
         b"stored cases: ",
-        std::num::wrapping_add_u64(answered, not_reached),
+        std::num::wrapping_add_u64(answered, others),
     );
     put_answered(answered, equal, different);
-    line(b"not reached by the library yet: ", not_reached);
+    put_others(not_reached, too_large);
 }
 
 pub fn summary(counts: &[u64]) {
@@ -93,6 +123,8 @@ pub fn summary(counts: &[u64]) {
         total(counts, EQUAL),
         total(counts, DIFFERENT),
         total(counts, NOT_REACHED),
+        total(counts, TOO_LARGE),
     );
+    put_kinds(counts);
     put_rows(counts);
 }

@@ -1,0 +1,28 @@
+use native.Mathlib.Omega.{arith}
+use Rattle.integer.specs.Z.{znorm, zflat, known}
+use borrow.Author.Needs.{needs}
+use Rattle.forged_plans.proofs.put_element.Statement.{statement}
+use Rattle.forged_plans.proofs.put_element.Tie as tie
+use Rattle.forged_plans.proofs.put_element.Reads as reads
+use Rattle.forged_plans.proofs.put_element.Lts as lts
+use Rattle.printing.proofs.put.Reads as put-reads
+use Rattle.printing.proofs.put_i64.Reads as put-i64-reads
+
+slice-aggregate-put : tie.Need-slice-aggregate-put
+slice-aggregate-put c = search needs
+
+put-requires : tie.Need-put-requires
+put-requires c κs = search needs
+
+cast-put-i64 : tie.Need-cast-put-i64
+cast-put-i64 c = simp znorm (simp zflat (omega (arith, known (c .before .before .fits .n))))
+
+put-i64-requires : tie.Need-put-i64-requires
+put-i64-requires c κs = search needs
+
+returns : tie.Need-returns
+returns c = search needs
+
+pub put-element-spec : {M : Type 1} → statement M
+put-element-spec =
+    tie.close (tie.spec slice-aggregate-put put-requires cast-put-i64 put-i64-requires returns)

@@ -1,0 +1,278 @@
+// Forged plans: each field of a compiled plan changed in turn, arrays past their counts as well. A call with such a plan is
+// refused by 8 and leaves the destination as it was. The gather is document 01's: operand 10 20 30 40 50, windows of 2.
+use gather_plan::CompiledGather;
+use gather_plan::GatherPlan;
+use layout::Answer;
+use layout::View;
+use plan_forging::Field;
+
+fn compile(window: u64) -> CompiledGather {
+    gather_plan::compile(
+        &[5],
+        &[1],
+        &[2],
+        &[1],
+        &[2, 2],
+        &[1, 2],
+        &[0],
+        &[],
+        &[0],
+        1,
+        &[window],
+        true,
+    )
+}
+
+fn view(extents: &[u64], strides: &[i64]) -> View {
+    let made = layout::make_layout(extents, strides);
+    let layout = made.layout;
+    View { layout, offset: 0 }
+}
+
+// The call on these views, with starts 4 and -1.
+fn call_on(plan: GatherPlan, operand: View, index: View, dest: View, into: &mut [i32]) -> Answer {
+    gather::gather_i32(
+        plan,
+        operand,
+        index,
+        dest,
+        &[10, 20, 30, 40, 50],
+        &[4, -1],
+        into,
+    )
+}
+
+// The call on the views of the gather.
+fn call(plan: GatherPlan, into: &mut [i32]) -> Answer {
+    let operand = view(&[5], &[1]);
+    let index = view(&[2], &[1]);
+    let dest = view(&[2, 2], &[1, 2]);
+    call_on(plan, operand, index, dest, into)
+}
+
+// The call on views of no axes, as the plan has them that stands where compile refused.
+fn call_on_scalars(plan: GatherPlan, into: &mut [i32]) -> Answer {
+    let operand = view(&[], &[]);
+    let index = view(&[], &[]);
+    let dest = view(&[], &[]);
+    call_on(plan, operand, index, dest, into)
+}
+
+// How many plans were tried, how many of them refused by 8, and how many calls changed the destination.
+struct Tally {
+    tried: u64,
+    refused: u64,
+    changed: u64,
+}
+
+fn one_if(holds: bool) -> u64 {
+    if holds { 1 } else { 0 }
+}
+
+fn with_call(t: Tally, answer: Answer, unchanged: bool) -> Tally {
+    let eight = one_if(layout::number(answer) == 8);
+    let changed = one_if(!unchanged);
+    Tally {
+        tried: std::num::wrapping_add_u64(t.tried, 1),
+        refused: std::num::wrapping_add_u64(t.refused, eight),
+        changed: std::num::wrapping_add_u64(t.changed, changed),
+    }
+}
+
+fn is_before(into: &[i32; 4]) -> bool {
+    into[0] == 1 && into[1] == 2 && into[2] == 3 && into[3] == 4
+}
+
+fn try_plan(plan: GatherPlan, t: Tally) -> Tally {
+    let mut into = [1i32, 2, 3, 4];
+    let answer = call(plan, &mut into);
+    with_call(t, answer, is_before(&into))
+}
+
+// The three changes of one number or role.
+fn try_place(plan: GatherPlan, field: Field, i: usize, t: Tally) -> Tally {
+    let first = try_plan(plan_forging::forged(plan, field, i, 0), t);
+    let second = try_plan(plan_forging::forged(plan, field, i, 1), first);
+    try_plan(plan_forging::forged(plan, field, i, 2), second)
+}
+
+fn try_places(plan: GatherPlan, field: Field, places: usize) -> Tally {
+    let mut t = Tally {
+        tried: 0,
+        refused: 0,
+        changed: 0,
+    };
+    let mut i: usize = 0;
+    while i < places {
+        t = try_place(plan, field, i, t);
+        i += 1;
+    }
+    t
+}
+
+fn put_with(text: &[u8], n: u64) {
+    printing::put(text);
+    printing::put_u64(n);
+}
+
+fn put_tally(t: Tally) {
+    put_with(b": tried ", t.tried);
+    put_with(b", refused by 8 ", t.refused);
+    put_with(b", destination changed ", t.changed);
+    printing::end_line();
+}
+
+fn number(plan: GatherPlan, name: &[u8], field: Field) {
+    printing::put(name);
+    put_tally(try_places(plan, field, 1));
+}
+
+fn eight(plan: GatherPlan, name: &[u8], field: Field) {
+    printing::put(name);
+    put_tally(try_places(plan, field, 8));
+}
+
+fn operand(plan: GatherPlan) {
+    number(plan, b"operand rank", Field::Layout(0, 0));
+    eight(plan, b"operand extents", Field::Layout(0, 1));
+    eight(plan, b"operand strides", Field::Layout(0, 2));
+}
+
+fn index(plan: GatherPlan) {
+    number(plan, b"index rank", Field::Layout(1, 0));
+    eight(plan, b"index extents", Field::Layout(1, 1));
+    eight(plan, b"index strides", Field::Layout(1, 2));
+}
+
+fn dest(plan: GatherPlan) {
+    number(plan, b"destination rank", Field::Layout(2, 0));
+    eight(plan, b"destination extents", Field::Layout(2, 1));
+    eight(plan, b"destination strides", Field::Layout(2, 2));
+}
+
+fn window_axes(plan: GatherPlan) {
+    number(plan, b"offset_dims count", Field::Numbers(0, 0));
+    eight(plan, b"offset_dims entries", Field::Numbers(0, 1));
+    number(plan, b"collapsed_slice_dims count", Field::Numbers(1, 0));
+    eight(plan, b"collapsed_slice_dims entries", Field::Numbers(1, 1));
+}
+
+fn start_axes(plan: GatherPlan) {
+    number(plan, b"start_index_map count", Field::Numbers(2, 0));
+    eight(plan, b"start_index_map entries", Field::Numbers(2, 1));
+    number(plan, b"index_vector_dim", Field::VectorAxis);
+}
+
+fn windows(plan: GatherPlan) {
+    number(plan, b"slice_sizes count", Field::Numbers(3, 0));
+    eight(plan, b"slice_sizes entries", Field::Numbers(3, 1));
+}
+
+fn axes_in_dest(plan: GatherPlan) {
+    eight(plan, b"axes, role", Field::Axis(0));
+    eight(plan, b"axes, destination step", Field::Axis(1));
+    eight(plan, b"axes, destination reset", Field::Axis(2));
+}
+
+fn axes_in_views(plan: GatherPlan) {
+    eight(plan, b"axes, window step", Field::Axis(3));
+    eight(plan, b"axes, window reset", Field::Axis(4));
+    eight(plan, b"axes, batch step", Field::Axis(5));
+    eight(plan, b"axes, batch reset", Field::Axis(6));
+}
+
+fn component_offsets(plan: GatherPlan) {
+    number(plan, b"component offsets count", Field::Steps(0, 0));
+    eight(plan, b"component offsets entries", Field::Steps(0, 1));
+}
+
+fn component_strides(plan: GatherPlan) {
+    number(plan, b"component strides count", Field::Steps(1, 0));
+    eight(plan, b"component strides entries", Field::Steps(1, 1));
+    number(plan, b"total", Field::Total);
+}
+
+fn layouts(plan: GatherPlan) {
+    operand(plan);
+    index(plan);
+    dest(plan);
+}
+
+fn spec(plan: GatherPlan) {
+    window_axes(plan);
+    start_axes(plan);
+    windows(plan);
+}
+
+fn walk(plan: GatherPlan) {
+    axes_in_dest(plan);
+    axes_in_views(plan);
+    component_offsets(plan);
+    component_strides(plan);
+}
+
+fn put_element(n: i32) {
+    printing::put(b" ");
+    printing::put_i64(n as i64);
+}
+
+fn put_elements(into: &[i32; 4]) {
+    put_element(into[0]);
+    put_element(into[1]);
+    put_element(into[2]);
+    put_element(into[3]);
+}
+
+fn put_called(name: &[u8], answer: Answer, into: &[i32; 4]) {
+    printing::put(name);
+    put_with(b": answer ", layout::number(answer));
+    printing::put(b", destination");
+    put_elements(into);
+    printing::end_line();
+}
+
+fn compiled_plan(plan: GatherPlan) {
+    let mut into = [1i32, 2, 3, 4];
+    let answer = call(plan, &mut into);
+    put_called(b"the compiled plan", answer, &into);
+}
+
+// Windows of 6 are refused by 6.
+fn put_refusal(compiled: CompiledGather) {
+    let answer = compiled.answer;
+    put_with(
+        b"compile with windows of 6: answer ",
+        layout::number(answer),
+    );
+    printing::end_line();
+}
+
+fn refused_plan(plan: GatherPlan) {
+    let mut into = [1i32, 2, 3, 4];
+    let answer = call(plan, &mut into);
+    put_called(b"the plan that stands there", answer, &into);
+}
+
+fn refused_plan_on_scalars(plan: GatherPlan) {
+    let mut into = [1i32, 2, 3, 4];
+    let answer = call_on_scalars(plan, &mut into);
+    put_called(b"the same on views of its layouts", answer, &into);
+}
+
+fn refused() {
+    let compiled = compile(6);
+    let plan = compiled.plan;
+    put_refusal(compiled);
+    refused_plan(plan);
+    refused_plan_on_scalars(plan);
+}
+
+fn main() {
+    let compiled = compile(2);
+    let plan = compiled.plan;
+    compiled_plan(plan);
+    layouts(plan);
+    spec(plan);
+    walk(plan);
+    refused();
+}

@@ -1,0 +1,31 @@
+use native.Mathlib.Omega.{arith}
+use Rattle.integer.specs.Z.{znorm, zflat, known, back}
+use borrow.Author.Needs.{needs}
+use Rattle.plan_forging.proofs.other_i64.Statement.{statement}
+use Rattle.plan_forging.proofs.other_i64.Tie as tie
+use Rattle.plan_forging.proofs.other_i64.Reads as reads
+use Rattle.plan_forging.proofs.other_i64.Lts as lts
+use Rattle.plan_forging.proofs.one_less.Reads as one-less-reads
+use Rattle.plan_forging.proofs.one_more.Reads as one-more-reads
+
+one-more-requires : tie.Need-one-more-requires
+one-more-requires c κs = search needs
+
+one-less-requires : tie.Need-one-less-requires
+one-less-requires c κs = search needs
+
+sub-result : tie.Need-sub-result
+sub-result c = rw (back (c .before .before .fits .n)) (simp znorm (simp zflat (omega (arith, known (c .before .before .fits .n)))))
+
+returns : tie.Need-returns
+returns c = search needs
+
+returns-2 : tie.Need-returns-2
+returns-2 c = search needs
+
+returns-3 : tie.Need-returns-3
+returns-3 c = search needs
+
+pub other-i64-spec : {M : Type 1} → statement M
+other-i64-spec =
+    tie.close (tie.spec one-more-requires one-less-requires sub-result returns returns-2 returns-3)

@@ -1,0 +1,220 @@
+// The stored gathers, whole: compile, then the call on copies of the stored slices.
+use gather_plan::CompiledGather;
+use gather_plan::GatherPlan;
+use layout::Answer;
+use layout::MadeLayout;
+use layout::View;
+use stored_reader::elements;
+use stored_reader::packed;
+use stored_reader::packed::list;
+use stored_reader::packed::signed_list;
+use stored_reader::verdicts;
+
+fn compile(head: &[u8], words: &[u64], numbers: &[i64]) -> CompiledGather {
+    gather_plan::compile(
+        list(words, head, 0),
+        signed_list(numbers, head, 1),
+        list(words, head, 2),
+        signed_list(numbers, head, 3),
+        list(words, head, 4),
+        signed_list(numbers, head, 5),
+        list(words, head, 6),
+        list(words, head, 7),
+        list(words, head, 8),
+        packed::word_at(words, packed::VECTOR_AXIS),
+        list(words, head, 9),
+        true,
+    )
+}
+
+// The layout of a view of the call.
+fn call_layout(head: &[u8], words: &[u64], numbers: &[i64], view: usize) -> MadeLayout {
+    let extents = packed::call_extents(head, view);
+    let strides = extents + 1;
+    layout::make_layout(
+        list(words, head, extents),
+        signed_list(numbers, head, strides),
+    )
+}
+
+// A view of the call; where its layout is none, it is not asked for.
+fn call_view(head: &[u8], words: &[u64], numbers: &[i64], view: usize) -> View {
+    let made = call_layout(head, words, numbers, view);
+    let layout = made.layout;
+    View {
+        layout,
+        offset: packed::number_at(numbers, view),
+    }
+}
+
+fn is_layout(head: &[u8], words: &[u64], numbers: &[i64], view: usize) -> bool {
+    let made = call_layout(head, words, numbers, view);
+    let answer = made.answer;
+    layout::is_done(answer)
+}
+
+// A call's layout of unequal lengths, or of a rank above 8, is no plan's: 8.
+fn are_layouts(head: &[u8], words: &[u64], numbers: &[i64]) -> bool {
+    is_layout(head, words, numbers, 0)
+        && is_layout(head, words, numbers, 1)
+        && is_layout(head, words, numbers, 2)
+}
+
+fn run_i32(
+    plan: GatherPlan,
+    head: &[u8],
+    words: &[u64],
+    numbers: &[i64],
+    source: &[i32],
+    into: &mut [i32],
+) -> Answer {
+    let operand = call_view(head, words, numbers, 0);
+    let index = call_view(head, words, numbers, 1);
+    let dest = call_view(head, words, numbers, 2);
+    let starts = signed_list(numbers, head, packed::STARTS);
+    gather::gather_i32(plan, operand, index, dest, source, starts, into)
+}
+
+fn call_i32(
+    compiled: CompiledGather,
+    head: &[u8],
+    words: &[u64],
+    numbers: &[i64],
+    source: &[i32],
+    into: &mut [i32],
+) -> Answer {
+    let refused = compiled.answer;
+    let plan = compiled.plan;
+    if !layout::is_done(refused) {
+        return refused;
+    }
+    if !are_layouts(head, words, numbers) {
+        return Answer::PlanLayoutMismatch;
+    }
+    run_i32(plan, head, words, numbers, source, into)
+}
+
+fn run_f64(
+    plan: GatherPlan,
+    head: &[u8],
+    words: &[u64],
+    numbers: &[i64],
+    source: &[f64],
+    into: &mut [f64],
+) -> Answer {
+    let operand = call_view(head, words, numbers, 0);
+    let index = call_view(head, words, numbers, 1);
+    let dest = call_view(head, words, numbers, 2);
+    let starts = signed_list(numbers, head, packed::STARTS);
+    gather::gather_f64(plan, operand, index, dest, source, starts, into)
+}
+
+fn call_f64(
+    compiled: CompiledGather,
+    head: &[u8],
+    words: &[u64],
+    numbers: &[i64],
+    source: &[f64],
+    into: &mut [f64],
+) -> Answer {
+    let refused = compiled.answer;
+    let plan = compiled.plan;
+    if !layout::is_done(refused) {
+        return refused;
+    }
+    if !are_layouts(head, words, numbers) {
+        return Answer::PlanLayoutMismatch;
+    }
+    run_f64(plan, head, words, numbers, source, into)
+}
+
+// The call on a case's own slices.
+fn judge_i32(
+    head: &[u8],
+    words: &[u64],
+    numbers: &[i64],
+    source: &[i32],
+    into: &mut [i32],
+) -> usize {
+    let compiled = compile(head, words, numbers);
+    let answer = call_i32(compiled, head, words, numbers, source, into);
+    let left = elements::same_i32(into, signed_list(numbers, head, packed::DEST_AFTER));
+    verdicts::judge(answer, left, head, words)
+}
+
+// Of the arrays, the parts that a case's slices have filled.
+fn parts_i32(
+    head: &[u8],
+    words: &[u64],
+    numbers: &[i64],
+    source: &[i32],
+    into: &mut [i32],
+) -> usize {
+    let n = packed::list_count(head, packed::OPERAND);
+    let m = packed::list_count(head, packed::DEST);
+    if n > source.len() {
+        return verdicts::TOO_LARGE;
+    }
+    if m > into.len() {
+        return verdicts::TOO_LARGE;
+    }
+    judge_i32(head, words, numbers, &source[..n], &mut into[..m])
+}
+
+fn verdict_i32(head: &[u8], words: &[u64], numbers: &[i64]) -> usize {
+    let mut source = [0i32; 64];
+    let mut into = [0i32; 64];
+    elements::fill_i32(signed_list(numbers, head, packed::OPERAND), &mut source);
+    elements::fill_i32(signed_list(numbers, head, packed::DEST), &mut into);
+    parts_i32(head, words, numbers, &source, &mut into)
+}
+
+// The call on a case's own slices.
+fn judge_f64(
+    head: &[u8],
+    words: &[u64],
+    numbers: &[i64],
+    source: &[f64],
+    into: &mut [f64],
+) -> usize {
+    let compiled = compile(head, words, numbers);
+    let answer = call_f64(compiled, head, words, numbers, source, into);
+    let left = elements::same_f64(into, list(words, head, packed::DEST_AFTER));
+    verdicts::judge(answer, left, head, words)
+}
+
+// Of the arrays, the parts that a case's slices have filled.
+fn parts_f64(
+    head: &[u8],
+    words: &[u64],
+    numbers: &[i64],
+    source: &[f64],
+    into: &mut [f64],
+) -> usize {
+    let n = packed::list_count(head, packed::OPERAND);
+    let m = packed::list_count(head, packed::DEST);
+    if n > source.len() {
+        return verdicts::TOO_LARGE;
+    }
+    if m > into.len() {
+        return verdicts::TOO_LARGE;
+    }
+    judge_f64(head, words, numbers, &source[..n], &mut into[..m])
+}
+
+fn verdict_f64(head: &[u8], words: &[u64], numbers: &[i64]) -> usize {
+    let mut source = [0.0f64; 64];
+    let mut into = [0.0f64; 64];
+    elements::fill_f64(list(words, head, packed::OPERAND), &mut source);
+    elements::fill_f64(list(words, head, packed::DEST), &mut into);
+    parts_f64(head, words, numbers, &source, &mut into)
+}
+
+// Whether the answer and every element of the destination are those that are stored.
+pub fn verdict(head: &[u8], words: &[u64], numbers: &[i64]) -> usize {
+    if packed::is_f64(head) {
+        verdict_f64(head, words, numbers)
+    } else {
+        verdict_i32(head, words, numbers)
+    }
+}

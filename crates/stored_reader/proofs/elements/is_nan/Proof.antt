@@ -1,0 +1,16 @@
+use lib.Ieee.{nanBits}
+use borrow.Author.Needs.{needs}
+use Rattle.stored_reader.proofs.elements.is_nan.Statement.{statement}
+use Rattle.stored_reader.proofs.elements.is_nan.Tie as tie
+use Rattle.stored_reader.proofs.elements.is_nan.Reads as reads
+use Rattle.stored_reader.proofs.elements.is_nan.Lts as lts
+
+returns : tie.Need-returns
+unfolding nanBits
+returns c = search needs
+
+both-requires : tie.Need-both-requires
+both-requires c κs = tt
+
+pub is-nan-spec : {M : Type 1} → statement M
+is-nan-spec = tie.close (tie.spec both-requires returns)

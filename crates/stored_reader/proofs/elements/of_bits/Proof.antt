@@ -1,0 +1,24 @@
+use mathlib.Core.Path.{sym, subst, _∙_}
+use mathlib.Core.Bool.{not}
+use lib.Dec.{T}
+use borrow.Author.Needs.{needs}
+use Rattle.stored_reader.proofs.elements.of_bits.Statement.{statement}
+use Rattle.stored_reader.proofs.elements.of_bits.Tie as tie
+use Rattle.stored_reader.proofs.elements.of_bits.Reads as reads
+use Rattle.stored_reader.proofs.elements.of_bits.Lts as lts
+use Rattle.stored_reader.proofs.elements.is_nan.Reads as is-nan-reads
+
+is-nan-requires : tie.Need-is-nan-requires
+is-nan-requires c κs = search needs
+
+float-from-bits-result : tie.Need-float-from-bits-result
+float-from-bits-result c = subst (λ b. T (not b)) (sym (sym (c .before .is-nan .ensures) ∙ c .if1 .left)) tt
+
+returns : tie.Need-returns
+returns c = search needs
+
+returns-2 : tie.Need-returns-2
+returns-2 c = search needs
+
+pub of-bits-spec : {M : Type 1} → statement M
+of-bits-spec = tie.close (tie.spec is-nan-requires float-from-bits-result returns returns-2)

@@ -1,0 +1,5 @@
+// The reader of the stored cases: the file, a case as it is packed, its elements, and the verdicts on it.
+pub mod elements;
+pub mod file;
+pub mod packed;
+pub mod verdicts;
