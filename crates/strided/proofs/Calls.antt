@@ -17,13 +17,13 @@ use Rattle.strided.specs.Words.{words}
 use Rattle.strided.specs.Calls.{layoutsAnswer, viewAt, viewsFrom, rawAnswer, Ran, HandedBack}
 
 -- ---- the first refusal of several
-stops : (x y : Answer) → isDone x ≡ false → orElse x y ≡ x
+pub stops : (x y : Answer) → isDone x ≡ false → orElse x y ≡ x
 stops x y e = ap (λ (t : Bool). cond t y x) e
 
-goes : (x y : Answer) → isDone x ≡ true → orElse x y ≡ y
+pub goes : (x y : Answer) → isDone x ≡ true → orElse x y ≡ y
 goes x y e = ap (λ (t : Bool). cond t y x) e
 
-in-turn : (x y z : Answer) → orElse x (orElse y z) ≡ orElse (orElse x y) z
+pub in-turn : (x y z : Answer) → orElse x (orElse y z) ≡ orElse (orElse x y) z
 in-turn x y z = go (isDone x) refl
   where
     go : (t : Bool) → isDone x ≡ t → cond t (orElse y z) x ≡ orElse (cond t y x) z
@@ -33,19 +33,19 @@ in-turn x y z = go (isDone x) refl
 -- ---- the views of a call
 pub views-are : (oe : List ℕ) (os : List ℤ) (o : ℤ) (ie : List ℕ) (is : List ℤ) (i : ℤ) (de : List ℕ) (ds : List ℤ) (d : ℤ) (a b c : MadeLayout) (x : Answer)
     → a ≡ layoutFrom oe os → b ≡ layoutFrom ie is → c ≡ layoutFrom de ds → x ≡ layoutsAnswer (a .answer) (b .answer) (c .answer)
-    → _≡_ {A = CallViews} (record { answer = x; operand = viewAt a o; index = viewAt b i; dest = viewAt c d }) (viewsFrom oe os o ie is i de ds d)
+    → _≡_ {A = CallViews} (record { answer = x; first = viewAt a o; second = viewAt b i; third = viewAt c d }) (viewsFrom oe os o ie is i de ds d)
 unfolding viewsFrom
 views-are oe os o ie is i de ds d a b c x ea eb ec ex =
-    ap (λ (y : Answer). record { answer = y; operand = viewAt a o; index = viewAt b i; dest = viewAt c d }) ex
-    ∙ (λ j. record { answer = layoutsAnswer (ea j .answer) (eb j .answer) (ec j .answer); operand = viewAt (ea j) o; index = viewAt (eb j) i; dest = viewAt (ec j) d })
+    ap (λ (y : Answer). record { answer = y; first = viewAt a o; second = viewAt b i; third = viewAt c d }) ex
+    ∙ (λ j. record { answer = layoutsAnswer (ea j .answer) (eb j .answer) (ec j .answer); first = viewAt (ea j) o; second = viewAt (eb j) i; third = viewAt (ec j) d })
 
 -- ---- the call after them
 module _ {A : Type 0} (z : A) (k : CompiledGather) (v : CallViews) (operand : List A) (starts : List ℤ) (before : List A) (refusal : Answer) (e : refusal ≡ orElse (k .answer) (v .answer)) where
   abbrev called : Answer
-  called = callAnswer (k .plan) (v .operand) (v .index) (v .dest) (length operand) (length starts) (length before)
+  called = callAnswer (k .plan) (v .first) (v .second) (v .third) (length operand) (length starts) (length before)
 
   abbrev leaves : Bool → List A
-  leaves t = cond t (gathered z (gatherOf (k .plan) (v .operand) (v .index) (v .dest)) starts operand before) before
+  leaves t = cond t (gathered z (gatherOf (k .plan) (v .first) (v .second) (v .third)) starts operand before) before
 
   raw : rawAnswer k v (length operand) (length starts) (length before) ≡ orElse refusal called
   raw = in-turn (k .answer) (v .answer) called ∙ ap (λ (x : Answer). orElse x called) (sym e)
@@ -53,7 +53,7 @@ module _ {A : Type 0} (z : A) (k : CompiledGather) (v : CallViews) (operand : Li
   pub stopped : isDone refusal ≡ false → Ran z k v operand starts before before refusal
   stopped f = let r = raw ∙ stops refusal called f in record { answered = sym r; left = sym (ap leaves (ap isDone r ∙ f)) }
 
-  pub went : (after : List A) (answer : Answer) → isDone refusal ≡ true → Called z (k .plan) (v .operand) (v .index) (v .dest) operand starts before after answer → Ran z k v operand starts before after answer
+  pub went : (after : List A) (answer : Answer) → isDone refusal ≡ true → Called z (k .plan) (v .first) (v .second) (v .third) operand starts before after answer → Ran z k v operand starts before after answer
   went after answer f c = let r = raw ∙ goes refusal called f in record { answered = c .answered ∙ sym r; left = c .left ∙ sym (ap leaves (ap isDone r)) }
 
 -- ---- its words

@@ -18,7 +18,7 @@ use Rattle.strided.specs.Words.{words}
 
 -- 8: "a call's layout is not the plan's" where 1 or 2 would refuse it, since a plan has no such layout
 abbrev pub layoutsAnswer : Answer → Answer → Answer → Answer
-layoutsAnswer o i d = planRefusal (isDone o && (isDone i && isDone d))
+layoutsAnswer x y z = planRefusal (isDone x && (isDone y && isDone z))
 
 -- a layout at an offset
 abbrev pub viewAt : MadeLayout → ℤ → View
@@ -26,22 +26,22 @@ viewAt m at = record { layout = m .layout; offset = at }
 
 -- the three views of a call, by extents, strides and offset
 unfoldable pub viewsFrom : List ℕ → List ℤ → ℤ → List ℕ → List ℤ → ℤ → List ℕ → List ℤ → ℤ → CallViews
-viewsFrom oe os o ie is i de ds d =
+viewsFrom xe xs x ye ys y ze zs z =
     record {
-      answer = layoutsAnswer (layoutFrom oe os .answer) (layoutFrom ie is .answer) (layoutFrom de ds .answer);
-      operand = viewAt (layoutFrom oe os) o;
-      index = viewAt (layoutFrom ie is) i;
-      dest = viewAt (layoutFrom de ds) d;
+      answer = layoutsAnswer (layoutFrom xe xs .answer) (layoutFrom ye ys .answer) (layoutFrom ze zs .answer);
+      first = viewAt (layoutFrom xe xs) x;
+      second = viewAt (layoutFrom ye ys) y;
+      third = viewAt (layoutFrom ze zs) z;
     }
 
 -- compile's refusal, then a call's, given the lengths of the three slices
 abbrev pub rawAnswer : CompiledGather → CallViews → ℕ → ℕ → ℕ → Answer
-rawAnswer c v on sn dn = orElse (c .answer) (orElse (v .answer) (callAnswer (c .plan) (v .operand) (v .index) (v .dest) on sn dn))
+rawAnswer c v on sn dn = orElse (c .answer) (orElse (v .answer) (callAnswer (c .plan) (v .first) (v .second) (v .third) on sn dn))
 
 -- what the destination's slice then holds: where the call is done what the gather leaves, and else what it held
 abbrev pub rawLeft : {A : Type 0} → A → CompiledGather → CallViews → List A → List ℤ → List A → List A
 rawLeft z c v operand starts before =
-    cond (isDone (rawAnswer c v (length operand) (length starts) (length before))) (gathered z (gatherOf (c .plan) (v .operand) (v .index) (v .dest)) starts operand before) before
+    cond (isDone (rawAnswer c v (length operand) (length starts) (length before))) (gathered z (gatherOf (c .plan) (v .first) (v .second) (v .third)) starts operand before) before
 
 -- compile and call, the answer not yet in words
 pub record Ran {A : Type 0} (z : A) (c : CompiledGather) (v : CallViews) (operand : List A) (starts : List ℤ) (before after : List A) (answer : Answer) : Type 0 where

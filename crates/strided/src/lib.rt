@@ -6,19 +6,24 @@ ghost use lib.Ieee.{nan};
 ghost use lib.IntN.{pos};
 ghost use Rattle.gather_checks.specs.Refusals as gathers;
 ghost use Rattle.gather_plan.specs.Plan.{compiledGather};
+ghost use Rattle.indexing.specs.Scatter.{scatteredI32, scatteredF64};
 ghost use Rattle.scatter_checks.specs.Refusals as scatters;
+ghost use Rattle.scatter_plan.specs.Plan.{compiledScatter};
 ghost use Rattle.strided.specs.Words.{words};
 ghost use Rattle.strided.specs.Calls.{layoutsAnswer, viewsFrom, Ran, HandedBack};
+ghost use Rattle.strided.specs.Scatters.{ScatterRan, ScatterHandedBack};
 use gather_plan::CompiledGather;
 use layout::Answer;
 use layout::View;
+use scatter_plan::CompiledScatter;
 
-// The three views of a call, or 8 where one of them has no layout that a plan could have.
+// The three views of a call in document 01's order (gather: operand, index, destination; scatter: index, updates, destination), or 8
+// where one of them has no layout that a plan could have.
 pub struct CallViews {
     pub answer: Answer,
-    pub operand: View,
-    pub index: View,
-    pub dest: View,
+    pub first: View,
+    pub second: View,
+    pub third: View,
 }
 
 // The number, a and b of an answer.
@@ -100,16 +105,16 @@ pub extern "C" fn strided_scatter_refusal(
 }
 
 // 8 where a layout of the call is refused by 1 or 2.
-fn layouts_answer(operand: Answer, index: Answer, dest: Answer) -> Answer
-    ensures { λ r. ⌜ r ≡ layoutsAnswer operand index dest ⌝ }
+fn layouts_answer(first: Answer, second: Answer, third: Answer) -> Answer
+    ensures { λ r. ⌜ r ≡ layoutsAnswer first second third ⌝ }
 {
-    if !layout::is_done(operand) {
+    if !layout::is_done(first) {
         return Answer::PlanLayoutMismatch;
     }
-    if !layout::is_done(index) {
+    if !layout::is_done(second) {
         return Answer::PlanLayoutMismatch;
     }
-    if !layout::is_done(dest) {
+    if !layout::is_done(third) {
         return Answer::PlanLayoutMismatch;
     }
     Answer::Done
@@ -117,41 +122,41 @@ fn layouts_answer(operand: Answer, index: Answer, dest: Answer) -> Answer
 
 // The views of a call by their extents, strides and offsets.
 fn call_views(
-    operand_extents: &[u64],
-    operand_strides: &[i64],
-    operand_offset: i64,
-    index_extents: &[u64],
-    index_strides: &[i64],
-    index_offset: i64,
-    dest_extents: &[u64],
-    dest_strides: &[i64],
-    dest_offset: i64,
+    first_extents: &[u64],
+    first_strides: &[i64],
+    first_offset: i64,
+    second_extents: &[u64],
+    second_strides: &[i64],
+    second_offset: i64,
+    third_extents: &[u64],
+    third_strides: &[i64],
+    third_offset: i64,
 ) -> CallViews
-    ensures { λ r. ⌜ r ≡ viewsFrom (now («operand_extents» .entry)) (now («operand_strides» .entry)) «operand_offset» (now («index_extents» .entry)) (now («index_strides» .entry)) «index_offset» (now («dest_extents» .entry)) (now («dest_strides» .entry)) «dest_offset» ⌝ }
+    ensures { λ r. ⌜ r ≡ viewsFrom (now («first_extents» .entry)) (now («first_strides» .entry)) «first_offset» (now («second_extents» .entry)) (now («second_strides» .entry)) «second_offset» (now («third_extents» .entry)) (now («third_strides» .entry)) «third_offset» ⌝ }
 {
-    let a = layout::make_layout(operand_extents, operand_strides);
-    let b = layout::make_layout(index_extents, index_strides);
-    let c = layout::make_layout(dest_extents, dest_strides);
+    let a = layout::make_layout(first_extents, first_strides);
+    let b = layout::make_layout(second_extents, second_strides);
+    let c = layout::make_layout(third_extents, third_strides);
     let x = a.answer;
     let y = b.answer;
     let z = c.answer;
     let answer = layouts_answer(x, y, z);
-    let operand = a.layout;
-    let index = b.layout;
-    let dest = c.layout;
+    let first = a.layout;
+    let second = b.layout;
+    let third = c.layout;
     CallViews {
         answer,
-        operand: View {
-            layout: operand,
-            offset: operand_offset,
+        first: View {
+            layout: first,
+            offset: first_offset,
         },
-        index: View {
-            layout: index,
-            offset: index_offset,
+        second: View {
+            layout: second,
+            offset: second_offset,
         },
-        dest: View {
-            layout: dest,
-            offset: dest_offset,
+        third: View {
+            layout: third,
+            offset: third_offset,
         },
     }
 }
@@ -173,9 +178,9 @@ fn run_i32(
         return refusal;
     }
     let plan = compiled.plan;
-    let x = views.operand;
-    let y = views.index;
-    let z = views.dest;
+    let x = views.first;
+    let y = views.second;
+    let z = views.third;
     gather::gather_i32(plan, x, y, z, operand, starts, dest)
 }
 
@@ -196,9 +201,9 @@ fn run_f64(
         return refusal;
     }
     let plan = compiled.plan;
-    let x = views.operand;
-    let y = views.index;
-    let z = views.dest;
+    let x = views.first;
+    let y = views.second;
+    let z = views.third;
     gather::gather_f64(plan, x, y, z, operand, starts, dest)
 }
 
@@ -317,5 +322,197 @@ pub extern "C" fn strided_raw_gather_f64(
         dest_offset,
     );
     let r = run_f64(compiled, views, operand, starts, dest);
+    *answer = words_of(r);
+}
+
+// Compile's refusal, then the views', then the call with the rows of the plan's two walks.
+fn run_scatter_i32(
+    compiled: CompiledScatter,
+    views: CallViews,
+    starts: &[i64],
+    updates: &[i32],
+    dest: &mut [i32],
+) -> Answer
+    ensures { λ r. ⌜ ScatterRan scatteredI32 compiled views (now (starts .entry)) (now (updates .entry)) (now (dest .entry)) (now (dest .exit)) r ⌝ }
+{
+    let a = compiled.answer;
+    let b = views.answer;
+    let refusal = checks::or_else(a, b);
+    if !layout::is_done(refusal) {
+        return refusal;
+    }
+    let plan = compiled.plan;
+    let batch = plan.batch;
+    let window = plan.window;
+    let batch_axes = batch.axes;
+    let window_axes = window.axes;
+    let batch_rows = replay::rows_of(batch_axes);
+    let window_rows = replay::rows_of(window_axes);
+    let x = views.first;
+    let y = views.second;
+    let z = views.third;
+    scatter::scatter_i32(
+        plan,
+        batch_rows,
+        window_rows,
+        x,
+        y,
+        z,
+        starts,
+        updates,
+        dest,
+    )
+}
+
+// Compile's refusal, then the views', then the call with the rows of the plan's two walks.
+fn run_scatter_f64(
+    compiled: CompiledScatter,
+    views: CallViews,
+    starts: &[i64],
+    updates: &[f64],
+    dest: &mut [f64],
+) -> Answer
+    ensures { λ r. ⌜ ScatterRan scatteredF64 compiled views (now (starts .entry)) (now (updates .entry)) (now (dest .entry)) (now (dest .exit)) r ⌝ }
+{
+    let a = compiled.answer;
+    let b = views.answer;
+    let refusal = checks::or_else(a, b);
+    if !layout::is_done(refusal) {
+        return refusal;
+    }
+    let plan = compiled.plan;
+    let batch = plan.batch;
+    let window = plan.window;
+    let batch_axes = batch.axes;
+    let window_axes = window.axes;
+    let batch_rows = replay::rows_of(batch_axes);
+    let window_rows = replay::rows_of(window_axes);
+    let x = views.first;
+    let y = views.second;
+    let z = views.third;
+    scatter::scatter_f64(
+        plan,
+        batch_rows,
+        window_rows,
+        x,
+        y,
+        z,
+        starts,
+        updates,
+        dest,
+    )
+}
+
+// A scatter of i32 that adds: compile by the first ten arguments, and the call on the three views and their slices. The answer as number, a, b.
+#[no_mangle]
+pub extern "C" fn strided_raw_scatter_i32(
+    index_extents: &[u64],
+    index_strides: &[i64],
+    updates_extents: &[u64],
+    updates_strides: &[i64],
+    dest_extents: &[u64],
+    dest_strides: &[i64],
+    update_window_dims: &[u64],
+    inserted_window_dims: &[u64],
+    scatter_dims_to_operand_dims: &[u64],
+    index_vector_dim: u64,
+    index_view_extents: &[u64],
+    index_view_strides: &[i64],
+    index_offset: i64,
+    updates_view_extents: &[u64],
+    updates_view_strides: &[i64],
+    updates_offset: i64,
+    dest_view_extents: &[u64],
+    dest_view_strides: &[i64],
+    dest_offset: i64,
+    starts: &[i64],
+    updates: &[i32],
+    dest: &mut [i32],
+    answer: &mut [u64; 3],
+)
+    ensures { λ _. ⌜ ScatterHandedBack scatteredI32 (compiledScatter true (scatters.scatterFrom (now («index_extents» .entry)) (now («index_strides» .entry)) (now («updates_extents» .entry)) (now («updates_strides» .entry)) (now («dest_extents» .entry)) (now («dest_strides» .entry)) (now («update_window_dims» .entry)) (now («inserted_window_dims» .entry)) (now («scatter_dims_to_operand_dims» .entry)) «index_vector_dim»)) (viewsFrom (now («index_view_extents» .entry)) (now («index_view_strides» .entry)) «index_offset» (now («updates_view_extents» .entry)) (now («updates_view_strides» .entry)) «updates_offset» (now («dest_view_extents» .entry)) (now («dest_view_strides» .entry)) «dest_offset») (now (starts .entry)) (now (updates .entry)) (now (dest .entry)) (now (dest .exit)) (now (answer .exit)) ⌝ }
+{
+    let compiled = scatter_plan::compile(
+        index_extents,
+        index_strides,
+        updates_extents,
+        updates_strides,
+        dest_extents,
+        dest_strides,
+        update_window_dims,
+        inserted_window_dims,
+        scatter_dims_to_operand_dims,
+        index_vector_dim,
+        true,
+    );
+    let views = call_views(
+        index_view_extents,
+        index_view_strides,
+        index_offset,
+        updates_view_extents,
+        updates_view_strides,
+        updates_offset,
+        dest_view_extents,
+        dest_view_strides,
+        dest_offset,
+    );
+    let r = run_scatter_i32(compiled, views, starts, updates, dest);
+    *answer = words_of(r);
+}
+
+// A scatter of f64 that adds: compile by the first ten arguments, and the call on the three views and their slices. The answer as number, a, b.
+#[no_mangle]
+pub extern "C" fn strided_raw_scatter_f64(
+    index_extents: &[u64],
+    index_strides: &[i64],
+    updates_extents: &[u64],
+    updates_strides: &[i64],
+    dest_extents: &[u64],
+    dest_strides: &[i64],
+    update_window_dims: &[u64],
+    inserted_window_dims: &[u64],
+    scatter_dims_to_operand_dims: &[u64],
+    index_vector_dim: u64,
+    index_view_extents: &[u64],
+    index_view_strides: &[i64],
+    index_offset: i64,
+    updates_view_extents: &[u64],
+    updates_view_strides: &[i64],
+    updates_offset: i64,
+    dest_view_extents: &[u64],
+    dest_view_strides: &[i64],
+    dest_offset: i64,
+    starts: &[i64],
+    updates: &[f64],
+    dest: &mut [f64],
+    answer: &mut [u64; 3],
+)
+    ensures { λ _. ⌜ ScatterHandedBack scatteredF64 (compiledScatter true (scatters.scatterFrom (now («index_extents» .entry)) (now («index_strides» .entry)) (now («updates_extents» .entry)) (now («updates_strides» .entry)) (now («dest_extents» .entry)) (now («dest_strides» .entry)) (now («update_window_dims» .entry)) (now («inserted_window_dims» .entry)) (now («scatter_dims_to_operand_dims» .entry)) «index_vector_dim»)) (viewsFrom (now («index_view_extents» .entry)) (now («index_view_strides» .entry)) «index_offset» (now («updates_view_extents» .entry)) (now («updates_view_strides» .entry)) «updates_offset» (now («dest_view_extents» .entry)) (now («dest_view_strides» .entry)) «dest_offset») (now (starts .entry)) (now (updates .entry)) (now (dest .entry)) (now (dest .exit)) (now (answer .exit)) ⌝ }
+{
+    let compiled = scatter_plan::compile(
+        index_extents,
+        index_strides,
+        updates_extents,
+        updates_strides,
+        dest_extents,
+        dest_strides,
+        update_window_dims,
+        inserted_window_dims,
+        scatter_dims_to_operand_dims,
+        index_vector_dim,
+        true,
+    );
+    let views = call_views(
+        index_view_extents,
+        index_view_strides,
+        index_offset,
+        updates_view_extents,
+        updates_view_strides,
+        updates_offset,
+        dest_view_extents,
+        dest_view_strides,
+        dest_offset,
+    );
+    let r = run_scatter_f64(compiled, views, starts, updates, dest);
     *answer = words_of(r);
 }

@@ -6,7 +6,7 @@ use borrow.Author.Needs.{needs}
 use Rattle.strided.proofs.call_views.Statement.{statement}
 use Rattle.strided.proofs.call_views.Tie as tie
 
-offsets-fit : (a : tie.Start) → SFits w64 (a .args .operand-offset) × SFits w64 (a .args .index-offset) × SFits w64 (a .args .dest-offset)
+offsets-fit : (a : tie.Start) → SFits w64 (a .args .first-offset) × SFits w64 (a .args .second-offset) × SFits w64 (a .args .third-offset)
 offsets-fit a = (search needs, search needs, search needs)
 
 -- src/lib.rt:132:9
@@ -30,7 +30,7 @@ returns : tie.Need-returns
 returns c =
     let s = c .before .before .before .before .before .before .before .before .before .before in
     let f = offsets-fit s in
-    simp (back (f .0), back (f .1), back (f .2)) (views-are (s .args .operand-extents .now) (s .args .operand-strides .now) (s .args .operand-offset) (s .args .index-extents .now) (s .args .index-strides .now) (s .args .index-offset) (s .args .dest-extents .now) (s .args .dest-strides .now) (s .args .dest-offset) (c .before .before .before .before .before .before .make-layout .result) (c .before .before .before .before .before .make-layout2 .result) (c .before .before .before .before .make-layout3 .result) (c .before .before .before .layouts-answer .result) (c .before .before .before .before .before .before .make-layout .ensures) (c .before .before .before .before .before .make-layout2 .ensures) (c .before .before .before .before .make-layout3 .ensures) (c .before .before .before .layouts-answer .ensures))
+    simp (back (f .0), back (f .1), back (f .2)) (views-are (s .args .first-extents .now) (s .args .first-strides .now) (s .args .first-offset) (s .args .second-extents .now) (s .args .second-strides .now) (s .args .second-offset) (s .args .third-extents .now) (s .args .third-strides .now) (s .args .third-offset) (c .before .before .before .before .before .before .make-layout .result) (c .before .before .before .before .before .make-layout2 .result) (c .before .before .before .before .make-layout3 .result) (c .before .before .before .layouts-answer .result) (c .before .before .before .before .before .before .make-layout .ensures) (c .before .before .before .before .before .make-layout2 .ensures) (c .before .before .before .before .make-layout3 .ensures) (c .before .before .before .layouts-answer .ensures))
 
 pub call-views-spec : {M : Type 1} → statement M
 call-views-spec =

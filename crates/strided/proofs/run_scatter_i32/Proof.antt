@@ -1,0 +1,60 @@
+use mathlib.Core.Path.{sym, _∙_}
+use borrow.Author.Tests.{not-true, not-false}
+use Rattle.indexing.specs.Scatter.{scatteredI32}
+use Rattle.strided.proofs.Scatters.{scatter-stopped, scatter-went}
+use borrow.Author.Needs.{needs}
+use Rattle.strided.proofs.run_scatter_i32.Statement.{statement}
+use Rattle.strided.proofs.run_scatter_i32.Tie as tie
+
+-- src/lib.rt:340:9
+or-else-requires : tie.Need-or-else-requires
+or-else-requires c κs = search needs
+
+-- src/lib.rt:341:9
+is-done-requires : tie.Need-is-done-requires
+is-done-requires c κs = search needs
+
+-- src/lib.rt:342:9
+returns : tie.Need-returns
+returns c =
+    let s = c .before .before .before in
+    scatter-stopped scatteredI32 (s .args .compiled) (s .args .views) (s .args .starts .now) (s .args .updates .now) (s .args .dest .now) (c .before .before .or-else .result) (c .before .before .or-else .ensures) (sym (c .before .is-done .ensures) ∙ not-true _ (c .if1 .taken))
+
+-- src/lib.rt:349:9
+rows-of-requires : tie.Need-rows-of-requires
+rows-of-requires c κs = search needs
+
+-- src/lib.rt:350:9
+rows-of-requires-2 : tie.Need-rows-of-requires-2
+rows-of-requires-2 c κs = search needs
+
+-- src/lib.rt:354:5
+scatter-i32-requires : tie.Need-scatter-i32-requires
+scatter-i32-requires c κs = search needs
+
+-- src/lib.rt:329:1
+same-length : tie.Need-same-length
+same-length c = search needs
+
+-- src/lib.rt:329:1
+returns-2 : tie.Need-returns-2
+returns-2 c =
+    let s = c .before .before .before .before .before .before .before .before .before .before .before .before .before .before .before .before in
+    let o = c .before .before .before .before .before .before .before .before .before .before .before .before .before .before .before .or-else in
+    let rows = c .before .before .before .before .before .before .before .rows-of in
+    let wanted = c .before .before .before .before .before .before .rows-of2 in
+    let done = c .before .scatter-i32 in
+    scatter-went scatteredI32 (s .args .compiled) (s .args .views) (s .args .starts .now) (s .args .updates .now) (s .args .dest .now) (o .result) (o .ensures) (rows .result) (wanted .result) (rows .ensures) (wanted .ensures) _ (done .result) (sym (c .before .before .before .before .before .before .before .before .before .before .before .before .before .before .is-done .ensures) ∙ not-false _ (c .before .before .before .before .before .before .before .before .before .before .before .before .before .if1 .left)) (done .ensures)
+
+pub run-scatter-i32-spec : {M : Type 1} → statement M
+run-scatter-i32-spec =
+    tie.close
+    (tie.spec
+    or-else-requires
+    is-done-requires
+    returns
+    rows-of-requires
+    rows-of-requires-2
+    scatter-i32-requires
+    same-length
+    returns-2)
