@@ -7,26 +7,27 @@ use lines::{Answer, Call, Job};
 #[cfg(library)]
 use lines::{Number, Spec};
 
-/// A gather whole, and the export of its compile's refusals with it: a panic
-/// tells where the two differ. Of a scatter the library has the refusals of
-/// compile; a refusal leaves the destination as it is.
+/// A call whole, and the export of its compile's refusals with it: a panic
+/// tells where the two differ.
 #[cfg(library)]
 pub fn call(call: &Call) -> Option<Answer> {
-    match &call.job.spec {
-        Spec::Gather(spec) => {
-            let (number, dest) = library::gather(call, spec)?;
-            let compiled = match number.n {
-                1..=7 => number,
-                _ => Number::DONE,
-            };
-            assert_eq!(library::gather_refusal(&call.job.views, spec), compiled);
-            Some(Answer::Called(number, dest))
-        }
-        Spec::Scatter(spec) => {
-            let number = library::scatter_refusal(&call.job.views, spec);
-            (number.n != 0).then(|| Answer::Called(number, call.dest.clone()))
-        }
-    }
+    let views = &call.job.views;
+    let ((number, dest), refusal) = match &call.job.spec {
+        Spec::Gather(spec) => (
+            library::gather(call, spec)?,
+            library::gather_refusal(views, spec),
+        ),
+        Spec::Scatter(spec) => (
+            library::scatter(call, spec)?,
+            library::scatter_refusal(views, spec),
+        ),
+    };
+    let compiled = match number.n {
+        1..=7 => number,
+        _ => Number::DONE,
+    };
+    assert_eq!(refusal, compiled);
+    Some(Answer::Called(number, dest))
 }
 
 #[cfg(not(library))]
@@ -34,12 +35,12 @@ pub fn call(_call: &Call) -> Option<Answer> {
     None
 }
 
-/// The reader of a stored job.
+/// The reader of a stored job: not exported.
 pub fn read(_bytes: &[u8]) -> Option<Answer> {
     None
 }
 
-/// The writer of a stored job.
+/// The writer of a stored job: not exported.
 pub fn write(_job: &Job, _room: u64) -> Option<Answer> {
     None
 }
@@ -137,6 +138,94 @@ mod library {
             operand_count: usize,
             starts: *const i64,
             starts_count: usize,
+            dest: *mut f64,
+            dest_count: usize,
+            answer: *mut [u64; 3],
+        );
+
+        fn strided_raw_scatter_i32(
+            index_extents: *const u64,
+            index_extents_count: usize,
+            index_strides: *const i64,
+            index_strides_count: usize,
+            updates_extents: *const u64,
+            updates_extents_count: usize,
+            updates_strides: *const i64,
+            updates_strides_count: usize,
+            dest_extents: *const u64,
+            dest_extents_count: usize,
+            dest_strides: *const i64,
+            dest_strides_count: usize,
+            update_window_dims: *const u64,
+            update_window_dims_count: usize,
+            inserted_window_dims: *const u64,
+            inserted_window_dims_count: usize,
+            scatter_dims_to_operand_dims: *const u64,
+            scatter_dims_to_operand_dims_count: usize,
+            index_vector_dim: u64,
+            index_view_extents: *const u64,
+            index_view_extents_count: usize,
+            index_view_strides: *const i64,
+            index_view_strides_count: usize,
+            index_offset: i64,
+            updates_view_extents: *const u64,
+            updates_view_extents_count: usize,
+            updates_view_strides: *const i64,
+            updates_view_strides_count: usize,
+            updates_offset: i64,
+            dest_view_extents: *const u64,
+            dest_view_extents_count: usize,
+            dest_view_strides: *const i64,
+            dest_view_strides_count: usize,
+            dest_offset: i64,
+            starts: *const i64,
+            starts_count: usize,
+            updates: *const i32,
+            updates_count: usize,
+            dest: *mut i32,
+            dest_count: usize,
+            answer: *mut [u64; 3],
+        );
+
+        fn strided_raw_scatter_f64(
+            index_extents: *const u64,
+            index_extents_count: usize,
+            index_strides: *const i64,
+            index_strides_count: usize,
+            updates_extents: *const u64,
+            updates_extents_count: usize,
+            updates_strides: *const i64,
+            updates_strides_count: usize,
+            dest_extents: *const u64,
+            dest_extents_count: usize,
+            dest_strides: *const i64,
+            dest_strides_count: usize,
+            update_window_dims: *const u64,
+            update_window_dims_count: usize,
+            inserted_window_dims: *const u64,
+            inserted_window_dims_count: usize,
+            scatter_dims_to_operand_dims: *const u64,
+            scatter_dims_to_operand_dims_count: usize,
+            index_vector_dim: u64,
+            index_view_extents: *const u64,
+            index_view_extents_count: usize,
+            index_view_strides: *const i64,
+            index_view_strides_count: usize,
+            index_offset: i64,
+            updates_view_extents: *const u64,
+            updates_view_extents_count: usize,
+            updates_view_strides: *const i64,
+            updates_view_strides_count: usize,
+            updates_offset: i64,
+            dest_view_extents: *const u64,
+            dest_view_extents_count: usize,
+            dest_view_strides: *const i64,
+            dest_view_strides_count: usize,
+            dest_offset: i64,
+            starts: *const i64,
+            starts_count: usize,
+            updates: *const f64,
+            updates_count: usize,
             dest: *mut f64,
             dest_count: usize,
             answer: *mut [u64; 3],
@@ -252,6 +341,71 @@ mod library {
         }};
     }
 
+    /// The call of one of the two scatters.
+    macro_rules! raw_scatter {
+        ($function:ident, $call:ident, $spec:ident, $source:expr, $dest:expr) => {{
+            let [index, updates, dest] = &$call.job.views;
+            let [a, b, c] = [0, 1, 2].map(|place| $call.call_layout(place));
+            let mut answer = [0; 3];
+            // SAFETY: as in `raw_gather`.
+            unsafe {
+                $function(
+                    index.layout.extents.as_ptr(),
+                    index.layout.extents.len(),
+                    index.layout.strides.as_ptr(),
+                    index.layout.strides.len(),
+                    updates.layout.extents.as_ptr(),
+                    updates.layout.extents.len(),
+                    updates.layout.strides.as_ptr(),
+                    updates.layout.strides.len(),
+                    dest.layout.extents.as_ptr(),
+                    dest.layout.extents.len(),
+                    dest.layout.strides.as_ptr(),
+                    dest.layout.strides.len(),
+                    $spec.update_window_dims.as_ptr(),
+                    $spec.update_window_dims.len(),
+                    $spec.inserted_window_dims.as_ptr(),
+                    $spec.inserted_window_dims.len(),
+                    $spec.scatter_dims_to_operand_dims.as_ptr(),
+                    $spec.scatter_dims_to_operand_dims.len(),
+                    $spec.index_vector_dim,
+                    a.extents.as_ptr(),
+                    a.extents.len(),
+                    a.strides.as_ptr(),
+                    a.strides.len(),
+                    index.offset,
+                    b.extents.as_ptr(),
+                    b.extents.len(),
+                    b.strides.as_ptr(),
+                    b.strides.len(),
+                    updates.offset,
+                    c.extents.as_ptr(),
+                    c.extents.len(),
+                    c.strides.as_ptr(),
+                    c.strides.len(),
+                    dest.offset,
+                    $call.index.as_ptr(),
+                    $call.index.len(),
+                    $source.as_ptr(),
+                    $source.len(),
+                    $dest.as_mut_ptr(),
+                    $dest.len(),
+                    &mut answer,
+                );
+            }
+            let [n, a, b] = answer;
+            Number::new(n, a, b)
+        }};
+    }
+
+    fn floats(bits: &[u64]) -> Vec<f64> {
+        bits.iter().map(|&x| f64::from_bits(x)).collect()
+    }
+
+    fn bits(floats: &[f64]) -> Data {
+        Data::F64(floats.iter().map(|x| x.to_bits()).collect())
+    }
+
     /// Compile and call: the number, and the destination as they leave it.
     pub fn gather(call: &Call, spec: &GatherSpec) -> Option<(Number, Data)> {
         match (&call.source, &call.dest) {
@@ -261,12 +415,25 @@ mod library {
                 Some((number, Data::I32(dest)))
             }
             (Data::F64(source), Data::F64(dest)) => {
-                let floats = |v: &[u64]| v.iter().map(|&x| f64::from_bits(x)).collect::<Vec<_>>();
-                let source = floats(source);
-                let mut dest = floats(dest);
+                let (source, mut dest) = (floats(source), floats(dest));
                 let number = raw_gather!(strided_raw_gather_f64, call, spec, source, dest);
-                let bits = dest.iter().map(|x| x.to_bits()).collect();
-                Some((number, Data::F64(bits)))
+                Some((number, bits(&dest)))
+            }
+            _ => None,
+        }
+    }
+
+    pub fn scatter(call: &Call, spec: &ScatterSpec) -> Option<(Number, Data)> {
+        match (&call.source, &call.dest) {
+            (Data::I32(source), Data::I32(dest)) => {
+                let mut dest = dest.clone();
+                let number = raw_scatter!(strided_raw_scatter_i32, call, spec, source, dest);
+                Some((number, Data::I32(dest)))
+            }
+            (Data::F64(source), Data::F64(dest)) => {
+                let (source, mut dest) = (floats(source), floats(dest));
+                let number = raw_scatter!(strided_raw_scatter_f64, call, spec, source, dest);
+                Some((number, bits(&dest)))
             }
             _ => None,
         }

@@ -6,6 +6,7 @@ mod contents;
 mod edges;
 mod faults;
 pub mod jobs;
+pub mod large;
 mod random;
 pub mod small;
 mod valid;

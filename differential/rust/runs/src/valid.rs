@@ -22,18 +22,18 @@ pub fn element(random: &mut Random) -> Element {
 }
 
 /// The axes of a window on a grid, and the batch that goes with them.
-struct Windowed {
-    extents: Vec<u64>,
-    windows: Vec<u64>,
+pub struct Windowed {
+    pub extents: Vec<u64>,
+    pub windows: Vec<u64>,
     /// Axes collapsed or inserted, in list order.
-    hidden: Vec<u64>,
-    map: Vec<u64>,
-    batch: Vec<u64>,
-    index_extents: Vec<u64>,
-    vector: u64,
+    pub hidden: Vec<u64>,
+    pub map: Vec<u64>,
+    pub batch: Vec<u64>,
+    pub index_extents: Vec<u64>,
+    pub vector: u64,
     /// Which axes of the destination or the updates show the window.
-    shown: Vec<u64>,
-    shape: Vec<u64>,
+    pub shown: Vec<u64>,
+    pub shape: Vec<u64>,
 }
 
 /// A rank: mostly small, now and then a large one.
@@ -93,9 +93,22 @@ fn windowed_of_any_size(random: &mut Random) -> Windowed {
     // Without a grid axis there is a vector axis, of no components.
     let batch_rank = few(random, (8 - kept.len()).min(7 + rank));
     let batch = self::extents(random, batch_rank, 16);
-    let scalar = rank > 0 && (batch_rank == 8 || random.percent(40));
+    with_batch(random, extents, windows, hidden, batch)
+}
+
+/// Windows with the batch that is shown beside them.
+pub fn with_batch(
+    random: &mut Random,
+    extents: Vec<u64>,
+    windows: Vec<u64>,
+    hidden: Vec<u64>,
+    batch: Vec<u64>,
+) -> Windowed {
+    let rank = extents.len();
+    let kept: Vec<u64> = (0..rank as u64).filter(|a| !hidden.contains(a)).collect();
+    let scalar = rank > 0 && (batch.len() == 8 || random.percent(40));
     let (map, index_extents, vector) = index(random, rank, &batch, scalar);
-    let mut shown = random.choose(kept.len() + batch_rank, kept.len());
+    let mut shown = random.choose(kept.len() + batch.len(), kept.len());
     if random.percent(40) {
         shown.sort();
     }
@@ -218,6 +231,10 @@ pub fn placed(random: &mut Random, extents: Vec<u64>, strides: Vec<i64>) -> (Vie
 
 pub fn gather(random: &mut Random) -> Call {
     let w = windowed(random);
+    gather_of(random, w)
+}
+
+pub fn gather_of(random: &mut Random, w: Windowed) -> Call {
     let element = element(random);
     let operand_strides = any_strides(random, &w.extents);
     let (mut operand, operand_len) = placed(random, w.extents, operand_strides);
@@ -281,6 +298,10 @@ pub fn scatter(random: &mut Random) -> Call {
     while w.batch.len() < 2 && random.percent(50) {
         w = windowed(random);
     }
+    scatter_of(random, w)
+}
+
+pub fn scatter_of(random: &mut Random, w: Windowed) -> Call {
     let element = element(random);
     let index_strides = any_strides(random, &w.index_extents);
     let (index, index_len) = placed(random, w.index_extents, index_strides);

@@ -1,7 +1,8 @@
-//! Prints cases: `generate COUNT SEED`, `generate small [long]`, or
-//! `generate jobs COUNT SEED`.
+//! Prints cases: `generate COUNT SEED`, `generate small [long]`,
+//! `generate large COUNT SEED`, or `generate jobs COUNT SEED`.
 
 use runs::jobs::Jobs;
+use runs::large::Large;
 use runs::small::{self, Size};
 use runs::Generator;
 use std::fmt::Display;
@@ -18,6 +19,10 @@ fn main() -> io::Result<()> {
             let calls = Generator::new(number(seed)).take(number(count) as usize);
             print(&format!("r{seed}."), calls, &mut output)?;
         }
+        ["large", count, seed] => {
+            let calls = Large::new(number(seed)).take(number(count) as usize);
+            print(&format!("l{seed}."), calls, &mut output)?;
+        }
         ["jobs", count, seed] => {
             let jobs = Jobs::new(number(seed)).take(number(count) as usize);
             print(&format!("j{seed}."), jobs, &mut output)?;
@@ -32,7 +37,7 @@ fn number(text: &str) -> u64 {
 }
 
 fn usage() -> ! {
-    eprintln!("usage: generate COUNT SEED | small [long] | jobs COUNT SEED");
+    eprintln!("usage: generate COUNT SEED | small [long] | large COUNT SEED | jobs COUNT SEED");
     std::process::exit(2);
 }
 
