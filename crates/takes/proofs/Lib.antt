@@ -2,3 +2,4 @@ pub mod Places
 pub mod Starts
 pub mod Cells
 pub mod Puts
+pub mod Ones

@@ -1,8 +1,10 @@
 -- Places by clamped starts. Definitions only.
+use mathlib.Core.Path.{_≡_}
 use mathlib.Core.List.{List}
 use Prim.Native.Nat.{ℕ, _-_, _<_, _≤_, _^_}
 use lib.ListN.{length, getD}
-use lib.IntN.{ℤ, pos, _+ℤ_, _*ℤ_}
+use lib.IntN.{ℤ, pos, natAbs, _+ℤ_, _*ℤ_}
+use lib.Signed.{_≤ℤ_}
 use Rattle.indexing.specs.Coordinates.{InSlice, elementAt}
 use Rattle.indexing.specs.Start.{clamp}
 use Rattle.indexing.specs.Axes.{sumOf}
@@ -52,3 +54,9 @@ pub record Clamped (starts : List ℤ) (t ts base stride other step : ℤ) (limi
   pub first : InSlice cn base
   pub clamped : (k : ℕ) → k < n → InSlice cn (clampedAt starts (line t ts) base stride limit k)
   pub plain : Line other step n pn
+
+-- one start for each of n cells, and inside a slice of cn elements the places that they give, where every step is 1
+pub record Ones (starts : List ℤ) (base limit : ℤ) (n cn : ℕ) : Type 0 where
+  pub low : pos 0 ≤ℤ limit
+  pub each : length starts ≡ n
+  pub clamped : (k : ℕ) → k < n → InSlice cn (clampedAt starts pos base (pos 1) (natAbs limit) k)

@@ -1,13 +1,15 @@
 // Runs whose places on one side are given by starts, each clamped: windows of one cell, whose start changes with each cell.
 ghost use mathlib.Core.Path.{_≡_};
 ghost use lib.Ieee.{nan};
-ghost use Prim.Native.Nat.{_-_, _^_};
-ghost use lib.IntN.{pos, _+ℤ_};
+ghost use Prim.Native.Nat.{_-_, _<_, _^_};
+ghost use lib.IntN.{pos, natAbs, _+ℤ_};
+ghost use lib.Signed.{_≤ℤ_};
 ghost use lib.ListN.{length};
+ghost use Rattle.indexing.specs.Start.{clamp};
 ghost use Rattle.indexing.specs.Loops.{inOrder};
 ghost use Rattle.runs.specs.Runs.{ruleI32, ruleF64, cellAt, line};
 ghost use Rattle.runs.specs.declared.Rule.the-variants as R;
-ghost use Rattle.takes.specs.Takes.{startAt, Starting, movedAt, Taking, Putting, clampedAt, Clamped};
+ghost use Rattle.takes.specs.Takes.{startAt, Starting, movedAt, Taking, Putting, clampedAt, Clamped, Ones};
 use layout::RAW_FUSED_RANK_LIMIT;
 
 // s, moved by the components of the start that is read at t: each is clamped, and times its stride.
@@ -69,8 +71,22 @@ pub fn take_cells(
     }
 }
 
+// x moved inside 0 .. limit.
+pub fn clamped(x: i64, limit: i64) -> i64
+    requires { ⌜ pos 0 ≤ℤ limit ⌝ }
+    ensures { λ r. ⌜ r ≡ clamp x (natAbs limit) 0 ⌝ }
+{
+    if x < 0 {
+        0
+    } else if limit < x {
+        limit
+    } else {
+        x
+    }
+}
+
 // n cells: the source's place by the start read at t by ts, clamped, times the stride; the destination's from d by ds.
-pub fn take_run(
+pub fn take_strided(
     src: &[i32],
     starts: &[i64],
     dst: &mut [i32],
@@ -98,6 +114,74 @@ pub fn take_run(
         dst[b] = src[a];
         i += 1;
     }
+}
+
+// A cell for each start: of the source where the start says, clamped; of the destination in order.
+pub fn take_ones(src: &[i32], starts: &[i64], dst: &mut [i32], base: i64, limit: i64)
+    requires { ⌜ Ones (now starts) base limit (length (now dst)) (length (now src)) ⌝ }
+    ensures { λ _. ⌜ now (dst .exit) ≡ inOrder (cellAt (pos 0) (ruleI32 R.Copy) (now (src .entry)) (clampedAt (now (starts .entry)) pos base (pos 1) (natAbs limit)) pos) (length (now (dst .entry))) (now (dst .entry)) ⌝ }
+{
+    let mut i: usize = 0;
+    while i < dst.len() {
+        let x = starts[i];
+        let y = clamped(x, limit);
+        let a = (base + y) as usize;
+        dst[i] = src[a];
+        i += 1;
+    }
+}
+
+// n cells whose every step is 1: on the parts of the starts and the destination that they are.
+pub fn take_row(
+    src: &[i32],
+    starts: &[i64],
+    dst: &mut [i32],
+    n: usize,
+    t: i64,
+    base: i64,
+    limit: u64,
+    d: i64,
+)
+    requires { ⌜ (0 < n) × Clamped (now starts) t (pos 1) base (pos 1) d (pos 1) limit n (length (now src)) (length (now dst)) ⌝ }
+    ensures { λ _. ⌜ now (dst .exit) ≡ inOrder (cellAt (pos 0) (ruleI32 R.Copy) (now (src .entry)) (clampedAt (now (starts .entry)) (line t (pos 1)) base (pos 1) limit) (line d (pos 1))) n (now (dst .entry)) ⌝ }
+{
+    let l = limit as i64;
+    let a = t as usize;
+    let b = d as usize;
+    let e = a + n;
+    let f = b + n;
+    take_ones(src, &starts[a..e], &mut dst[b..f], base, l);
+}
+
+// The same, with a way of its own for steps of 1.
+pub fn take_run(
+    src: &[i32],
+    starts: &[i64],
+    dst: &mut [i32],
+    n: usize,
+    t: i64,
+    ts: i64,
+    base: i64,
+    stride: i64,
+    limit: u64,
+    d: i64,
+    ds: i64,
+)
+    requires { ⌜ Clamped (now starts) t ts base stride d ds limit n (length (now src)) (length (now dst)) ⌝ }
+    ensures { λ _. ⌜ now (dst .exit) ≡ inOrder (cellAt (pos 0) (ruleI32 R.Copy) (now (src .entry)) (clampedAt (now (starts .entry)) (line t ts) base stride limit) (line d ds)) n (now (dst .entry)) ⌝ }
+{
+    if n == 0 {
+        return;
+    }
+    if ts == 1 {
+        if stride == 1 {
+            if ds == 1 {
+                take_row(src, starts, dst, n, t, base, limit, d);
+                return;
+            }
+        }
+    }
+    take_strided(src, starts, dst, n, t, ts, base, stride, limit, d, ds);
 }
 
 // n cells: the source's place from s by ss; the destination's is d, moved by the start read at t by ts. Each is added.
@@ -133,7 +217,7 @@ pub fn put_cells(
 }
 
 // n cells: the source's place from s by ss; the destination's by the start read at t by ts, clamped, times the stride. Each is added.
-pub fn put_run(
+pub fn put_strided(
     src: &[i32],
     starts: &[i64],
     dst: &mut [i32],
@@ -162,6 +246,75 @@ pub fn put_run(
         dst[b] = v;
         i += 1;
     }
+}
+
+// A cell for each start: of the source in order; of the destination where the start says, clamped. Each is added.
+pub fn put_ones(src: &[i32], starts: &[i64], dst: &mut [i32], base: i64, limit: i64)
+    requires { ⌜ Ones (now starts) base limit (length (now src)) (length (now dst)) ⌝ }
+    ensures { λ _. ⌜ now (dst .exit) ≡ inOrder (cellAt (pos 0) (ruleI32 R.Add) (now (src .entry)) pos (clampedAt (now (starts .entry)) pos base (pos 1) (natAbs limit))) (length (now (src .entry))) (now (dst .entry)) ⌝ }
+{
+    let mut i: usize = 0;
+    while i < src.len() {
+        let x = starts[i];
+        let y = clamped(x, limit);
+        let b = (base + y) as usize;
+        let v = integer::wrapping_add_i32(dst[b], src[i]);
+        dst[b] = v;
+        i += 1;
+    }
+}
+
+// n cells whose every step is 1: on the parts of the source and the starts that they are.
+pub fn put_row(
+    src: &[i32],
+    starts: &[i64],
+    dst: &mut [i32],
+    n: usize,
+    t: i64,
+    base: i64,
+    limit: u64,
+    s: i64,
+)
+    requires { ⌜ (0 < n) × Clamped (now starts) t (pos 1) base (pos 1) s (pos 1) limit n (length (now dst)) (length (now src)) ⌝ }
+    ensures { λ _. ⌜ now (dst .exit) ≡ inOrder (cellAt (pos 0) (ruleI32 R.Add) (now (src .entry)) (line s (pos 1)) (clampedAt (now (starts .entry)) (line t (pos 1)) base (pos 1) limit)) n (now (dst .entry)) ⌝ }
+{
+    let l = limit as i64;
+    let a = s as usize;
+    let b = t as usize;
+    let e = a + n;
+    let f = b + n;
+    put_ones(&src[a..e], &starts[b..f], dst, base, l);
+}
+
+// The same, with a way of its own for steps of 1.
+pub fn put_run(
+    src: &[i32],
+    starts: &[i64],
+    dst: &mut [i32],
+    n: usize,
+    t: i64,
+    ts: i64,
+    base: i64,
+    stride: i64,
+    limit: u64,
+    s: i64,
+    ss: i64,
+)
+    requires { ⌜ Clamped (now starts) t ts base stride s ss limit n (length (now dst)) (length (now src)) ⌝ }
+    ensures { λ _. ⌜ now (dst .exit) ≡ inOrder (cellAt (pos 0) (ruleI32 R.Add) (now (src .entry)) (line s ss) (clampedAt (now (starts .entry)) (line t ts) base stride limit)) n (now (dst .entry)) ⌝ }
+{
+    if n == 0 {
+        return;
+    }
+    if ts == 1 {
+        if stride == 1 {
+            if ss == 1 {
+                put_row(src, starts, dst, n, t, base, limit, s);
+                return;
+            }
+        }
+    }
+    put_strided(src, starts, dst, n, t, ts, base, stride, limit, s, ss);
 }
 
 // ---- the same of f64

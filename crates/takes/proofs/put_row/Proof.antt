@@ -1,0 +1,99 @@
+use Prim.Native.Nat.{ℕ, _+_, _*_, _-_, _<_, _^_}
+use native.Mathlib.Omega.{arith}
+use borrow.Author.Needs.{needs}
+use lib.ListN.{length}
+use lib.IntN.{pos, natAbs}
+use Rattle.runs.specs.Runs.{ruleI32}
+use Rattle.runs.specs.declared.Rule.the-variants as R
+use Rattle.runs.proofs.Place.{read}
+use Rattle.runs.proofs.Runs.{Part, part-of}
+use Rattle.takes.proofs.Ones.{part-place, ones-ask, part-put}
+use Rattle.takes.proofs.put_row.Statement.{statement}
+use Rattle.takes.proofs.put_row.Tie as tie
+
+starts-room : (a : tie.Start) → length (a .args .starts .now) * 8 < 2 ^ 63
+starts-room a = a .good .1 .0 .1
+
+src-room : (a : tie.Start) → length (a .args .src .now) * 4 < 2 ^ 63
+src-room a = a .good .0 .1
+
+starting : (a : tie.Start) → Part (a .args .t) (a .args .n) (length (a .args .starts .now))
+starting a = part-of _ _ _ (a .pre .1 .starting) (a .pre .0) (omega (arith, starts-room a))
+
+plain : (a : tie.Start) → Part (a .args .s) (a .args .n) (length (a .args .src .now))
+plain a = part-of _ _ _ (a .pre .1 .plain) (a .pre .0) (omega (arith, src-room a))
+
+cast-l : tie.Need-cast-l
+cast-l c = search needs
+
+cast-a : tie.Need-cast-a
+cast-a c = plain c .cast
+
+cast-b : tie.Need-cast-b
+cast-b c = starting c .cast
+
+add-e : tie.Need-add-e
+add-e c = omega (arith, plain c .room, src-room c)
+
+add-f : tie.Need-add-f
+add-f c = omega (arith, starting c .room, starts-room c)
+
+mul-put-ones : tie.Need-mul-put-ones
+mul-put-ones c = omega (arith, plain c .room, src-room c)
+
+sub-put-ones : tie.Need-sub-put-ones
+sub-put-ones c = search needs
+
+part-put-ones-start : tie.Need-part-put-ones-start
+part-put-ones-start c = search needs
+
+part-put-ones-end : tie.Need-part-put-ones-end
+part-put-ones-end c = plain c .room
+
+mul-put-ones-2 : tie.Need-mul-put-ones-2
+mul-put-ones-2 c = omega (arith, starting (c .before) .room, starts-room (c .before))
+
+sub-put-ones-2 : tie.Need-sub-put-ones-2
+sub-put-ones-2 c = search needs
+
+part-put-ones-start-2 : tie.Need-part-put-ones-start-2
+part-put-ones-start-2 c = search needs
+
+part-put-ones-end-2 : tie.Need-part-put-ones-end-2
+part-put-ones-end-2 c = starting (c .before) .room
+
+put-ones-requires : tie.Need-put-ones-requires
+put-ones-requires c κs = let a = c .before .before .before in
+    let x : ℕ = natAbs (read (a .args .t)) in
+    let y : ℕ = natAbs (read (a .args .s)) in
+    ones-ask (a .args .starts .now) _ _ _ _ _ _ _ (a .pre .1) (a .fits .base) x (x + a .args .n - x) (omega arith) (starting a .is) (a .args .src .now) y (y + a .args .n - y) (omega arith) (starting a .room) (plain a .room)
+
+same-length : tie.Need-same-length
+same-length c = search needs
+
+returns : tie.Need-returns
+returns c = let a = c .before .before .before .before .before in
+    let x : ℕ = natAbs (read (a .args .t)) in
+    let y : ℕ = natAbs (read (a .args .s)) in
+    part-put (pos 0) (ruleI32 R.Add) (a .args .src .now) (a .args .dst .now) _ _ _ (a .args .s) y (a .args .n) (y + a .args .n - y) (omega arith) (plain a .is) (plain a .room) (part-place (a .args .starts .now) _ _ _ _ _ _ _ (a .pre .1) (a .fits .base) x (x + a .args .n - x) (omega arith) (starting a .is)) (c .before .put-ones .ensures)
+
+pub put-row-spec : {M : Type 1} → statement M
+put-row-spec =
+    tie.close
+    (tie.spec
+    cast-l
+    cast-a
+    cast-b
+    add-e
+    add-f
+    mul-put-ones
+    sub-put-ones
+    part-put-ones-start
+    part-put-ones-end
+    mul-put-ones-2
+    sub-put-ones-2
+    part-put-ones-start-2
+    part-put-ones-end-2
+    put-ones-requires
+    same-length
+    returns)
