@@ -353,7 +353,7 @@ pub fn take_cells_f64(
 }
 
 // n cells: the source's place by the start read at t by ts, clamped, times the stride; the destination's from d by ds.
-pub fn take_run_f64(
+pub fn take_strided_f64(
     src: &[f64],
     starts: &[i64],
     dst: &mut [f64],
@@ -381,6 +381,74 @@ pub fn take_run_f64(
         dst[b] = src[a];
         i += 1;
     }
+}
+
+// A cell for each start: of the source where the start says, clamped; of the destination in order.
+pub fn take_ones_f64(src: &[f64], starts: &[i64], dst: &mut [f64], base: i64, limit: i64)
+    requires { ⌜ Ones (now starts) base limit (length (now dst)) (length (now src)) ⌝ }
+    ensures { λ _. ⌜ now (dst .exit) ≡ inOrder (cellAt nan (ruleF64 R.Copy) (now (src .entry)) (clampedAt (now (starts .entry)) pos base (pos 1) (natAbs limit)) pos) (length (now (dst .entry))) (now (dst .entry)) ⌝ }
+{
+    let mut i: usize = 0;
+    while i < dst.len() {
+        let x = starts[i];
+        let y = clamped(x, limit);
+        let a = (base + y) as usize;
+        dst[i] = src[a];
+        i += 1;
+    }
+}
+
+// n cells whose every step is 1: on the parts of the starts and the destination that they are.
+pub fn take_row_f64(
+    src: &[f64],
+    starts: &[i64],
+    dst: &mut [f64],
+    n: usize,
+    t: i64,
+    base: i64,
+    limit: u64,
+    d: i64,
+)
+    requires { ⌜ (0 < n) × Clamped (now starts) t (pos 1) base (pos 1) d (pos 1) limit n (length (now src)) (length (now dst)) ⌝ }
+    ensures { λ _. ⌜ now (dst .exit) ≡ inOrder (cellAt nan (ruleF64 R.Copy) (now (src .entry)) (clampedAt (now (starts .entry)) (line t (pos 1)) base (pos 1) limit) (line d (pos 1))) n (now (dst .entry)) ⌝ }
+{
+    let l = limit as i64;
+    let a = t as usize;
+    let b = d as usize;
+    let e = a + n;
+    let f = b + n;
+    take_ones_f64(src, &starts[a..e], &mut dst[b..f], base, l);
+}
+
+// The same, with a way of its own for steps of 1.
+pub fn take_run_f64(
+    src: &[f64],
+    starts: &[i64],
+    dst: &mut [f64],
+    n: usize,
+    t: i64,
+    ts: i64,
+    base: i64,
+    stride: i64,
+    limit: u64,
+    d: i64,
+    ds: i64,
+)
+    requires { ⌜ Clamped (now starts) t ts base stride d ds limit n (length (now src)) (length (now dst)) ⌝ }
+    ensures { λ _. ⌜ now (dst .exit) ≡ inOrder (cellAt nan (ruleF64 R.Copy) (now (src .entry)) (clampedAt (now (starts .entry)) (line t ts) base stride limit) (line d ds)) n (now (dst .entry)) ⌝ }
+{
+    if n == 0 {
+        return;
+    }
+    if ts == 1 {
+        if stride == 1 {
+            if ds == 1 {
+                take_row_f64(src, starts, dst, n, t, base, limit, d);
+                return;
+            }
+        }
+    }
+    take_strided_f64(src, starts, dst, n, t, ts, base, stride, limit, d, ds);
 }
 
 // n cells: the source's place from s by ss; the destination's is d, moved by the start read at t by ts. Each is added.
@@ -416,7 +484,7 @@ pub fn put_cells_f64(
 }
 
 // n cells: the source's place from s by ss; the destination's by the start read at t by ts, clamped, times the stride. Each is added.
-pub fn put_run_f64(
+pub fn put_strided_f64(
     src: &[f64],
     starts: &[i64],
     dst: &mut [f64],
@@ -445,4 +513,73 @@ pub fn put_run_f64(
         dst[b] = v;
         i += 1;
     }
+}
+
+// A cell for each start: of the source in order; of the destination where the start says, clamped. Each is added.
+pub fn put_ones_f64(src: &[f64], starts: &[i64], dst: &mut [f64], base: i64, limit: i64)
+    requires { ⌜ Ones (now starts) base limit (length (now src)) (length (now dst)) ⌝ }
+    ensures { λ _. ⌜ now (dst .exit) ≡ inOrder (cellAt nan (ruleF64 R.Add) (now (src .entry)) pos (clampedAt (now (starts .entry)) pos base (pos 1) (natAbs limit))) (length (now (src .entry))) (now (dst .entry)) ⌝ }
+{
+    let mut i: usize = 0;
+    while i < src.len() {
+        let x = starts[i];
+        let y = clamped(x, limit);
+        let b = (base + y) as usize;
+        let v = dst[b] + src[i];
+        dst[b] = v;
+        i += 1;
+    }
+}
+
+// n cells whose every step is 1: on the parts of the source and the starts that they are.
+pub fn put_row_f64(
+    src: &[f64],
+    starts: &[i64],
+    dst: &mut [f64],
+    n: usize,
+    t: i64,
+    base: i64,
+    limit: u64,
+    s: i64,
+)
+    requires { ⌜ (0 < n) × Clamped (now starts) t (pos 1) base (pos 1) s (pos 1) limit n (length (now dst)) (length (now src)) ⌝ }
+    ensures { λ _. ⌜ now (dst .exit) ≡ inOrder (cellAt nan (ruleF64 R.Add) (now (src .entry)) (line s (pos 1)) (clampedAt (now (starts .entry)) (line t (pos 1)) base (pos 1) limit)) n (now (dst .entry)) ⌝ }
+{
+    let l = limit as i64;
+    let a = s as usize;
+    let b = t as usize;
+    let e = a + n;
+    let f = b + n;
+    put_ones_f64(&src[a..e], &starts[b..f], dst, base, l);
+}
+
+// The same, with a way of its own for steps of 1.
+pub fn put_run_f64(
+    src: &[f64],
+    starts: &[i64],
+    dst: &mut [f64],
+    n: usize,
+    t: i64,
+    ts: i64,
+    base: i64,
+    stride: i64,
+    limit: u64,
+    s: i64,
+    ss: i64,
+)
+    requires { ⌜ Clamped (now starts) t ts base stride s ss limit n (length (now dst)) (length (now src)) ⌝ }
+    ensures { λ _. ⌜ now (dst .exit) ≡ inOrder (cellAt nan (ruleF64 R.Add) (now (src .entry)) (line s ss) (clampedAt (now (starts .entry)) (line t ts) base stride limit)) n (now (dst .entry)) ⌝ }
+{
+    if n == 0 {
+        return;
+    }
+    if ts == 1 {
+        if stride == 1 {
+            if ss == 1 {
+                put_row_f64(src, starts, dst, n, t, base, limit, s);
+                return;
+            }
+        }
+    }
+    put_strided_f64(src, starts, dst, n, t, ts, base, stride, limit, s, ss);
 }

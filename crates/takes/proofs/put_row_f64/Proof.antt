@@ -1,0 +1,100 @@
+use Prim.Native.Nat.{ℕ, _+_, _*_, _-_, _<_, _^_}
+use native.Mathlib.Omega.{arith}
+use borrow.Author.Needs.{needs}
+use lib.ListN.{length}
+use lib.Ieee.{nan}
+use lib.IntN.{natAbs}
+use Rattle.runs.specs.Runs.{ruleF64}
+use Rattle.runs.specs.declared.Rule.the-variants as R
+use Rattle.runs.proofs.Place.{read}
+use Rattle.runs.proofs.Runs.{Part, part-of}
+use Rattle.takes.proofs.Ones.{part-place, ones-ask, part-put}
+use Rattle.takes.proofs.put_row_f64.Statement.{statement}
+use Rattle.takes.proofs.put_row_f64.Tie as tie
+
+starts-room : (a : tie.Start) → length (a .args .starts .now) * 8 < 2 ^ 63
+starts-room a = a .good .1 .0 .1
+
+src-room : (a : tie.Start) → length (a .args .src .now) * 8 < 2 ^ 63
+src-room a = a .good .0 .1
+
+starting : (a : tie.Start) → Part (a .args .t) (a .args .n) (length (a .args .starts .now))
+starting a = part-of _ _ _ (a .pre .1 .starting) (a .pre .0) (omega (arith, starts-room a))
+
+plain : (a : tie.Start) → Part (a .args .s) (a .args .n) (length (a .args .src .now))
+plain a = part-of _ _ _ (a .pre .1 .plain) (a .pre .0) (omega (arith, src-room a))
+
+cast-l : tie.Need-cast-l
+cast-l c = search needs
+
+cast-a : tie.Need-cast-a
+cast-a c = plain (c .before .before) .cast
+
+cast-b : tie.Need-cast-b
+cast-b c = starting (c .before .before) .cast
+
+add-e : tie.Need-add-e
+add-e c = omega (arith, plain (c .before .before) .room, src-room (c .before .before))
+
+add-f : tie.Need-add-f
+add-f c = omega (arith, starting (c .before .before) .room, starts-room (c .before .before))
+
+mul-put-ones-f64 : tie.Need-mul-put-ones-f64
+mul-put-ones-f64 c = omega (arith, plain (c .before .before) .room, src-room (c .before .before))
+
+sub-put-ones-f64 : tie.Need-sub-put-ones-f64
+sub-put-ones-f64 c = search needs
+
+part-put-ones-f64-start : tie.Need-part-put-ones-f64-start
+part-put-ones-f64-start c = search needs
+
+part-put-ones-f64-end : tie.Need-part-put-ones-f64-end
+part-put-ones-f64-end c = plain (c .before .before) .room
+
+mul-put-ones-f64-2 : tie.Need-mul-put-ones-f64-2
+mul-put-ones-f64-2 c = omega (arith, starting (c .before .before .before) .room, starts-room (c .before .before .before))
+
+sub-put-ones-f64-2 : tie.Need-sub-put-ones-f64-2
+sub-put-ones-f64-2 c = search needs
+
+part-put-ones-f64-start-2 : tie.Need-part-put-ones-f64-start-2
+part-put-ones-f64-start-2 c = search needs
+
+part-put-ones-f64-end-2 : tie.Need-part-put-ones-f64-end-2
+part-put-ones-f64-end-2 c = starting (c .before .before .before) .room
+
+put-ones-f64-requires : tie.Need-put-ones-f64-requires
+put-ones-f64-requires c κs = let a = c .before .before .before .before .before in
+    let x : ℕ = natAbs (read (a .args .t)) in
+    let y : ℕ = natAbs (read (a .args .s)) in
+    ones-ask (a .args .starts .now) _ _ _ _ _ _ _ (a .pre .1) (a .fits .base) x (x + a .args .n - x) (omega arith) (starting a .is) (a .args .src .now) y (y + a .args .n - y) (omega arith) (starting a .room) (plain a .room)
+
+same-length : tie.Need-same-length
+same-length c = search needs
+
+returns : tie.Need-returns
+returns c = let a = c .before .before .before .before .before .before .before .before in
+    let x : ℕ = natAbs (read (a .args .t)) in
+    let y : ℕ = natAbs (read (a .args .s)) in
+    part-put nan (ruleF64 R.Add) (a .args .src .now) (a .args .dst .now) _ _ _ (a .args .s) y (a .args .n) (y + a .args .n - y) (omega arith) (plain a .is) (plain a .room) (part-place (a .args .starts .now) _ _ _ _ _ _ _ (a .pre .1) (a .fits .base) x (x + a .args .n - x) (omega arith) (starting a .is)) (c .before .before .put-ones-f64 .ensures)
+
+pub put-row-f64-spec : {M : Type 1} → statement M
+put-row-f64-spec =
+    tie.close
+    (tie.spec
+    cast-l
+    cast-a
+    cast-b
+    add-e
+    add-f
+    mul-put-ones-f64
+    sub-put-ones-f64
+    part-put-ones-f64-start
+    part-put-ones-f64-end
+    mul-put-ones-f64-2
+    sub-put-ones-f64-2
+    part-put-ones-f64-start-2
+    part-put-ones-f64-end-2
+    put-ones-f64-requires
+    same-length
+    returns)
