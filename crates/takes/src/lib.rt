@@ -153,7 +153,7 @@ pub fn take_row(
     take_ones(src, &starts[a..e], &mut dst[b..f], base, l);
 }
 
-// The same, with a way of its own for steps of 1.
+// n cells: by take_row where every step is 1, else by take_strided.
 pub fn take_run(
     src: &[i32],
     starts: &[i64],
@@ -286,7 +286,7 @@ pub fn put_row(
     put_ones(&src[a..e], &starts[b..f], dst, base, l);
 }
 
-// The same, with a way of its own for steps of 1.
+// n cells: by put_row where every step is 1, else by put_strided. Each is added.
 pub fn put_run(
     src: &[i32],
     starts: &[i64],
@@ -420,7 +420,7 @@ pub fn take_row_f64(
     take_ones_f64(src, &starts[a..e], &mut dst[b..f], base, l);
 }
 
-// The same, with a way of its own for steps of 1.
+// n cells: by take_row_f64 where every step is 1, else by take_strided_f64.
 pub fn take_run_f64(
     src: &[f64],
     starts: &[i64],
@@ -553,7 +553,7 @@ pub fn put_row_f64(
     put_ones_f64(&src[a..e], &starts[b..f], dst, base, l);
 }
 
-// The same, with a way of its own for steps of 1.
+// n cells: by put_row_f64 where every step is 1, else by put_strided_f64. Each is added.
 pub fn put_run_f64(
     src: &[f64],
     starts: &[i64],
