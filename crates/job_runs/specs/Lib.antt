@@ -1,0 +1,2 @@
+-- A stored job read, compiled and called.
+pub mod Runs
