@@ -12,7 +12,17 @@ ghost use Rattle.scatter_plan.specs.Plan.{compiledScatter};
 ghost use Rattle.strided.specs.Words.{words};
 ghost use Rattle.strided.specs.Calls.{layoutsAnswer, viewsFrom, Ran, HandedBack};
 ghost use Rattle.strided.specs.Scatters.{ScatterRan, ScatterHandedBack};
+ghost use mathlib.Core.List.{[]};
+ghost use Rattle.job.specs.declared.Kind.the-variants as K;
+ghost use Rattle.job.specs.declared.Element.the-variants as E;
+ghost use Rattle.job.specs.Jobs.{jobFrom};
+ghost use Rattle.job.specs.Format.{elementOf, jobAt};
+ghost use Rattle.job_reader.specs.Held.{readJob};
+ghost use Rattle.job_runs.specs.Runs.{openedGather, openedScatter, GatherRun, ScatterRun};
+ghost use Rattle.strided.specs.Stored.{Handed, Stored, StoredAs};
 use gather_plan::CompiledGather;
+use job::Element;
+use job::MadeJob;
 use layout::Answer;
 use layout::View;
 use scatter_plan::CompiledScatter;
@@ -515,4 +525,196 @@ pub extern "C" fn strided_raw_scatter_f64(
     );
     let r = run_scatter_f64(compiled, views, starts, updates, dest);
     *answer = words_of(r);
+}
+
+// ---- stored jobs
+
+// Whether the bytes store a job: zeros, or 10 with the place as a.
+#[no_mangle]
+pub extern "C" fn strided_read_job(bytes: &[u8], answer: &mut [u64; 3])
+    ensures { λ _. ⌜ now (answer .exit) ≡ words (readJob (jobAt (now (bytes .entry))) .answer) ⌝ }
+{
+    let r = job_reader::read_job(bytes);
+    let x = r.answer;
+    *answer = words_of(x);
+}
+
+// The element by the number that stands for it in a stored job: 1 is i32, any other f64.
+fn element_of(element: u64) -> Element
+    ensures { λ r. ⌜ r ≡ elementOf element ⌝ }
+{
+    if element == 1 {
+        Element::I32
+    } else {
+        Element::F64
+    }
+}
+
+// The refusal by which a job was not made, or what the writer answers.
+fn store(made: MadeJob, out: &mut [u8]) -> Answer
+    ensures { λ r. ⌜ Stored made (now (out .entry)) (now (out .exit)) r ⌝ }
+{
+    let a = made.answer;
+    if !layout::is_done(a) {
+        return a;
+    }
+    let job = made.job;
+    job_writer::write_job(job, out)
+}
+
+// Writes a gather as a stored job from the first byte on. The answer as number, a, b: 1, 2, 5 for a list that no job holds, 9 with
+// the bytes that are needed as b.
+#[no_mangle]
+pub extern "C" fn strided_write_gather_job(
+    element: u64,
+    operand_extents: &[u64],
+    operand_strides: &[i64],
+    operand_offset: i64,
+    index_extents: &[u64],
+    index_strides: &[i64],
+    index_offset: i64,
+    dest_extents: &[u64],
+    dest_strides: &[i64],
+    dest_offset: i64,
+    offset_dims: &[u64],
+    collapsed_slice_dims: &[u64],
+    start_index_map: &[u64],
+    index_vector_dim: u64,
+    slice_sizes: &[u64],
+    out: &mut [u8],
+    answer: &mut [u64; 3],
+)
+    ensures { λ _. ⌜ StoredAs (jobFrom K.Gather (elementOf element) (now («operand_extents» .entry)) (now («operand_strides» .entry)) «operand_offset» (now («index_extents» .entry)) (now («index_strides» .entry)) «index_offset» (now («dest_extents» .entry)) (now («dest_strides» .entry)) «dest_offset» (now («offset_dims» .entry)) (now («collapsed_slice_dims» .entry)) (now («start_index_map» .entry)) «index_vector_dim» (now («slice_sizes» .entry))) (now (out .entry)) (now (out .exit)) (now (answer .exit)) ⌝ }
+{
+    let e = element_of(element);
+    let made = job::make_gather_job(
+        e,
+        operand_extents,
+        operand_strides,
+        operand_offset,
+        index_extents,
+        index_strides,
+        index_offset,
+        dest_extents,
+        dest_strides,
+        dest_offset,
+        offset_dims,
+        collapsed_slice_dims,
+        start_index_map,
+        index_vector_dim,
+        slice_sizes,
+    );
+    let r = store(made, out);
+    *answer = words_of(r);
+}
+
+// Writes a scatter as a stored job from the first byte on. The answer as number, a, b.
+#[no_mangle]
+pub extern "C" fn strided_write_scatter_job(
+    element: u64,
+    index_extents: &[u64],
+    index_strides: &[i64],
+    index_offset: i64,
+    updates_extents: &[u64],
+    updates_strides: &[i64],
+    updates_offset: i64,
+    dest_extents: &[u64],
+    dest_strides: &[i64],
+    dest_offset: i64,
+    update_window_dims: &[u64],
+    inserted_window_dims: &[u64],
+    scatter_dims_to_operand_dims: &[u64],
+    index_vector_dim: u64,
+    out: &mut [u8],
+    answer: &mut [u64; 3],
+)
+    ensures { λ _. ⌜ StoredAs (jobFrom K.Scatter (elementOf element) (now («index_extents» .entry)) (now («index_strides» .entry)) «index_offset» (now («updates_extents» .entry)) (now («updates_strides» .entry)) «updates_offset» (now («dest_extents» .entry)) (now («dest_strides» .entry)) «dest_offset» (now («update_window_dims» .entry)) (now («inserted_window_dims» .entry)) (now («scatter_dims_to_operand_dims» .entry)) «index_vector_dim» []) (now (out .entry)) (now (out .exit)) (now (answer .exit)) ⌝ }
+{
+    let e = element_of(element);
+    let made = job::make_scatter_job(
+        e,
+        index_extents,
+        index_strides,
+        index_offset,
+        updates_extents,
+        updates_strides,
+        updates_offset,
+        dest_extents,
+        dest_strides,
+        dest_offset,
+        update_window_dims,
+        inserted_window_dims,
+        scatter_dims_to_operand_dims,
+        index_vector_dim,
+    );
+    let r = store(made, out);
+    *answer = words_of(r);
+}
+
+// A stored gather of i32, read, compiled and called. The answer as number, a, b: 10 5 0 and 10 6 0 also for a job that is no gather or
+// not of i32.
+#[no_mangle]
+pub extern "C" fn strided_gather_i32(
+    job: &[u8],
+    operand: &[i32],
+    starts: &[i64],
+    destination: &mut [i32],
+    answer: &mut [u64; 3],
+)
+    ensures { λ _. ⌜ Handed (GatherRun (pos 0) (openedGather E.I32 (now (job .entry))) (now (operand .entry)) (now (starts .entry)) (now (destination .entry)) (now (destination .exit))) (now (answer .exit)) ⌝ }
+{
+    let r = job_runs::run_gather_i32(job, operand, starts, destination);
+    let x = r.answer;
+    *answer = words_of(x);
+}
+
+// A stored gather of f64, read, compiled and called. The answer as number, a, b: 10 5 0 and 10 6 0 also for a job that is no gather or
+// not of f64.
+#[no_mangle]
+pub extern "C" fn strided_gather_f64(
+    job: &[u8],
+    operand: &[f64],
+    starts: &[i64],
+    destination: &mut [f64],
+    answer: &mut [u64; 3],
+)
+    ensures { λ _. ⌜ Handed (GatherRun nan (openedGather E.F64 (now (job .entry))) (now (operand .entry)) (now (starts .entry)) (now (destination .entry)) (now (destination .exit))) (now (answer .exit)) ⌝ }
+{
+    let r = job_runs::run_gather_f64(job, operand, starts, destination);
+    let x = r.answer;
+    *answer = words_of(x);
+}
+
+// A stored scatter of i32, read, compiled and called. The answer as number, a, b: 10 5 0 and 10 6 0 also for a job that is no scatter or
+// not of i32.
+#[no_mangle]
+pub extern "C" fn strided_scatter_i32(
+    job: &[u8],
+    starts: &[i64],
+    updates: &[i32],
+    destination: &mut [i32],
+    answer: &mut [u64; 3],
+)
+    ensures { λ _. ⌜ Handed (ScatterRun scatteredI32 (openedScatter E.I32 (now (job .entry))) (now (starts .entry)) (now (updates .entry)) (now (destination .entry)) (now (destination .exit))) (now (answer .exit)) ⌝ }
+{
+    let r = job_runs::run_scatter_i32(job, starts, updates, destination);
+    let x = r.answer;
+    *answer = words_of(x);
+}
+
+// A stored scatter of f64, read, compiled and called. The answer as number, a, b: 10 5 0 and 10 6 0 also for a job that is no scatter or
+// not of f64.
+#[no_mangle]
+pub extern "C" fn strided_scatter_f64(
+    job: &[u8],
+    starts: &[i64],
+    updates: &[f64],
+    destination: &mut [f64],
+    answer: &mut [u64; 3],
+)
+    ensures { λ _. ⌜ Handed (ScatterRun scatteredF64 (openedScatter E.F64 (now (job .entry))) (now (starts .entry)) (now (updates .entry)) (now (destination .entry)) (now (destination .exit))) (now (answer .exit)) ⌝ }
+{
+    let r = job_runs::run_scatter_f64(job, starts, updates, destination);
+    let x = r.answer;
+    *answer = words_of(x);
 }

@@ -1,0 +1,21 @@
+use mathlib.Core.Path.{ap, _∙_}
+use Rattle.job_reader.specs.declared.ReadJob.{ReadJob}
+use Rattle.strided.specs.Words.{words}
+use borrow.Author.Needs.{needs}
+use Rattle.strided.proofs.strided_read_job.Statement.{statement}
+use Rattle.strided.proofs.strided_read_job.Tie as tie
+
+-- src/lib.rt:341:9
+read-job-requires : tie.Need-read-job-requires
+read-job-requires c κs = search needs
+
+-- src/lib.rt:343:15
+words-of-requires : tie.Need-words-of-requires
+words-of-requires c κs = search needs
+
+-- src/lib.rt:337:1
+returns : tie.Need-returns
+returns c = c .words-of .ensures ∙ ap (λ (r : ReadJob). words (r .answer)) (c .before .read-job .ensures)
+
+pub strided-read-job-spec : {M : Type 1} → statement M
+strided-read-job-spec = tie.close (tie.spec read-job-requires words-of-requires returns)

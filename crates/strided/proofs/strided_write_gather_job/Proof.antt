@@ -1,0 +1,53 @@
+use mathlib.Core.Path.{ap, _∙_}
+use mir.Syntax.{w64}
+use mir.Val.{SFits}
+use Rattle.integer.specs.Z.{back}
+use Rattle.job.specs.declared.Kind.the-variants as K
+use Rattle.job.specs.declared.Element.{Element}
+use Rattle.job.specs.Jobs.{jobFrom}
+use Rattle.strided.proofs.Stored.{stored-as}
+use borrow.Author.Needs.{needs}
+use Rattle.strided.proofs.strided_write_gather_job.Statement.{statement}
+use Rattle.strided.proofs.strided_write_gather_job.Tie as tie
+
+offsets-fit : (a : tie.Start) → SFits w64 (a .args .operand-offset) × SFits w64 (a .args .index-offset) × SFits w64 (a .args .dest-offset)
+offsets-fit a = (search needs, search needs, search needs)
+
+-- src/lib.rt:393:9
+element-of-requires : tie.Need-element-of-requires
+element-of-requires c κs = search needs
+
+-- src/lib.rt:394:9
+make-gather-job-requires : tie.Need-make-gather-job-requires
+make-gather-job-requires c κs = search needs
+
+-- src/lib.rt:411:9
+store-requires : tie.Need-store-requires
+store-requires c κs = search needs
+
+-- src/lib.rt:412:15
+words-of-requires : tie.Need-words-of-requires
+words-of-requires c κs = search needs
+
+-- src/lib.rt:371:1
+same-length : tie.Need-same-length
+same-length c = search needs
+
+-- src/lib.rt:371:1
+returns : tie.Need-returns
+returns c =
+    let s = c .before .before .before .before .before .before .before .before .before .before .before .before .before .before .before in
+    let f = offsets-fit s in
+    let made = simp (back (f .0), back (f .1), back (f .2)) at (c .before .before .before .before .before .make-gather-job .ensures) in
+    stored-as (c .before .before .before .before .before .make-gather-job .result) _ (s .args .out .now) _ (c .before .before .before .store .result) (c .words-of .result) (made ∙ ap (λ (e : Element). jobFrom K.Gather e (s .args .operand-extents .now) (s .args .operand-strides .now) (s .args .operand-offset) (s .args .index-extents .now) (s .args .index-strides .now) (s .args .index-offset) (s .args .dest-extents .now) (s .args .dest-strides .now) (s .args .dest-offset) (s .args .offset-dims .now) (s .args .collapsed-slice-dims .now) (s .args .start-index-map .now) (s .args .index-vector-dim) (s .args .slice-sizes .now)) (c .before .before .before .before .before .before .element-of .ensures)) (c .before .before .before .store .ensures) (c .words-of .ensures)
+
+pub strided-write-gather-job-spec : {M : Type 1} → statement M
+strided-write-gather-job-spec =
+    tie.close
+    (tie.spec
+    element-of-requires
+    make-gather-job-requires
+    store-requires
+    words-of-requires
+    same-length
+    returns)

@@ -1,0 +1,38 @@
+-- Stored jobs as they are exported. Definitions only.
+use mathlib.Core.Path.{_≡_}
+use mathlib.Core.Bool.{cond}
+use mathlib.Core.List.{List, _++_}
+use Prim.Native.Nat.{ℕ}
+use lib.Dec.{leb}
+use lib.ListN.{length, drop}
+use Rattle.layout.specs.declared.Answer.{Answer}
+use Rattle.layout.specs.declared.Answer.the-variants as A
+use Rattle.layout.specs.Answers.{isDone, orElse}
+use Rattle.job.specs.declared.MadeJob.{MadeJob}
+use Rattle.job.specs.Format.{encoded}
+use Rattle.job_runs.specs.declared.RunAnswer.{RunAnswer}
+use Rattle.strided.specs.Words.{words}
+
+-- WHAT A STORED JOB'S RUN HANDS BACK: a run that is as `Does` says, and the three words of its answer
+pub record Handed (Does : RunAnswer → Type 0) (answer : List ℕ) : Type 0 where
+  pub ran : RunAnswer
+  pub does : Does ran
+  pub answered : answer ≡ words (ran .answer)
+
+-- the refusal by which a job was not made, then 9, given the bytes that are lent
+abbrev pub storedAnswer : MadeJob → ℕ → Answer
+storedAnswer m room = orElse (m .answer) (cond (leb (length (encoded (m .job))) room) A.Done (A.BufferBounds 0 (length (encoded (m .job)))))
+
+-- what the lent bytes then hold: the job's bytes in front, "bytes past a written job stay"; a refusal changes no byte
+abbrev pub storedLeft : MadeJob → List ℕ → List ℕ
+storedLeft m before = cond (isDone (storedAnswer m (length before))) (encoded (m .job) ++ drop (length (encoded (m .job))) before) before
+
+-- a job made and written, the answer not yet in words
+pub record Stored (m : MadeJob) (before after : List ℕ) (answer : Answer) : Type 0 where
+  pub answered : answer ≡ storedAnswer m (length before)
+  pub left : after ≡ storedLeft m before
+
+-- WHAT AN EXPORTED WRITER DOES: it hands back these three words and leaves this in the lent bytes
+pub record StoredAs (m : MadeJob) (before after : List ℕ) (answer : List ℕ) : Type 0 where
+  pub answered : answer ≡ words (storedAnswer m (length before))
+  pub left : after ≡ storedLeft m before
