@@ -1,13 +1,21 @@
 // The Rattle loops beside the same loops in unchecked Rust, on the same inputs, in turn. Prints ratios of medians: Rattle's
 // time over Rust's, once with raw pointers (as the Rattle code is compiled: nothing says that two slices are apart) and once
-// with slices and get_unchecked (where the compiler knows it).
+// with slices and get_unchecked (where the compiler knows it). bench/runs builds this several times and sums up.
 use std::hint::black_box;
 use std::time::Instant;
 
 type Axes = [u64; 8];
 type Strides = [i64; 8];
 
-#[link(name = "runs_c", kind = "static")]
+// Space before the loops, other in each build, so that they come to lie elsewhere. R: the linker keeps it though nothing
+// refers to it.
+std::arch::global_asm!(concat!(
+    ".pushsection .text.pad, \"axR\", @progbits\n.balign 64\n.skip ",
+    env!("RUNS_PAD", "bench/runs sets RUNS_PAD to a number of bytes"),
+    "\n.popsection"
+));
+
+// The archive of runs_c, which bench/runs links after space of its own.
 extern "C" {
     fn bench_run_i32(
         add: bool,
@@ -375,11 +383,11 @@ fn measure<T: Element, const ADD: bool>(
     let [mut a, mut b, mut c] = times;
     let rattle = median(&mut a);
     println!(
-        "| {name} | {} | {} | {}/{} | {:.2} | {:.2} |",
-        T::NAME,
-        if ADD { "add" } else { "copy" },
+        "{name}, {}/{}\t{} {}\t{:.4}\t{:.4}",
         steps[0],
         steps[1],
+        T::NAME,
+        if ADD { "add" } else { "copy" },
         rattle / median(&mut b),
         rattle / median(&mut c)
     );
@@ -394,10 +402,8 @@ fn main() {
     let rounds = std::env::var("BENCH_ROUNDS")
         .ok()
         .and_then(|v| v.parse().ok())
-        .unwrap_or(201);
-    println!("Rattle's time over Rust's, medians of {rounds} rounds");
-    println!("| shape | element | what | strides | raw pointers | slices |");
-    println!("|---|---|---|---|---|---|");
+        .filter(|n| *n > 0)
+        .expect("BENCH_ROUNDS is no number above 0");
     for n in [64, 1024, 16384] {
         for steps in [[1, 1], [2, 3]] {
             each::<i32>(&format!("run {n}"), true, &[n], steps, rounds);
