@@ -1,9 +1,9 @@
 //! The exported functions of the static library, and the answers that they
-//! give. This is the only file that knows their names and types. `None`
-//! stands for what the library does not export yet; under `cfg(library)` the
-//! archive is linked.
+//! give. This file knows their names and types, and `stored.rs` those of the
+//! functions for stored jobs. `None` stands for what the library does not
+//! export yet; under `cfg(library)` the archive is linked.
 
-use lines::{Answer, Call, Job};
+use lines::{Answer, Call};
 #[cfg(library)]
 use lines::{Number, Spec};
 
@@ -32,16 +32,6 @@ pub fn call(call: &Call) -> Option<Answer> {
 
 #[cfg(not(library))]
 pub fn call(_call: &Call) -> Option<Answer> {
-    None
-}
-
-/// The reader of a stored job: not exported.
-pub fn read(_bytes: &[u8]) -> Option<Answer> {
-    None
-}
-
-/// The writer of a stored job: not exported.
-pub fn write(_job: &Job, _room: u64) -> Option<Answer> {
     None
 }
 

@@ -1,7 +1,7 @@
 //! Prints cases: `generate COUNT SEED`, `generate small [long]`,
-//! `generate large COUNT SEED`, or `generate jobs COUNT SEED`.
+//! `generate large COUNT SEED`, `generate jobs COUNT SEED`, or `generate jobs small`.
 
-use runs::jobs::Jobs;
+use runs::jobs::{self, Jobs};
 use runs::large::Large;
 use runs::small::{self, Size};
 use runs::Generator;
@@ -15,6 +15,7 @@ fn main() -> io::Result<()> {
     match words[..] {
         ["small"] => print_small(Size::Short, &mut output)?,
         ["small", "long"] => print_small(Size::Long, &mut output)?,
+        ["jobs", "small"] => print("js", jobs::small(), &mut output)?,
         [count, seed] => {
             let calls = Generator::new(number(seed)).take(number(count) as usize);
             print(&format!("r{seed}."), calls, &mut output)?;
@@ -37,7 +38,7 @@ fn number(text: &str) -> u64 {
 }
 
 fn usage() -> ! {
-    eprintln!("usage: generate COUNT SEED | small [long] | large COUNT SEED | jobs COUNT SEED");
+    eprintln!("usage: generate COUNT SEED | small [long] | large COUNT SEED | jobs COUNT SEED | jobs small");
     std::process::exit(2);
 }
 
