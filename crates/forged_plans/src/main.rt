@@ -5,6 +5,8 @@ use gather_plan::GatherPlan;
 use layout::Answer;
 use layout::View;
 use plan_forging::Field;
+use plan_forging::tally;
+use plan_forging::tally::Tally;
 
 fn compile(window: u64) -> CompiledGather {
     gather_plan::compile(
@@ -58,27 +60,6 @@ fn call_on_scalars(plan: GatherPlan, into: &mut [i32]) -> Answer {
     call_on(plan, operand, index, dest, into)
 }
 
-// How many plans were tried, how many of them refused by 8, and how many calls changed the destination.
-struct Tally {
-    tried: u64,
-    refused: u64,
-    changed: u64,
-}
-
-fn one_if(holds: bool) -> u64 {
-    if holds { 1 } else { 0 }
-}
-
-fn with_call(t: Tally, answer: Answer, unchanged: bool) -> Tally {
-    let eight = one_if(layout::number(answer) == 8);
-    let changed = one_if(!unchanged);
-    Tally {
-        tried: std::num::wrapping_add_u64(t.tried, 1),
-        refused: std::num::wrapping_add_u64(t.refused, eight),
-        changed: std::num::wrapping_add_u64(t.changed, changed),
-    }
-}
-
 fn is_before(into: &[i32; 4]) -> bool {
     into[0] == 1 && into[1] == 2 && into[2] == 3 && into[3] == 4
 }
@@ -86,7 +67,7 @@ fn is_before(into: &[i32; 4]) -> bool {
 fn try_plan(plan: GatherPlan, t: Tally) -> Tally {
     let mut into = [1i32, 2, 3, 4];
     let answer = call(plan, &mut into);
-    with_call(t, answer, is_before(&into))
+    tally::with_call(t, answer, is_before(&into))
 }
 
 // The three changes of one number or role.
@@ -97,11 +78,7 @@ fn try_place(plan: GatherPlan, field: Field, i: usize, t: Tally) -> Tally {
 }
 
 fn try_places(plan: GatherPlan, field: Field, places: usize) -> Tally {
-    let mut t = Tally {
-        tried: 0,
-        refused: 0,
-        changed: 0,
-    };
+    let mut t = tally::none();
     let mut i: usize = 0;
     while i < places {
         t = try_place(plan, field, i, t);
@@ -110,26 +87,14 @@ fn try_places(plan: GatherPlan, field: Field, places: usize) -> Tally {
     t
 }
 
-fn put_with(text: &[u8], n: u64) {
-    printing::put(text);
-    printing::put_u64(n);
-}
-
-fn put_tally(t: Tally) {
-    put_with(b": tried ", t.tried);
-    put_with(b", refused by 8 ", t.refused);
-    put_with(b", destination changed ", t.changed);
-    printing::end_line();
-}
-
 fn number(plan: GatherPlan, name: &[u8], field: Field) {
     printing::put(name);
-    put_tally(try_places(plan, field, 1));
+    tally::put(try_places(plan, field, 1));
 }
 
 fn eight(plan: GatherPlan, name: &[u8], field: Field) {
     printing::put(name);
-    put_tally(try_places(plan, field, 8));
+    tally::put(try_places(plan, field, 8));
 }
 
 fn operand(plan: GatherPlan) {
@@ -211,36 +176,16 @@ fn walk(plan: GatherPlan) {
     component_strides(plan);
 }
 
-fn put_element(n: i32) {
-    printing::put(b" ");
-    printing::put_i64(n as i64);
-}
-
-fn put_elements(into: &[i32; 4]) {
-    put_element(into[0]);
-    put_element(into[1]);
-    put_element(into[2]);
-    put_element(into[3]);
-}
-
-fn put_called(name: &[u8], answer: Answer, into: &[i32; 4]) {
-    printing::put(name);
-    put_with(b": answer ", layout::number(answer));
-    printing::put(b", destination");
-    put_elements(into);
-    printing::end_line();
-}
-
 fn compiled_plan(plan: GatherPlan) {
     let mut into = [1i32, 2, 3, 4];
     let answer = call(plan, &mut into);
-    put_called(b"the compiled plan", answer, &into);
+    tally::put_called(b"the compiled plan", answer, &into);
 }
 
 // Windows of 6 are refused by 6.
 fn put_refusal(compiled: CompiledGather) {
     let answer = compiled.answer;
-    put_with(
+    tally::put_with(
         b"compile with windows of 6: answer ",
         layout::number(answer),
     );
@@ -250,13 +195,13 @@ fn put_refusal(compiled: CompiledGather) {
 fn refused_plan(plan: GatherPlan) {
     let mut into = [1i32, 2, 3, 4];
     let answer = call(plan, &mut into);
-    put_called(b"the plan that stands there", answer, &into);
+    tally::put_called(b"the plan that stands there", answer, &into);
 }
 
 fn refused_plan_on_scalars(plan: GatherPlan) {
     let mut into = [1i32, 2, 3, 4];
     let answer = call_on_scalars(plan, &mut into);
-    put_called(b"the same on views of its layouts", answer, &into);
+    tally::put_called(b"the same on views of its layouts", answer, &into);
 }
 
 fn refused() {

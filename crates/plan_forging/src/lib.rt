@@ -1,4 +1,6 @@
-// Plans of a gather with one field changed.
+// Plans of a gather with one field changed, and what the calls with changed plans come to.
+pub mod tally;
+
 use axis_lists::Numbers;
 use axis_lists::Steps;
 use gather_plan::Axis;
@@ -20,7 +22,7 @@ pub enum Field {
 }
 
 // One more, one less, or the highest bit changed.
-fn other_u64(n: u64, k: u64) -> u64 {
+pub fn other_u64(n: u64, k: u64) -> u64 {
     if k == 0 {
         std::num::wrapping_add_u64(n, 1)
     } else if k == 1 {
@@ -30,7 +32,7 @@ fn other_u64(n: u64, k: u64) -> u64 {
     }
 }
 
-fn other_usize(n: usize, k: u64) -> usize {
+pub fn other_usize(n: usize, k: u64) -> usize {
     if k == 0 {
         std::num::wrapping_add_usize(n, 1)
     } else if k == 1 {
@@ -49,7 +51,7 @@ fn one_less(n: i64) -> i64 {
 }
 
 // One more, one less, or every bit changed.
-fn other_i64(n: i64, k: u64) -> i64 {
+pub fn other_i64(n: i64, k: u64) -> i64 {
     if k == 0 {
         one_more(n)
     } else if k == 1 {
@@ -93,7 +95,7 @@ fn other_i64s(list: [i64; RAW_FUSED_RANK_LIMIT], i: usize, k: u64) -> [i64; RAW_
 
 // ---- layouts
 
-fn other_layout(l: Layout, part: u64, i: usize, k: u64) -> Layout {
+pub fn other_layout(l: Layout, part: u64, i: usize, k: u64) -> Layout {
     let extents = l.extents;
     let strides = l.strides;
     if part == 0 {
@@ -140,7 +142,7 @@ fn forged_layout(plan: GatherPlan, which: u64, part: u64, i: usize, k: u64) -> G
 
 // ---- lists
 
-fn other_numbers(list: Numbers, part: u64, i: usize, k: u64) -> Numbers {
+pub fn other_numbers(list: Numbers, part: u64, i: usize, k: u64) -> Numbers {
     let entries = list.entries;
     if part == 0 {
         let count = other_usize(list.count, k);
@@ -176,7 +178,7 @@ fn forged_numbers(plan: GatherPlan, which: u64, part: u64, i: usize, k: u64) -> 
     forged
 }
 
-fn other_steps(list: Steps, part: u64, i: usize, k: u64) -> Steps {
+pub fn other_steps(list: Steps, part: u64, i: usize, k: u64) -> Steps {
     let entries = list.entries;
     if part == 0 {
         let count = other_usize(list.count, k);
@@ -207,7 +209,7 @@ fn forged_steps(plan: GatherPlan, which: u64, part: u64, i: usize, k: u64) -> Ga
 // ---- axes
 
 // Number `at` of an axis changed, from 1 on; the number itself where another is meant.
-fn other_if(n: i64, at: u64, part: u64, k: u64) -> i64 {
+pub fn other_if(n: i64, at: u64, part: u64, k: u64) -> i64 {
     if at == part { other_i64(n, k) } else { n }
 }
 

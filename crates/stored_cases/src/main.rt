@@ -1,66 +1,16 @@
 // Replays the stored cases (data/README.md says what they are and how they were made) through the crates, and prints how
-// many of the stored answers came out again. A case is read as a whole, also what no call uses yet.
+// many of the stored answers came out again.
 mod report;
 
-use layout::Answer;
 use stored_reader::file;
 use stored_reader::packed;
-use stored_reader::packed::list;
-use stored_reader::packed::signed_list;
-use stored_reader::packed::word_at;
-use stored_reader::verdicts;
-
-fn answer_scatter(head: &[u8], words: &[u64], numbers: &[i64]) -> Answer {
-    scatter_checks::scatter_refusal(
-        list(words, head, 0),
-        signed_list(numbers, head, 1),
-        list(words, head, 2),
-        signed_list(numbers, head, 3),
-        list(words, head, 4),
-        signed_list(numbers, head, 5),
-        list(words, head, 6),
-        list(words, head, 7),
-        list(words, head, 8),
-        word_at(words, packed::VECTOR_AXIS),
-        true,
-    )
-}
-
-// Whether the library has all the checks that give this refusal of a scatter: those of compile, 1 to 7.
-fn is_whole(number: u64) -> bool {
-    1 <= number && number <= 7
-}
-
-// Where no check of the library refuses, the rest of the call is not reached.
-fn judge_passed(number: u64) -> usize {
-    if is_whole(number) {
-        verdicts::DIFFERENT
-    } else {
-        verdicts::NOT_REACHED
-    }
-}
-
-// A refusal leaves the destination as it was.
-fn judge_refused(answer: Answer, head: &[u8], words: &[u64]) -> usize {
-    let before = list(words, head, packed::DEST);
-    let after = list(words, head, packed::DEST_AFTER);
-    verdicts::judge(answer, packed::same(before, after), head, words)
-}
-
-fn judge(answer: Answer, head: &[u8], words: &[u64]) -> usize {
-    if layout::is_done(answer) {
-        judge_passed(packed::number(head))
-    } else {
-        judge_refused(answer, head, words)
-    }
-}
 
 // What comes of a case.
 fn verdict(head: &[u8], words: &[u64], numbers: &[i64]) -> usize {
     if packed::is_gather(head) {
         stored_gathers::verdict(head, words, numbers)
     } else {
-        judge(answer_scatter(head, words, numbers), head, words)
+        stored_scatters::verdict(head, words, numbers)
     }
 }
 
@@ -131,7 +81,7 @@ fn replay(fd: i32, cases: u64, counts: &mut [u64]) -> bool {
 
 // Replays the cases of the file, opened once more.
 fn replay_all(cases: u64) {
-    let mut counts = [0u64; 52];
+    let mut counts = [0u64; 39];
     let fd = file::open_at_cases();
     if replay(fd, cases, &mut counts) {
         if file::is_ended(fd) {

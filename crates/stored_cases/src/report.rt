@@ -3,7 +3,6 @@
 use stored_reader::packed;
 use stored_reader::verdicts::DIFFERENT;
 use stored_reader::verdicts::EQUAL;
-use stored_reader::verdicts::NOT_REACHED;
 use stored_reader::verdicts::TOO_LARGE;
 
 pub fn put(text: &[u8]) {
@@ -26,7 +25,7 @@ const GATHERS: u64 = 11;
 const SCATTERS: u64 = 12;
 
 fn place(verdict: usize, column: u64) -> usize {
-    if verdict < 4 {
+    if verdict < 3 {
         if column < 13 {
             return verdict * 13 + column as usize;
         }
@@ -73,7 +72,7 @@ fn total(counts: &[u64], verdict: usize) -> u64 {
 fn put_column(counts: &[u64], column: u64) {
     put_with(b": equal ", at(counts, EQUAL, column));
     put_with(b", different ", at(counts, DIFFERENT, column));
-    line(b", not reached ", at(counts, NOT_REACHED, column));
+    line(b", too large ", at(counts, TOO_LARGE, column));
 }
 
 fn put_kinds(counts: &[u64]) {
@@ -96,33 +95,21 @@ fn put_rows(counts: &[u64]) {
     }
 }
 
-fn put_answered(answered: u64, equal: u64, different: u64) {
-    line(b"answered: ", answered);
-    line(b"equal: ", equal);
-    line(b"different: ", different);
-}
-
-fn put_others(not_reached: u64, too_large: u64) {
-    line(b"not reached by the library yet: ", not_reached);
-    line(b"too large: ", too_large);
-}
-
-fn put_totals(equal: u64, different: u64, not_reached: u64, too_large: u64) {
+fn put_totals(equal: u64, different: u64, too_large: u64) {
     let answered = std::num::wrapping_add_u64(equal, different);
-    let others = std::num::wrapping_add_u64(not_reached, too_large);
     line(
         b"stored cases: ",
-        std::num::wrapping_add_u64(answered, others),
+        std::num::wrapping_add_u64(answered, too_large),
     );
-    put_answered(answered, equal, different);
-    put_others(not_reached, too_large);
+    line(b"equal: ", equal);
+    line(b"different: ", different);
+    line(b"too large: ", too_large);
 }
 
 pub fn summary(counts: &[u64]) {
     put_totals(
         total(counts, EQUAL),
         total(counts, DIFFERENT),
-        total(counts, NOT_REACHED),
         total(counts, TOO_LARGE),
     );
     put_kinds(counts);

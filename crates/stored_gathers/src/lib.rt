@@ -2,13 +2,12 @@
 use gather_plan::CompiledGather;
 use gather_plan::GatherPlan;
 use layout::Answer;
-use layout::MadeLayout;
-use layout::View;
 use stored_reader::elements;
 use stored_reader::packed;
 use stored_reader::packed::list;
 use stored_reader::packed::signed_list;
 use stored_reader::verdicts;
+use stored_reader::views;
 
 fn compile(head: &[u8], words: &[u64], numbers: &[i64]) -> CompiledGather {
     gather_plan::compile(
@@ -27,39 +26,6 @@ fn compile(head: &[u8], words: &[u64], numbers: &[i64]) -> CompiledGather {
     )
 }
 
-// The layout of a view of the call.
-fn call_layout(head: &[u8], words: &[u64], numbers: &[i64], view: usize) -> MadeLayout {
-    let extents = packed::call_extents(head, view);
-    let strides = extents + 1;
-    layout::make_layout(
-        list(words, head, extents),
-        signed_list(numbers, head, strides),
-    )
-}
-
-// A view of the call; where its layout is none, it is not asked for.
-fn call_view(head: &[u8], words: &[u64], numbers: &[i64], view: usize) -> View {
-    let made = call_layout(head, words, numbers, view);
-    let layout = made.layout;
-    View {
-        layout,
-        offset: packed::number_at(numbers, view),
-    }
-}
-
-fn is_layout(head: &[u8], words: &[u64], numbers: &[i64], view: usize) -> bool {
-    let made = call_layout(head, words, numbers, view);
-    let answer = made.answer;
-    layout::is_done(answer)
-}
-
-// A call's layout of unequal lengths, or of a rank above 8, is no plan's: 8.
-fn are_layouts(head: &[u8], words: &[u64], numbers: &[i64]) -> bool {
-    is_layout(head, words, numbers, 0)
-        && is_layout(head, words, numbers, 1)
-        && is_layout(head, words, numbers, 2)
-}
-
 fn run_i32(
     plan: GatherPlan,
     head: &[u8],
@@ -68,9 +34,9 @@ fn run_i32(
     source: &[i32],
     into: &mut [i32],
 ) -> Answer {
-    let operand = call_view(head, words, numbers, 0);
-    let index = call_view(head, words, numbers, 1);
-    let dest = call_view(head, words, numbers, 2);
+    let operand = views::call_view(head, words, numbers, 0);
+    let index = views::call_view(head, words, numbers, 1);
+    let dest = views::call_view(head, words, numbers, 2);
     let starts = signed_list(numbers, head, packed::STARTS);
     gather::gather_i32(plan, operand, index, dest, source, starts, into)
 }
@@ -88,7 +54,7 @@ fn call_i32(
     if !layout::is_done(refused) {
         return refused;
     }
-    if !are_layouts(head, words, numbers) {
+    if !views::are_layouts(head, words, numbers) {
         return Answer::PlanLayoutMismatch;
     }
     run_i32(plan, head, words, numbers, source, into)
@@ -102,9 +68,9 @@ fn run_f64(
     source: &[f64],
     into: &mut [f64],
 ) -> Answer {
-    let operand = call_view(head, words, numbers, 0);
-    let index = call_view(head, words, numbers, 1);
-    let dest = call_view(head, words, numbers, 2);
+    let operand = views::call_view(head, words, numbers, 0);
+    let index = views::call_view(head, words, numbers, 1);
+    let dest = views::call_view(head, words, numbers, 2);
     let starts = signed_list(numbers, head, packed::STARTS);
     gather::gather_f64(plan, operand, index, dest, source, starts, into)
 }
@@ -122,7 +88,7 @@ fn call_f64(
     if !layout::is_done(refused) {
         return refused;
     }
-    if !are_layouts(head, words, numbers) {
+    if !views::are_layouts(head, words, numbers) {
         return Answer::PlanLayoutMismatch;
     }
     run_f64(plan, head, words, numbers, source, into)

@@ -105,10 +105,15 @@ pub fn number_at(numbers: &[i64], i: usize) -> i64 {
 
 // ---- the lists
 
-// Places of lists: a gather's operand and starts, the destination's contents before and after the call.
+// Places of lists: a gather's operand and starts, a scatter's starts and updates, the destination's contents before and
+// after the call.
 pub const OPERAND: usize = 16;
 
 pub const STARTS: usize = 17;
+
+pub const SCATTER_STARTS: usize = 16;
+
+pub const UPDATES: usize = 17;
 
 pub const DEST: usize = 18;
 
@@ -178,20 +183,6 @@ pub fn call_extents(head: &[u8], view: usize) -> usize
     }
 }
 
-pub fn same(a: &[u64], b: &[u64]) -> bool {
-    if a.len() != b.len() {
-        return false;
-    }
-    let mut i: usize = 0;
-    while i < a.len() {
-        if a[i] != b[i] {
-            return false;
-        }
-        i += 1;
-    }
-    true
-}
-
 // ---- whether it is a case
 
 fn is_head(head: &[u8]) -> bool {
@@ -233,7 +224,7 @@ fn are_elements(head: &[u8], numbers: &[i64]) -> bool {
     if is_f64(head) {
         return true;
     }
-    let source = if is_gather(head) { 16 } else { 17 };
+    let source = if is_gather(head) { OPERAND } else { UPDATES };
     are_i32(signed_list(numbers, head, source))
         && are_i32(signed_list(numbers, head, DEST))
         && are_i32(signed_list(numbers, head, DEST_AFTER))

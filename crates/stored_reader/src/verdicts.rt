@@ -6,10 +6,8 @@ pub const EQUAL: usize = 0;
 
 pub const DIFFERENT: usize = 1;
 
-pub const NOT_REACHED: usize = 2;
-
 // Larger than the arrays that its slices are copied to.
-pub const TOO_LARGE: usize = 3;
+pub const TOO_LARGE: usize = 2;
 
 // Whether this is the stored answer.
 fn is_stored(answer: Answer, head: &[u8], words: &[u64]) -> bool {

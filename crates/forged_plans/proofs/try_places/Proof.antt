@@ -5,12 +5,16 @@ use Rattle.forged_plans.proofs.try_places.Tie as tie
 use Rattle.forged_plans.proofs.try_places.Reads as reads
 use Rattle.forged_plans.proofs.try_places.Lts as lts
 use Rattle.forged_plans.proofs.try_place.Reads as try-place-reads
+use Rattle.plan_forging.proofs.tally.none.Reads as none-reads
 
 abbrev Inv-loop : tie.InvT-loop
 Inv-loop plan field places t₀ i₀ t i = Unit {0}
 
 abbrev μ-loop : tie.MeasureT-loop
 μ-loop plan field places t₀ i₀ t i = places - i
+
+none-requires : tie.Need-none-requires Inv-loop μ-loop
+none-requires c κs = tt
 
 loop-holds : tie.Need-loop-holds Inv-loop μ-loop
 loop-holds c = tt
@@ -33,4 +37,13 @@ returns c = tt
 pub try-places-spec : {M : Type 1} → statement M
 try-places-spec =
     tie.close
-    (tie.spec Inv-loop μ-loop loop-holds try-place-requires add-i loop-less loop-again returns)
+    (tie.spec
+    Inv-loop
+    μ-loop
+    none-requires
+    loop-holds
+    try-place-requires
+    add-i
+    loop-less
+    loop-again
+    returns)

@@ -1,0 +1,64 @@
+// How many changed plans were tried, how many of them refused by 8, and how many calls changed the destination.
+use layout::Answer;
+
+pub struct Tally {
+    pub tried: u64,
+    pub refused: u64,
+    pub changed: u64,
+}
+
+pub fn none() -> Tally {
+    Tally {
+        tried: 0,
+        refused: 0,
+        changed: 0,
+    }
+}
+
+fn one_if(holds: bool) -> u64 {
+    if holds { 1 } else { 0 }
+}
+
+pub fn with_call(t: Tally, answer: Answer, unchanged: bool) -> Tally {
+    let eight = one_if(layout::number(answer) == 8);
+    let changed = one_if(!unchanged);
+    Tally {
+        tried: std::num::wrapping_add_u64(t.tried, 1),
+        refused: std::num::wrapping_add_u64(t.refused, eight),
+        changed: std::num::wrapping_add_u64(t.changed, changed),
+    }
+}
+
+pub fn put_with(text: &[u8], n: u64) {
+    printing::put(text);
+    printing::put_u64(n);
+}
+
+pub fn put(t: Tally) {
+    put_with(b": tried ", t.tried);
+    put_with(b", refused by 8 ", t.refused);
+    put_with(b", destination changed ", t.changed);
+    printing::end_line();
+}
+
+fn put_element(n: i32) {
+    printing::put(b" ");
+    printing::put_i64(n as i64);
+}
+
+fn put_elements(into: &[i32]) {
+    let mut i: usize = 0;
+    while i < into.len() {
+        put_element(into[i]);
+        i += 1;
+    }
+}
+
+// A call's answer, and what it left.
+pub fn put_called(name: &[u8], answer: Answer, into: &[i32]) {
+    printing::put(name);
+    put_with(b": answer ", layout::number(answer));
+    printing::put(b", destination");
+    put_elements(into);
+    printing::end_line();
+}

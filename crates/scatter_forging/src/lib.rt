@@ -1,0 +1,222 @@
+// Plans of a scatter with one field changed, and rows of a walk with one number changed.
+use layout::RAW_FUSED_RANK_LIMIT;
+use plan_forging::other_i64;
+use plan_forging::other_if;
+use plan_forging::other_u64;
+use plan_forging::other_usize;
+use replay::ReplaySpans;
+use replay::WindowReplay;
+use replay::WindowReplayAxis;
+use scatter_plan::ScatterPlan;
+
+// A field of a plan. A layout's are 0 for the rank, 1 for the extents, 2 for the strides; a list's are 0 for the count and 1
+// for the entries; a walk's are 0 for the rank, 1 to 5 for the five numbers of its axes, 6 for its four spans. Before that
+// stands which layout, list, walk or count it is, in declared order.
+pub enum Field {
+    Layout(u64, u64),
+    Numbers(u64, u64),
+    VectorAxis,
+    Walk(u64, u64),
+    Steps(u64, u64),
+    Count(u64),
+}
+
+fn forged_layout(plan: ScatterPlan, which: u64, part: u64, i: usize, k: u64) -> ScatterPlan {
+    let mut forged = plan;
+    if which == 0 {
+        let l = plan.index;
+        let m = plan_forging::other_layout(l, part, i, k);
+        forged.index = m;
+    } else if which == 1 {
+        let l = plan.updates;
+        let m = plan_forging::other_layout(l, part, i, k);
+        forged.updates = m;
+    } else {
+        let l = plan.dest;
+        let m = plan_forging::other_layout(l, part, i, k);
+        forged.dest = m;
+    }
+    forged
+}
+
+fn forged_numbers(plan: ScatterPlan, which: u64, part: u64, i: usize, k: u64) -> ScatterPlan {
+    let mut forged = plan;
+    if which == 0 {
+        let l = plan.update_window_dims;
+        let m = plan_forging::other_numbers(l, part, i, k);
+        forged.update_window_dims = m;
+    } else if which == 1 {
+        let l = plan.inserted_window_dims;
+        let m = plan_forging::other_numbers(l, part, i, k);
+        forged.inserted_window_dims = m;
+    } else if which == 2 {
+        let l = plan.scatter_dims_to_operand_dims;
+        let m = plan_forging::other_numbers(l, part, i, k);
+        forged.scatter_dims_to_operand_dims = m;
+    } else {
+        let l = plan.windows;
+        let m = plan_forging::other_numbers(l, part, i, k);
+        forged.windows = m;
+    }
+    forged
+}
+
+fn forged_steps(plan: ScatterPlan, which: u64, part: u64, i: usize, k: u64) -> ScatterPlan {
+    let mut forged = plan;
+    if which == 0 {
+        let l = plan.component_offsets;
+        let m = plan_forging::other_steps(l, part, i, k);
+        forged.component_offsets = m;
+    } else {
+        let l = plan.component_strides;
+        let m = plan_forging::other_steps(l, part, i, k);
+        forged.component_strides = m;
+    }
+    forged
+}
+
+// ---- walks
+
+fn extent_if(extent: u64, part: u64, k: u64) -> u64 {
+    if part == 1 {
+        other_u64(extent, k)
+    } else {
+        extent
+    }
+}
+
+fn other_axis(axis: WindowReplayAxis, part: u64, k: u64) -> WindowReplayAxis {
+    let extent = extent_if(axis.extent, part, k);
+    let a = other_if(axis.source_step, 2, part, k);
+    let b = other_if(axis.source_reset, 3, part, k);
+    let c = other_if(axis.dest_step, 4, part, k);
+    let d = other_if(axis.dest_reset, 5, part, k);
+    WindowReplayAxis {
+        extent,
+        source_step: a,
+        source_reset: b,
+        dest_step: c,
+        dest_reset: d,
+    }
+}
+
+fn other_axes(
+    axes: [WindowReplayAxis; RAW_FUSED_RANK_LIMIT],
+    part: u64,
+    i: usize,
+    k: u64,
+) -> [WindowReplayAxis; RAW_FUSED_RANK_LIMIT] {
+    let mut out = axes;
+    if i < RAW_FUSED_RANK_LIMIT {
+        let axis = axes[i];
+        out[i] = other_axis(axis, part, k);
+    }
+    out
+}
+
+fn other_spans(spans: ReplaySpans, i: usize, k: u64) -> ReplaySpans {
+    let at = i as u64;
+    let a = other_if(spans.source_low, 0, at, k);
+    let b = other_if(spans.source_high, 1, at, k);
+    let c = other_if(spans.dest_low, 2, at, k);
+    let d = other_if(spans.dest_high, 3, at, k);
+    ReplaySpans {
+        source_low: a,
+        source_high: b,
+        dest_low: c,
+        dest_high: d,
+    }
+}
+
+fn other_walk(walk: WindowReplay, part: u64, i: usize, k: u64) -> WindowReplay {
+    let axes = walk.axes;
+    let spans = walk.spans;
+    if part == 0 {
+        let rank = other_usize(walk.rank, k);
+        WindowReplay { rank, axes, spans }
+    } else if part == 6 {
+        let s = other_spans(spans, i, k);
+        WindowReplay {
+            rank: walk.rank,
+            axes,
+            spans: s,
+        }
+    } else {
+        let a = other_axes(axes, part, i, k);
+        WindowReplay {
+            rank: walk.rank,
+            axes: a,
+            spans,
+        }
+    }
+}
+
+fn forged_walk(plan: ScatterPlan, which: u64, part: u64, i: usize, k: u64) -> ScatterPlan {
+    let mut forged = plan;
+    if which == 0 {
+        let w = plan.batch;
+        let x = other_walk(w, part, i, k);
+        forged.batch = x;
+    } else {
+        let w = plan.window;
+        let x = other_walk(w, part, i, k);
+        forged.window = x;
+    }
+    forged
+}
+
+// ---- any field
+
+fn forged_vector_axis(plan: ScatterPlan, k: u64) -> ScatterPlan {
+    let mut forged = plan;
+    forged.index_vector_dim = other_u64(plan.index_vector_dim, k);
+    forged
+}
+
+fn forged_count(plan: ScatterPlan, which: u64, k: u64) -> ScatterPlan {
+    let mut forged = plan;
+    if which == 0 {
+        forged.batches = other_u64(plan.batches, k);
+    } else {
+        forged.cells = other_u64(plan.cells, k);
+    }
+    forged
+}
+
+// The plan with number i of a field changed, in the way k of three; each way changes it.
+pub fn forged(plan: ScatterPlan, field: Field, i: usize, k: u64) -> ScatterPlan {
+    match field {
+        Field::Layout(which, part) => forged_layout(plan, which, part, i, k),
+        Field::Numbers(which, part) => forged_numbers(plan, which, part, i, k),
+        Field::VectorAxis => forged_vector_axis(plan, k),
+        Field::Walk(which, part) => forged_walk(plan, which, part, i, k),
+        Field::Steps(which, part) => forged_steps(plan, which, part, i, k),
+        Field::Count(which) => forged_count(plan, which, k),
+    }
+}
+
+// ---- rows
+
+fn other_row(row: [i64; 4], i: usize, k: u64) -> [i64; 4] {
+    let mut out = row;
+    if i < 4 {
+        let n = row[i];
+        out[i] = other_i64(n, k);
+    }
+    out
+}
+
+// The rows with number i of their 32 changed, counted row by row, in the way k of three.
+pub fn forged_rows(
+    rows: [[i64; 4]; RAW_FUSED_RANK_LIMIT],
+    i: usize,
+    k: u64,
+) -> [[i64; 4]; RAW_FUSED_RANK_LIMIT] {
+    let mut out = rows;
+    let at = i / 4;
+    if at < RAW_FUSED_RANK_LIMIT {
+        let row = rows[at];
+        out[at] = other_row(row, i % 4, k);
+    }
+    out
+}

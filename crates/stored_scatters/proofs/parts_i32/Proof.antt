@@ -1,0 +1,54 @@
+use native.Mathlib.Omega.{arith}
+use lib.ListN.{length-take}
+use borrow.Author.Needs.{needs}
+use Rattle.stored_scatters.proofs.parts_i32.Statement.{statement}
+use Rattle.stored_scatters.proofs.parts_i32.Tie as tie
+use Rattle.stored_scatters.proofs.parts_i32.Reads as reads
+use Rattle.stored_scatters.proofs.parts_i32.Lts as lts
+use Rattle.stored_scatters.proofs.judge_i32.Reads as judge-i32-reads
+use Rattle.stored_reader.proofs.packed.list_count.Reads as list-count-reads
+
+list-count-requires : tie.Need-list-count-requires
+list-count-requires c κs = search needs
+
+list-count-requires-2 : tie.Need-list-count-requires-2
+list-count-requires-2 c κs = search needs
+
+returns : tie.Need-returns
+returns c = search needs
+
+returns-2 : tie.Need-returns-2
+returns-2 c = search needs
+
+slice-aggregate-judge-i32 : tie.Need-slice-aggregate-judge-i32
+slice-aggregate-judge-i32 c = simp length-take (omega arith)
+
+slice-relend-prefix-judge-i32 : tie.Need-slice-relend-prefix-judge-i32
+slice-relend-prefix-judge-i32 c = search needs
+
+slice-aggregate-judge-i32-2 : tie.Need-slice-aggregate-judge-i32-2
+slice-aggregate-judge-i32-2 c = simp length-take (omega arith)
+
+judge-i32-requires : tie.Need-judge-i32-requires
+judge-i32-requires c κs = search needs
+
+same-length : tie.Need-same-length
+same-length c = search needs
+
+returns-3 : tie.Need-returns-3
+returns-3 c = search needs
+
+pub parts-i32-spec : {M : Type 1} → statement M
+parts-i32-spec =
+    tie.close
+    (tie.spec
+    list-count-requires
+    list-count-requires-2
+    returns
+    returns-2
+    slice-aggregate-judge-i32
+    slice-relend-prefix-judge-i32
+    slice-aggregate-judge-i32-2
+    judge-i32-requires
+    same-length
+    returns-3)
