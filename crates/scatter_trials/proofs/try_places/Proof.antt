@@ -1,10 +1,10 @@
 use Prim.Native.Nat.{_-_}
 use native.Mathlib.Omega.{arith}
-use Rattle.forged_scatters.proofs.try_places.Statement.{statement}
-use Rattle.forged_scatters.proofs.try_places.Tie as tie
-use Rattle.forged_scatters.proofs.try_places.Reads as reads
-use Rattle.forged_scatters.proofs.try_places.Lts as lts
-use Rattle.forged_scatters.proofs.try_place.Reads as try-place-reads
+use Rattle.scatter_trials.proofs.try_places.Statement.{statement}
+use Rattle.scatter_trials.proofs.try_places.Tie as tie
+use Rattle.scatter_trials.proofs.try_places.Reads as reads
+use Rattle.scatter_trials.proofs.try_places.Lts as lts
+use Rattle.scatter_trials.proofs.try_place.Reads as try-place-reads
 use Rattle.plan_forging.proofs.tally.none.Reads as none-reads
 
 abbrev Inv-loop : tie.InvT-loop
