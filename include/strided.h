@@ -1,0 +1,223 @@
+/* Gather and scatter on strided grids: the functions of libstrided.a (`rt staticlib strided`).
+
+   Every function answers for all arguments, always returns, and reads and writes only inside the slices that it is lent.
+   Its answer is three numbers in `answer`: STRIDED_DONE, or one of the refusals below, then a and b, 0 where unnamed.
+   A refusal changes no element of a destination and no byte of a job. A call that is done changes only the destination's
+   elements that its cells name.
+
+   What the caller owes:
+   - A slice is a pointer to its first element and a count of elements; the count is true, for as long as the call takes.
+     Where the count is 0 nothing is read or written, but the pointer is still not NULL and is aligned.
+   - What a function writes (`destination`, `out`, `answer`) overlaps no other argument, and nobody else touches it meanwhile.
+
+   A view is a layout (extents and strides of equal length, in elements, at most STRIDED_RANK_LIMIT axes) with an offset into
+   its slice. Coordinates go first axis fastest. Axis lists are those of StableHLO's gather and scatter. Starts are clamped, in
+   a gather and in a scatter. An i32 sum wraps modulo 2^32; f64 adds round one by one, in order. */
+#ifndef STRIDED_H
+#define STRIDED_H
+
+#include <stddef.h>
+#include <stdint.h>
+
+#ifdef __cplusplus
+extern "C" {
+#endif
+
+#define STRIDED_RANK_LIMIT 8
+#define STRIDED_LIST_LIMIT 16
+
+/* The first number of an answer. */
+enum {
+    STRIDED_DONE = 0,
+    STRIDED_STRIDE_LENGTH_MISMATCH = 1, /* extents and strides differ in length */
+    STRIDED_RANK_TOO_LARGE = 2,         /* a: the rank of the first such layout; b: the limit */
+    STRIDED_OFFSET_OVERFLOW = 3,        /* a product, span, step or reset does not fit */
+    STRIDED_NON_INJECTIVE_OUTPUT = 4,   /* the destination is not nested */
+    STRIDED_RANK_MISMATCH = 5,          /* a and b: two counts that differ */
+    STRIDED_INVALID_AXIS = 6,           /* a: the axis; b: the rank */
+    STRIDED_SHAPE_MISMATCH = 7,         /* a and b: the ranks of the given and of the expected shape */
+    STRIDED_PLAN_LAYOUT_MISMATCH = 8,   /* a call's layout is not the plan's */
+    STRIDED_BUFFER_BOUNDS = 9,          /* a: the view, from 1; or a: 0, b: the bytes that a writer needs */
+    STRIDED_JOB_BYTES = 10              /* a: the place in a stored job, from 0 */
+};
+
+/* The element of a stored job. */
+enum { STRIDED_I32 = 1, STRIDED_F64 = 2 };
+
+/* ---- stored jobs: a gather or a scatter with its views, as bytes */
+
+/* Whether the bytes store a job; 10 where they do not. A job that is stored may still be refused when it is run. */
+void strided_read_job(const uint8_t *bytes, size_t bytes_count, uint64_t answer[3]);
+
+/* Writes a job to the front of `out`; bytes past it stay. Refuses by 1, 2, 5 (a list of more than STRIDED_LIST_LIMIT) and 9.
+   The job's first four bytes, big-endian, count those that follow. An element other than STRIDED_I32 is f64. */
+void strided_write_gather_job(
+    uint64_t element,
+    const uint64_t *operand_extents, size_t operand_extents_count,
+    const int64_t *operand_strides, size_t operand_strides_count, int64_t operand_offset,
+    const uint64_t *index_extents, size_t index_extents_count,
+    const int64_t *index_strides, size_t index_strides_count, int64_t index_offset,
+    const uint64_t *dest_extents, size_t dest_extents_count,
+    const int64_t *dest_strides, size_t dest_strides_count, int64_t dest_offset,
+    const uint64_t *offset_dims, size_t offset_dims_count,
+    const uint64_t *collapsed_slice_dims, size_t collapsed_slice_dims_count,
+    const uint64_t *start_index_map, size_t start_index_map_count,
+    uint64_t index_vector_dim,
+    const uint64_t *slice_sizes, size_t slice_sizes_count,
+    uint8_t *out, size_t out_count, uint64_t answer[3]);
+
+void strided_write_scatter_job(
+    uint64_t element,
+    const uint64_t *index_extents, size_t index_extents_count,
+    const int64_t *index_strides, size_t index_strides_count, int64_t index_offset,
+    const uint64_t *updates_extents, size_t updates_extents_count,
+    const int64_t *updates_strides, size_t updates_strides_count, int64_t updates_offset,
+    const uint64_t *dest_extents, size_t dest_extents_count,
+    const int64_t *dest_strides, size_t dest_strides_count, int64_t dest_offset,
+    const uint64_t *update_window_dims, size_t update_window_dims_count,
+    const uint64_t *inserted_window_dims, size_t inserted_window_dims_count,
+    const uint64_t *scatter_dims_to_operand_dims, size_t scatter_dims_to_operand_dims_count,
+    uint64_t index_vector_dim,
+    uint8_t *out, size_t out_count, uint64_t answer[3]);
+
+/* Read a job, compile it and call it. A job of another kind or element is refused by 10, at byte 5 or 6. */
+void strided_gather_i32(
+    const uint8_t *job, size_t job_count, const int32_t *operand, size_t operand_count,
+    const int64_t *starts, size_t starts_count, int32_t *destination, size_t destination_count, uint64_t answer[3]);
+void strided_gather_f64(
+    const uint8_t *job, size_t job_count, const double *operand, size_t operand_count,
+    const int64_t *starts, size_t starts_count, double *destination, size_t destination_count, uint64_t answer[3]);
+void strided_scatter_i32(
+    const uint8_t *job, size_t job_count, const int64_t *starts, size_t starts_count,
+    const int32_t *updates, size_t updates_count, int32_t *destination, size_t destination_count, uint64_t answer[3]);
+void strided_scatter_f64(
+    const uint8_t *job, size_t job_count, const int64_t *starts, size_t starts_count,
+    const double *updates, size_t updates_count, double *destination, size_t destination_count, uint64_t answer[3]);
+
+/* ---- without a stored job */
+
+/* Compile's refusal alone. */
+void strided_gather_refusal(
+    const uint64_t *operand_extents, size_t operand_extents_count,
+    const int64_t *operand_strides, size_t operand_strides_count,
+    const uint64_t *index_extents, size_t index_extents_count,
+    const int64_t *index_strides, size_t index_strides_count,
+    const uint64_t *dest_extents, size_t dest_extents_count,
+    const int64_t *dest_strides, size_t dest_strides_count,
+    const uint64_t *offset_dims, size_t offset_dims_count,
+    const uint64_t *collapsed_slice_dims, size_t collapsed_slice_dims_count,
+    const uint64_t *start_index_map, size_t start_index_map_count,
+    uint64_t index_vector_dim,
+    const uint64_t *slice_sizes, size_t slice_sizes_count,
+    uint64_t answer[3]);
+
+void strided_scatter_refusal(
+    const uint64_t *index_extents, size_t index_extents_count,
+    const int64_t *index_strides, size_t index_strides_count,
+    const uint64_t *updates_extents, size_t updates_extents_count,
+    const int64_t *updates_strides, size_t updates_strides_count,
+    const uint64_t *dest_extents, size_t dest_extents_count,
+    const int64_t *dest_strides, size_t dest_strides_count,
+    const uint64_t *update_window_dims, size_t update_window_dims_count,
+    const uint64_t *inserted_window_dims, size_t inserted_window_dims_count,
+    const uint64_t *scatter_dims_to_operand_dims, size_t scatter_dims_to_operand_dims_count,
+    uint64_t index_vector_dim,
+    uint64_t answer[3]);
+
+/* Compile by the first three layouts and the lists, then call on the three views. A view whose layout is not the one that was
+   compiled for it is refused by 8. */
+void strided_raw_gather_i32(
+    const uint64_t *operand_extents, size_t operand_extents_count,
+    const int64_t *operand_strides, size_t operand_strides_count,
+    const uint64_t *index_extents, size_t index_extents_count,
+    const int64_t *index_strides, size_t index_strides_count,
+    const uint64_t *dest_extents, size_t dest_extents_count,
+    const int64_t *dest_strides, size_t dest_strides_count,
+    const uint64_t *offset_dims, size_t offset_dims_count,
+    const uint64_t *collapsed_slice_dims, size_t collapsed_slice_dims_count,
+    const uint64_t *start_index_map, size_t start_index_map_count,
+    uint64_t index_vector_dim,
+    const uint64_t *slice_sizes, size_t slice_sizes_count,
+    const uint64_t *operand_view_extents, size_t operand_view_extents_count,
+    const int64_t *operand_view_strides, size_t operand_view_strides_count, int64_t operand_offset,
+    const uint64_t *index_view_extents, size_t index_view_extents_count,
+    const int64_t *index_view_strides, size_t index_view_strides_count, int64_t index_offset,
+    const uint64_t *dest_view_extents, size_t dest_view_extents_count,
+    const int64_t *dest_view_strides, size_t dest_view_strides_count, int64_t dest_offset,
+    const int32_t *operand, size_t operand_count,
+    const int64_t *starts, size_t starts_count,
+    int32_t *dest, size_t dest_count,
+    uint64_t answer[3]);
+
+void strided_raw_gather_f64(
+    const uint64_t *operand_extents, size_t operand_extents_count,
+    const int64_t *operand_strides, size_t operand_strides_count,
+    const uint64_t *index_extents, size_t index_extents_count,
+    const int64_t *index_strides, size_t index_strides_count,
+    const uint64_t *dest_extents, size_t dest_extents_count,
+    const int64_t *dest_strides, size_t dest_strides_count,
+    const uint64_t *offset_dims, size_t offset_dims_count,
+    const uint64_t *collapsed_slice_dims, size_t collapsed_slice_dims_count,
+    const uint64_t *start_index_map, size_t start_index_map_count,
+    uint64_t index_vector_dim,
+    const uint64_t *slice_sizes, size_t slice_sizes_count,
+    const uint64_t *operand_view_extents, size_t operand_view_extents_count,
+    const int64_t *operand_view_strides, size_t operand_view_strides_count, int64_t operand_offset,
+    const uint64_t *index_view_extents, size_t index_view_extents_count,
+    const int64_t *index_view_strides, size_t index_view_strides_count, int64_t index_offset,
+    const uint64_t *dest_view_extents, size_t dest_view_extents_count,
+    const int64_t *dest_view_strides, size_t dest_view_strides_count, int64_t dest_offset,
+    const double *operand, size_t operand_count,
+    const int64_t *starts, size_t starts_count,
+    double *dest, size_t dest_count,
+    uint64_t answer[3]);
+
+void strided_raw_scatter_i32(
+    const uint64_t *index_extents, size_t index_extents_count,
+    const int64_t *index_strides, size_t index_strides_count,
+    const uint64_t *updates_extents, size_t updates_extents_count,
+    const int64_t *updates_strides, size_t updates_strides_count,
+    const uint64_t *dest_extents, size_t dest_extents_count,
+    const int64_t *dest_strides, size_t dest_strides_count,
+    const uint64_t *update_window_dims, size_t update_window_dims_count,
+    const uint64_t *inserted_window_dims, size_t inserted_window_dims_count,
+    const uint64_t *scatter_dims_to_operand_dims, size_t scatter_dims_to_operand_dims_count,
+    uint64_t index_vector_dim,
+    const uint64_t *index_view_extents, size_t index_view_extents_count,
+    const int64_t *index_view_strides, size_t index_view_strides_count, int64_t index_offset,
+    const uint64_t *updates_view_extents, size_t updates_view_extents_count,
+    const int64_t *updates_view_strides, size_t updates_view_strides_count, int64_t updates_offset,
+    const uint64_t *dest_view_extents, size_t dest_view_extents_count,
+    const int64_t *dest_view_strides, size_t dest_view_strides_count, int64_t dest_offset,
+    const int64_t *starts, size_t starts_count,
+    const int32_t *updates, size_t updates_count,
+    int32_t *dest, size_t dest_count,
+    uint64_t answer[3]);
+
+void strided_raw_scatter_f64(
+    const uint64_t *index_extents, size_t index_extents_count,
+    const int64_t *index_strides, size_t index_strides_count,
+    const uint64_t *updates_extents, size_t updates_extents_count,
+    const int64_t *updates_strides, size_t updates_strides_count,
+    const uint64_t *dest_extents, size_t dest_extents_count,
+    const int64_t *dest_strides, size_t dest_strides_count,
+    const uint64_t *update_window_dims, size_t update_window_dims_count,
+    const uint64_t *inserted_window_dims, size_t inserted_window_dims_count,
+    const uint64_t *scatter_dims_to_operand_dims, size_t scatter_dims_to_operand_dims_count,
+    uint64_t index_vector_dim,
+    const uint64_t *index_view_extents, size_t index_view_extents_count,
+    const int64_t *index_view_strides, size_t index_view_strides_count, int64_t index_offset,
+    const uint64_t *updates_view_extents, size_t updates_view_extents_count,
+    const int64_t *updates_view_strides, size_t updates_view_strides_count, int64_t updates_offset,
+    const uint64_t *dest_view_extents, size_t dest_view_extents_count,
+    const int64_t *dest_view_strides, size_t dest_view_strides_count, int64_t dest_offset,
+    const int64_t *starts, size_t starts_count,
+    const double *updates, size_t updates_count,
+    double *dest, size_t dest_count,
+    uint64_t answer[3]);
+
+#ifdef __cplusplus
+}
+#endif
+
+#endif

@@ -1,0 +1,188 @@
+/* The library as a C program links it: document 01's window read and cuts added and StableHLO's gather, raw and by stored jobs,
+   in i32 and f64, with refusals on the way. Prints each check that fails; the exit status is 0 where none does. */
+#include "strided.h"
+
+#include <inttypes.h>
+#include <stdio.h>
+#include <string.h>
+
+#define COUNT(list) (sizeof(list) / sizeof((list)[0]))
+#define SLICE(list) (list), COUNT(list)
+
+static int failures = 0;
+static int checks = 0;
+
+static void check(int holds, const char *what) {
+    checks++;
+    if (!holds) {
+        failures++;
+        printf("failed: %s\n", what);
+    }
+}
+
+static void answered(const uint64_t answer[3], uint64_t n, uint64_t a, uint64_t b, const char *what) {
+    int holds = answer[0] == n && answer[1] == a && answer[2] == b;
+    check(holds, what);
+    if (!holds) {
+        printf("  answer %" PRIu64 " %" PRIu64 " %" PRIu64 "\n", answer[0], answer[1], answer[2]);
+    }
+}
+
+/* For a slice of no elements: something to point to. */
+static const uint64_t none[1] = {0};
+
+/* Windows of two of five cells at the starts 4 and -1, which are clamped. */
+static const uint64_t five[] = {5}, two[] = {2}, two_two[] = {2, 2}, axis_0[] = {0};
+static const int64_t one[] = {1}, one_two[] = {1, 2};
+static const int64_t window_starts[] = {4, -1};
+
+static void window_read(void) {
+    const int32_t operand[] = {10, 20, 30, 40, 50}, expected[] = {40, 50, 10, 20};
+    int32_t destination[] = {1, 2, 3, 4};
+    uint64_t answer[3];
+    strided_gather_refusal(SLICE(five), SLICE(one), SLICE(two), SLICE(one), SLICE(two_two), SLICE(one_two), SLICE(axis_0),
+                           none, 0, SLICE(axis_0), 1, SLICE(two), answer);
+    answered(answer, STRIDED_DONE, 0, 0, "compile of the window read");
+    strided_raw_gather_i32(SLICE(five), SLICE(one), SLICE(two), SLICE(one), SLICE(two_two), SLICE(one_two), SLICE(axis_0),
+                           none, 0, SLICE(axis_0), 1, SLICE(two), SLICE(five), SLICE(one), 0, SLICE(two), SLICE(one), 0,
+                           SLICE(two_two), SLICE(one_two), 1, SLICE(operand), SLICE(window_starts), SLICE(destination),
+                           answer);
+    answered(answer, STRIDED_BUFFER_BOUNDS, 3, 0, "a destination that begins one element later");
+    check(destination[0] == 1 && destination[3] == 4, "a refusal changes no element");
+    strided_raw_gather_i32(SLICE(five), SLICE(one), SLICE(two), SLICE(one), SLICE(two_two), SLICE(one_two), SLICE(axis_0),
+                           none, 0, SLICE(axis_0), 1, SLICE(two), SLICE(five), SLICE(one), 0, SLICE(two), SLICE(one), 0,
+                           SLICE(two_two), SLICE(one_two), 0, SLICE(operand), SLICE(window_starts), SLICE(destination),
+                           answer);
+    answered(answer, STRIDED_DONE, 0, 0, "the window read");
+    check(memcmp(destination, expected, sizeof expected) == 0, "the window read gives 40 50 10 20");
+}
+
+static void window_read_by_job(void) {
+    const double operand[] = {10, 20, 30, 40, 50}, expected[] = {40, 50, 10, 20};
+    double destination[] = {0, 0, 0, 0};
+    int32_t other[] = {7};
+    uint8_t job[512];
+    uint64_t answer[3];
+    memset(job, 0xee, sizeof job);
+    strided_write_gather_job(STRIDED_F64, SLICE(five), SLICE(one), 0, SLICE(two), SLICE(one), 0, SLICE(two_two),
+                             SLICE(one_two), 0, SLICE(axis_0), none, 0, SLICE(axis_0), 1, SLICE(two), job, 10, answer);
+    check(answer[0] == STRIDED_BUFFER_BOUNDS && answer[1] == 0, "no room for a job");
+    check(job[0] == 0xee, "without room no byte is written");
+    size_t needed = (size_t)answer[2];
+    check(needed < sizeof job, "the bytes that are needed");
+    strided_write_gather_job(STRIDED_F64, SLICE(five), SLICE(one), 0, SLICE(two), SLICE(one), 0, SLICE(two_two),
+                             SLICE(one_two), 0, SLICE(axis_0), none, 0, SLICE(axis_0), 1, SLICE(two), job, sizeof job,
+                             answer);
+    answered(answer, STRIDED_DONE, 0, 0, "a job is written");
+    check(job[needed] == 0xee, "bytes past a written job stay");
+    strided_read_job(job, needed, answer);
+    answered(answer, STRIDED_DONE, 0, 0, "it is a job");
+    strided_read_job(job, needed - 1, answer);
+    answered(answer, STRIDED_JOB_BYTES, 0, 0, "cut short it is none");
+    strided_gather_i32(job, needed, other, 1, SLICE(window_starts), other, 0, answer);
+    answered(answer, STRIDED_JOB_BYTES, 6, 0, "a job of f64 run as one of i32");
+    strided_gather_f64(job, needed, SLICE(operand), SLICE(window_starts), SLICE(destination), answer);
+    answered(answer, STRIDED_DONE, 0, 0, "the window read by its job");
+    check(memcmp(destination, expected, sizeof expected) == 0, "the window read by its job gives 40 50 10 20");
+}
+
+static const uint64_t three[] = {3};
+static const int64_t cut_starts[] = {0, 0, 9};
+
+static void cuts_added(void) {
+    const int32_t updates[] = {3, 4, 5}, expected[] = {7, 0, 0, 0, 5};
+    int32_t grid[] = {0, 0, 0, 0, 0};
+    uint64_t answer[3];
+    strided_scatter_refusal(SLICE(three), SLICE(one), SLICE(three), SLICE(one), SLICE(five), SLICE(one), none, 0,
+                            SLICE(axis_0), SLICE(axis_0), 2, answer);
+    answered(answer, STRIDED_INVALID_AXIS, 2, 2, "a vector axis past the index's rank");
+    strided_raw_scatter_i32(SLICE(three), SLICE(one), SLICE(three), SLICE(one), SLICE(five), SLICE(one), none, 0,
+                            SLICE(axis_0), SLICE(axis_0), 1, SLICE(three), SLICE(one), 0, SLICE(three), SLICE(one), 0,
+                            SLICE(five), SLICE(one), 0, SLICE(cut_starts), SLICE(updates), SLICE(grid), answer);
+    answered(answer, STRIDED_DONE, 0, 0, "the cuts added");
+    check(memcmp(grid, expected, sizeof expected) == 0, "the cuts added leave 7 0 0 0 5");
+}
+
+static void cuts_added_by_job(void) {
+    const double updates[] = {3, 4, 5}, expected[] = {7, 0, 0, 0, 5};
+    const int32_t depths[] = {3, 4, 5}, twice[] = {14, 0, 0, 0, -2147483647 - 1 + 4};
+    double grid[] = {0, 0, 0, 0, 0};
+    int32_t depth_grid[] = {7, 0, 0, 0, 2147483647};
+    uint8_t job[512];
+    uint64_t answer[3];
+    strided_write_scatter_job(STRIDED_F64, SLICE(three), SLICE(one), 0, SLICE(three), SLICE(one), 0, SLICE(five), SLICE(one),
+                              0, none, 0, SLICE(axis_0), SLICE(axis_0), 1, SLICE(job), answer);
+    answered(answer, STRIDED_DONE, 0, 0, "a scatter's job is written");
+    size_t size = 4 + ((size_t)job[0] << 24 | (size_t)job[1] << 16 | (size_t)job[2] << 8 | (size_t)job[3]);
+    strided_scatter_f64(job, size, SLICE(cut_starts), SLICE(updates), SLICE(grid), answer);
+    answered(answer, STRIDED_DONE, 0, 0, "the cuts added by their job");
+    check(memcmp(grid, expected, sizeof expected) == 0, "the cuts added by their job leave 7 0 0 0 5");
+    strided_write_scatter_job(STRIDED_I32, SLICE(three), SLICE(one), 0, SLICE(three), SLICE(one), 0, SLICE(five), SLICE(one),
+                              0, none, 0, SLICE(axis_0), SLICE(axis_0), 1, SLICE(job), answer);
+    strided_scatter_i32(job, size, SLICE(cut_starts), SLICE(depths), SLICE(depth_grid), answer);
+    answered(answer, STRIDED_DONE, 0, 0, "the same in i32");
+    check(memcmp(depth_grid, twice, sizeof twice) == 0, "i32 sums wrap modulo 2^32");
+}
+
+/* StableHLO's printed gather: the numbers 1 to 24 as 3x4x2, last axis innermost. */
+static void printed_gather(void) {
+    const uint64_t operand_extents[] = {3, 4, 2}, index_extents[] = {2, 3, 2}, dest_extents[] = {2, 3, 2, 2};
+    const int64_t operand_strides[] = {8, 2, 1}, index_strides[] = {6, 2, 1}, dest_strides[] = {12, 4, 2, 1};
+    const uint64_t offset_dims[] = {2, 3}, map[] = {1, 0}, sizes[] = {1, 2, 2};
+    const int64_t starts[] = {0, 0, 1, 0, 2, 1, 0, 1, 1, 1, 0, 9};
+    const double expected[] = {1, 2, 3, 4, 3, 4, 5, 6, 13, 14, 15, 16, 9, 10, 11, 12, 11, 12, 13, 14, 17, 18, 19, 20};
+    double operand[24], destination[24] = {0};
+    uint64_t answer[3];
+    for (int i = 0; i < 24; i++) {
+        operand[i] = i + 1;
+    }
+    strided_raw_gather_f64(SLICE(operand_extents), SLICE(operand_strides), SLICE(index_extents), SLICE(index_strides),
+                           SLICE(dest_extents), SLICE(dest_strides), SLICE(offset_dims), SLICE(axis_0), SLICE(map), 2,
+                           SLICE(sizes), SLICE(operand_extents), SLICE(operand_strides), 0, SLICE(index_extents),
+                           SLICE(index_strides), 0, SLICE(dest_extents), SLICE(dest_strides), 0, SLICE(operand),
+                           SLICE(starts), SLICE(destination), answer);
+    answered(answer, STRIDED_DONE, 0, 0, "StableHLO's gather");
+    check(memcmp(destination, expected, sizeof expected) == 0, "StableHLO's gather gives what is printed there");
+}
+
+static void cuts_added_f64(void) {
+    const double updates[] = {3, 4, 5}, expected[] = {7, 0, 0, 0, 5};
+    double grid[] = {0, 0, 0, 0, 0};
+    uint64_t answer[3];
+    strided_raw_scatter_f64(SLICE(three), SLICE(one), SLICE(three), SLICE(one), SLICE(five), SLICE(one), none, 0,
+                            SLICE(axis_0), SLICE(axis_0), 1, SLICE(five), SLICE(one), 0, SLICE(three), SLICE(one), 0,
+                            SLICE(five), SLICE(one), 0, SLICE(cut_starts), SLICE(updates), SLICE(grid), answer);
+    answered(answer, STRIDED_PLAN_LAYOUT_MISMATCH, 0, 0, "a call's index of another layout");
+    strided_raw_scatter_f64(SLICE(three), SLICE(one), SLICE(three), SLICE(one), SLICE(five), SLICE(one), none, 0,
+                            SLICE(axis_0), SLICE(axis_0), 1, SLICE(three), SLICE(one), 0, SLICE(three), SLICE(one), 0,
+                            SLICE(five), SLICE(one), 0, SLICE(cut_starts), SLICE(updates), SLICE(grid), answer);
+    answered(answer, STRIDED_DONE, 0, 0, "the cuts added in f64");
+    check(memcmp(grid, expected, sizeof expected) == 0, "the cuts added in f64 leave 7 0 0 0 5");
+}
+
+/* The window read in i32 by a job, as the last of the thirteen functions. */
+static void window_read_by_i32_job(void) {
+    const int32_t operand[] = {10, 20, 30, 40, 50}, expected[] = {40, 50, 10, 20};
+    int32_t destination[] = {0, 0, 0, 0};
+    uint8_t job[512];
+    uint64_t answer[3];
+    strided_write_gather_job(STRIDED_I32, SLICE(five), SLICE(one), 0, SLICE(two), SLICE(one), 0, SLICE(two_two),
+                             SLICE(one_two), 0, SLICE(axis_0), none, 0, SLICE(axis_0), 1, SLICE(two), job, sizeof job,
+                             answer);
+    size_t size = 4 + ((size_t)job[2] << 8 | (size_t)job[3]);
+    strided_gather_i32(job, size, SLICE(operand), SLICE(window_starts), SLICE(destination), answer);
+    answered(answer, STRIDED_DONE, 0, 0, "the window read by a job of i32");
+    check(memcmp(destination, expected, sizeof expected) == 0, "the window read by a job of i32 gives 40 50 10 20");
+}
+
+int main(void) {
+    window_read();
+    window_read_by_job();
+    window_read_by_i32_job();
+    cuts_added();
+    cuts_added_by_job();
+    cuts_added_f64();
+    printed_gather();
+    printf("C program: %d checks, %d failed\n", checks, failures);
+    return failures != 0;
+}
