@@ -49,8 +49,8 @@ enum { STRIDED_I32 = 1, STRIDED_F64 = 2 };
 /* Whether the bytes store a job; 10 where they do not. A job that is stored may still be refused when it is run. */
 void strided_read_job(const uint8_t *bytes, size_t bytes_count, uint64_t answer[3]);
 
-/* Writes a job to the front of `out`; bytes past it stay. Refuses by 1, 2, 5 (a list of more than STRIDED_LIST_LIMIT) and 9.
-   The job's first four bytes, big-endian, count those that follow. An element other than STRIDED_I32 is f64. */
+/* Writes a job to the front of `out`; bytes past it stay. Refuses by 10 (a: 6, an element that is not listed), 1, 2, 5 (a list
+   of more than STRIDED_LIST_LIMIT) and 9. The job's first four bytes, big-endian, count those that follow. */
 void strided_write_gather_job(
     uint64_t element,
     const uint64_t *operand_extents, size_t operand_extents_count,

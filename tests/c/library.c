@@ -75,6 +75,9 @@ static void window_read_by_job(void) {
                              answer);
     answered(answer, STRIDED_DONE, 0, 0, "a job is written");
     check(job[needed] == 0xee, "bytes past a written job stay");
+    strided_write_gather_job(3, SLICE(five), SLICE(one), 0, SLICE(two), SLICE(one), 0, SLICE(two_two), SLICE(one_two), 0,
+                             SLICE(axis_0), none, 0, SLICE(axis_0), 1, SLICE(two), job, sizeof job, answer);
+    answered(answer, STRIDED_JOB_BYTES, 6, 0, "an element that is not listed");
     strided_read_job(job, needed, answer);
     answered(answer, STRIDED_DONE, 0, 0, "it is a job");
     strided_read_job(job, needed - 1, answer);
@@ -117,6 +120,9 @@ static void cuts_added_by_job(void) {
     strided_scatter_f64(job, size, SLICE(cut_starts), SLICE(updates), SLICE(grid), answer);
     answered(answer, STRIDED_DONE, 0, 0, "the cuts added by their job");
     check(memcmp(grid, expected, sizeof expected) == 0, "the cuts added by their job leave 7 0 0 0 5");
+    strided_write_scatter_job(0, SLICE(three), SLICE(one), 0, SLICE(three), SLICE(one), 0, SLICE(five), SLICE(one), 0, none, 0,
+                              SLICE(axis_0), SLICE(axis_0), 1, SLICE(job), answer);
+    answered(answer, STRIDED_JOB_BYTES, 6, 0, "an element that is not listed, of a scatter");
     strided_write_scatter_job(STRIDED_I32, SLICE(three), SLICE(one), 0, SLICE(three), SLICE(one), 0, SLICE(five), SLICE(one),
                               0, none, 0, SLICE(axis_0), SLICE(axis_0), 1, SLICE(job), answer);
     strided_scatter_i32(job, size, SLICE(cut_starts), SLICE(depths), SLICE(depth_grid), answer);

@@ -14,8 +14,8 @@ use Rattle.layout.specs.declared.Answer.{Answer}
 use Rattle.layout.specs.declared.Answer.the-variants as A
 use Rattle.layout.specs.declared.View.{View}
 use Rattle.layout.specs.Answers.{isDone, orElse}
-use Rattle.layout.specs.Layouts.{rankLimit, strideLength, rankAtMost}
-use Rattle.job_bytes.specs.Fields.{listLimit}
+use Rattle.layout.specs.Layouts.{strideLength}
+use Rattle.job_bytes.specs.Version.{storedRankLimit, listLimit}
 use Rattle.job_bytes.specs.Below.{AllBelow, AllFit}
 use Rattle.job.specs.declared.Kind.{Kind}
 use Rattle.job.specs.declared.Kind.the-variants as K
@@ -24,7 +24,7 @@ use Rattle.job.specs.declared.List16.{List16}
 use Rattle.job.specs.declared.Spec.{Spec}
 use Rattle.job.specs.declared.Job.{Job}
 use Rattle.job.specs.declared.MadeJob.{MadeJob}
-use Rattle.job.specs.Jobs.{heldList, viewOf, viewsOf, specOf, listAtMost, viewsRefusal, listsRefusal, madeJob, jobFrom}
+use Rattle.job.specs.Jobs.{heldList, viewOf, viewsOf, specOf, rankStored, listAtMost, viewsRefusal, listsRefusal, madeJob, jobFrom}
 use Rattle.job.specs.Made.{MadeView, MadeList, MadeSizes, Made}
 
 pub making : (kind : Kind) (element : Element) (e1 : List ℕ) (s1 : List ℤ) (o1 : ℤ) (e2 : List ℕ) (s2 : List ℤ) (o2 : ℤ) (e3 : List ℕ) (s3 : List ℤ) (o3 : ℤ) (window unit map : List ℕ) (vector : ℕ) (sizes : List ℕ)
@@ -58,11 +58,11 @@ strides-done e s h = go (eqb s e) refl h
     go true q h = eqb-true s e q
     go false q h = let y : _≡_ {A = ℕ} 0 1 = cc in absurd (omega arith)
 
-rank-done : (n : ℕ) → isDone (rankAtMost n) ≡ true → n ≤ rankLimit
-rank-done n h = go (leb n rankLimit) refl h
+rank-done : (n : ℕ) → isDone (rankStored n) ≡ true → n ≤ storedRankLimit
+rank-done n h = go (leb n storedRankLimit) refl h
   where
-    go : (t : Bool) → leb n rankLimit ≡ t → isDone (cond t A.Done (A.RankTooLarge n rankLimit)) ≡ true → n ≤ rankLimit
-    go true q h = leb-true n rankLimit q
+    go : (t : Bool) → leb n storedRankLimit ≡ t → isDone (cond t A.Done (A.RankTooLarge n storedRankLimit)) ≡ true → n ≤ storedRankLimit
+    go true q h = leb-true n storedRankLimit q
     go false q h = let y : _≡_ {A = ℕ} 0 1 = cc in absurd (omega arith)
 
 list-done : (n : ℕ) → isDone (listAtMost n) ≡ true → n ≤ listLimit
@@ -72,7 +72,7 @@ list-done n h = go (leb n listLimit) refl h
     go true q h = leb-true n listLimit q
     go false q h = let y : _≡_ {A = ℕ} 0 1 = cc in absurd (omega arith)
 
-view-made : (es : List ℕ) (ss : List ℤ) (o : ℤ) → length ss ≡ length es → length es ≤ rankLimit → AllBelow (2 ^ 64) es → AllFit ss → SFits w64 o → MadeView (viewOf es ss o)
+view-made : (es : List ℕ) (ss : List ℤ) (o : ℤ) → length ss ≡ length es → length es ≤ storedRankLimit → AllBelow (2 ^ 64) es → AllFit ss → SFits w64 o → MadeView (viewOf es ss o)
 view-made es ss o s h a b f = record { extents = es; strides = ss; offset = o; is = refl; same = s; few = h; words = a; fits = b; fit = f }
 
 list-made : (l : List ℕ) → length l ≤ listLimit → AllBelow (2 ^ 64) l → MadeList (heldList l)
@@ -97,8 +97,8 @@ module _ (element : Element) (e1 : List ℕ) (s1 : List ℤ) (o1 : ℤ) (e2 : Li
       let p1 = both-done (strideLength (length e1) (length s1)) _ (p .0) in
       let p2 = both-done (strideLength (length e2) (length s2)) _ (p1 .1) in
       let p3 = both-done (strideLength (length e3) (length s3)) _ (p2 .1) in
-      let p4 = both-done (rankAtMost (length e1)) _ (p3 .1) in
-      let p5 = both-done (rankAtMost (length e2)) (rankAtMost (length e3)) (p4 .1) in
+      let p4 = both-done (rankStored (length e1)) _ (p3 .1) in
+      let p5 = both-done (rankStored (length e2)) (rankStored (length e3)) (p4 .1) in
       let q1 = both-done (listAtMost (length window)) _ (p .1) in
       let q2 = both-done (listAtMost (length unit)) _ (q1 .1) in
       let q3 = both-done (listAtMost (length map)) (listAtMost (length sizes)) (q2 .1) in

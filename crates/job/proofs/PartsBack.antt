@@ -11,12 +11,13 @@ use mir.Val.{SFits}
 use mir.Facts.{toZ-ofZ, ofZ-toZ, fits-ofZ, sfits-toZ}
 use Rattle.layout.specs.declared.View.{View}
 use Rattle.layout.specs.Layouts.{rankLimit, padded}
-use Rattle.job_bytes.specs.Fields.{read, bytesOf, wordsOf, wordOf, signedOf, numberAt, byteAt, wordsAt, listLimit}
+use Rattle.job_bytes.specs.Fields.{read, bytesOf, wordsOf, wordOf, signedOf, numberAt, byteAt, wordsAt}
 use Rattle.job_bytes.specs.Below.{AllBelow, none, more, AllFit, fit-none, fit-more}
 use Rattle.job_bytes.proofs.Reading.{then-read, byte-range, words-count}
 use Rattle.job_bytes.proofs.Back.{Here, WordsHere, Number, here-front, here-behind, here-both, number-held, number-holds, byte-held, byte-holds, words-held, words-hold}
 use Rattle.job.specs.Jobs.{heldList, viewOf}
 use Rattle.job.specs.Format.{viewBytes, listBytes, viewAt, listAt}
+use Rattle.job_bytes.specs.Version.{storedRankLimit, listLimit}
 use Rattle.job.specs.Made.{MadeView}
 
 -- ---- two's complement there and back
@@ -48,12 +49,12 @@ pub list-bytes : (l : List ℕ) → length l ≤ listLimit → listBytes (heldLi
 unfolding listBytes
 list-bytes l h = rw (held-back listLimit 0 (length l) l refl h)
 
-pub view-bytes : (es : List ℕ) (ss : List ℤ) (o : ℤ) → length ss ≡ length es → length es ≤ rankLimit → viewBytes (viewOf es ss o) ≡ bytesOf 1 (length es) ++ (wordsOf es ++ (wordsOf (map wordOf ss) ++ bytesOf 8 (wordOf o)))
+pub view-bytes : (es : List ℕ) (ss : List ℤ) (o : ℤ) → length ss ≡ length es → length es ≤ storedRankLimit → viewBytes (viewOf es ss o) ≡ bytesOf 1 (length es) ++ (wordsOf es ++ (wordsOf (map wordOf ss) ++ bytesOf 8 (wordOf o)))
 unfolding viewBytes
 view-bytes es ss o e h = rw (held-back rankLimit 1 (length es) es refl h, held-back rankLimit (pos 0) (length es) ss (sym e) (omega arith))
 
 -- words as they were read
-view-words : (n : ℕ) (es ws : List ℕ) (o : ℕ) → length es ≡ n → length ws ≡ n → n ≤ rankLimit → AllBelow (2 ^ 64) ws → o < 2 ^ 64 → viewBytes (viewOf es (map signedOf ws) (signedOf o)) ≡ bytesOf 1 n ++ (wordsOf es ++ (wordsOf ws ++ bytesOf 8 o))
+view-words : (n : ℕ) (es ws : List ℕ) (o : ℕ) → length es ≡ n → length ws ≡ n → n ≤ storedRankLimit → AllBelow (2 ^ 64) ws → o < 2 ^ 64 → viewBytes (viewOf es (map signedOf ws) (signedOf o)) ≡ bytesOf 1 n ++ (wordsOf es ++ (wordsOf ws ++ bytesOf 8 o))
 view-words n es ws o e f h a b =
     let wo : wordOf (signedOf o) ≡ o = ofZ-toZ {w = w64} (record { fits = b }) in
     view-bytes es (map signedOf ws) (signedOf o) (length-map ws signedOf ∙ f ∙ sym e) (omega arith) ∙ rw (e, signed-words ws a, wo)
@@ -103,7 +104,7 @@ view-held bs at v k made p =
     let q2 : Here bs (at + length b1) (b2 ++ (b3 ++ b4)) k = here-behind bs at b1 (b2 ++ (b3 ++ b4)) k q in
     let q3 : Here bs (at + length b1 + length b2) (b3 ++ b4) k = here-behind bs (at + length b1) b2 (b3 ++ b4) k q2 in
     let q4 : Here bs (at + length b1 + length b2 + length b3) b4 k = here-behind bs (at + length b1 + length b2) b3 b4 k q3 in
-    let e1 : byteAt 0 rankLimit bs at ≡ read (length es) (at + length b1) = byte-held 0 rankLimit bs at (length es) (at + length b1) (omega arith) (made .few) (omega (arith, made .few)) (here-front bs at b1 (b2 ++ (b3 ++ b4)) k q) in
+    let e1 : byteAt 0 storedRankLimit bs at ≡ read (length es) (at + length b1) = byte-held 0 storedRankLimit bs at (length es) (at + length b1) (omega arith) (made .few) (omega (arith, made .few)) (here-front bs at b1 (b2 ++ (b3 ++ b4)) k q) in
     let e2 : wordsAt (length es) bs (at + length b1) ≡ read es (at + length b1 + length b2) = words-held bs (at + length b1) es (at + length b1 + length b2) (made .words) (here-front bs (at + length b1) b2 (b3 ++ b4) k q2) in
     let e3 : wordsAt (length es) bs (at + length b1 + length b2) ≡ read (map wordOf ss) (at + length b1 + length b2 + length b3) = ap (λ (n : ℕ). wordsAt n bs (at + length b1 + length b2)) (sym (made .same) ∙ sym (length-map ss wordOf)) ∙ words-held bs (at + length b1 + length b2) (map wordOf ss) (at + length b1 + length b2 + length b3) (words-below ss (made .fits)) (here-front bs (at + length b1 + length b2) b3 b4 k q3) in
     let e4 : numberAt 8 bs (at + length b1 + length b2 + length b3) ≡ read (wordOf o) k = number-held 8 bs (at + length b1 + length b2 + length b3) (wordOf o) k (word-fits o (made .fit)) q4 in
@@ -114,7 +115,7 @@ pub record ViewRead (bs : List ℕ) (at : ℕ) (v : View) (k : ℕ) : Type 0 whe
   pub here : Here bs at (viewBytes v) k
   pub made : MadeView v
 
-view-whole : (bs : List ℕ) (at n k : ℕ) (es : List ℕ) (l : ℕ) (ws : List ℕ) (m o p : ℕ) → length es ≡ n → length ws ≡ n → n ≤ rankLimit
+view-whole : (bs : List ℕ) (at n k : ℕ) (es : List ℕ) (l : ℕ) (ws : List ℕ) (m o p : ℕ) → length es ≡ n → length ws ≡ n → n ≤ storedRankLimit
     → Here bs at (bytesOf 1 n) k → WordsHere bs k es l → WordsHere bs l ws m → Number 8 bs m o p → ViewRead bs at (viewOf es (map signedOf ws) (signedOf o)) p
 view-whole bs at n k es l ws m o p e f h x1 x2 x3 x4 =
     record {
@@ -129,18 +130,18 @@ view-whole bs at n k es l ws m o p e f h x1 x2 x3 x4 =
 pub view-holds : (bs : List ℕ) (at : ℕ) (v : View) (k : ℕ) → AllBelow 256 bs → viewAt bs at ≡ read v k → ViewRead bs at v k
 unfolding viewAt
 view-holds bs at v k a e =
-    let p = then-read (byteAt 0 rankLimit bs at) _ v k e in
+    let p = then-read (byteAt 0 storedRankLimit bs at) _ v k e in
     let q = then-read (wordsAt (p .0) bs (p .1)) _ v k (p .3) in
     let r = then-read (wordsAt (p .0) bs (q .1)) _ v k (q .3) in
     let t = then-read (numberAt 8 bs (r .1)) (λ o m. read (viewOf (q .0) (map signedOf (r .0)) (signedOf o)) m) v k (r .3) in
     go (p .0) (p .1) (q .0) (q .1) (r .0) (r .1) (t .0) (t .1) (p .2) (q .2) (r .2) (t .2) (t .3)
   where
-    go : (n l : ℕ) (es : List ℕ) (m : ℕ) (ws : List ℕ) (i o p : ℕ) → byteAt 0 rankLimit bs at ≡ read n l → wordsAt n bs l ≡ read es m → wordsAt n bs m ≡ read ws i → numberAt 8 bs i ≡ read o p → read (viewOf es (map signedOf ws) (signedOf o)) p ≡ read v k → ViewRead bs at v k
+    go : (n l : ℕ) (es : List ℕ) (m : ℕ) (ws : List ℕ) (i o p : ℕ) → byteAt 0 storedRankLimit bs at ≡ read n l → wordsAt n bs l ≡ read es m → wordsAt n bs m ≡ read ws i → numberAt 8 bs i ≡ read o p → read (viewOf es (map signedOf ws) (signedOf o)) p ≡ read v k → ViewRead bs at v k
     go n l es m ws i o p e1 e2 e3 e4 e =
-        let x1 : Here bs at (bytesOf 1 n) l = byte-holds 0 rankLimit bs at n l a e1 in
+        let x1 : Here bs at (bytesOf 1 n) l = byte-holds 0 storedRankLimit bs at n l a e1 in
         let x2 : WordsHere bs l es m = words-hold n bs l es m (omega (arith, x1 .place, x1 .room)) a e2 in
         let x3 : WordsHere bs m ws i = words-hold n bs m ws i (omega (arith, x2 .here .place, x2 .here .room)) a e3 in
         let f : viewOf es (map signedOf ws) (signedOf o) ≡ v = cc in
         let g : p ≡ k = cc in
-        let w : ViewRead bs at (viewOf es (map signedOf ws) (signedOf o)) p = view-whole bs at n l es m ws i o p (words-count n bs l es m e2) (words-count n bs m ws i e3) (byte-range 0 rankLimit bs at n l e1 .1) x1 x2 x3 (number-holds 8 bs i o p a e4) in
+        let w : ViewRead bs at (viewOf es (map signedOf ws) (signedOf o)) p = view-whole bs at n l es m ws i o p (words-count n bs l es m e2) (words-count n bs m ws i e3) (byte-range 0 storedRankLimit bs at n l e1 .1) x1 x2 x3 (number-holds 8 bs i o p a e4) in
         subst (λ (j : ℕ). ViewRead bs at v j) g (subst (λ (u : View). ViewRead bs at u p) f w)

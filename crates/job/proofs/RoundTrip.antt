@@ -22,7 +22,8 @@ use Rattle.job.specs.declared.Views.{Views}
 use Rattle.job.specs.declared.Spec.{Spec}
 use Rattle.job.specs.declared.Job.{Job}
 use Rattle.job.specs.Jobs.{heldList, viewsOf, specOf}
-use Rattle.job.specs.Format.{version, kindByte, kindOf, elementByte, elementOf, viewBytes, listBytes, sizesBytes, specBytes, viewsBytes, bodyBytes, encoded, viewAt, listAt, sizesAt, specAt, viewsAt, countAt, headAt, jobAt}
+use Rattle.job.specs.Format.{kindByte, kindOf, elementByte, elementOf, viewBytes, listBytes, sizesBytes, specBytes, viewsBytes, bodyBytes, encoded, viewAt, listAt, sizesAt, specAt, viewsAt, countAt, headAt, jobAt}
+use Rattle.job_bytes.specs.Version.{version}
 use Rattle.job.specs.Made.{MadeView, MadeList, MadeSizes, MadeSpec, Made}
 use Rattle.job.proofs.PartsBack.{list-bytes, view-bytes, list-held, ListRead, list-holds, view-held, view-holds}
 

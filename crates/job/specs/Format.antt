@@ -5,8 +5,9 @@ use Prim.Native.Nat.{ℕ, _+_}
 use lib.Dec.{eqb}
 use lib.ListN.{length}
 use Rattle.layout.specs.declared.View.{View}
-use Rattle.layout.specs.Layouts.{rankLimit, extentsOf, stridesOf}
-use Rattle.job_bytes.specs.Fields.{Field, read, fault, andThen, bytesOf, wordsOf, wordOf, signedOf, numberAt, byteAt, wordsAt, listLimit}
+use Rattle.layout.specs.Layouts.{extentsOf, stridesOf}
+use Rattle.job_bytes.specs.Fields.{Field, read, fault, andThen, bytesOf, wordsOf, wordOf, signedOf, numberAt, byteAt, wordsAt}
+use Rattle.job_bytes.specs.Version.{version, storedRankLimit, listLimit}
 use Rattle.job.specs.declared.Kind.{Kind}
 use Rattle.job.specs.declared.Kind.the-variants as K
 use Rattle.job.specs.declared.Element.{Element}
@@ -16,10 +17,6 @@ use Rattle.job.specs.declared.Views.{Views}
 use Rattle.job.specs.declared.Spec.{Spec}
 use Rattle.job.specs.declared.Job.{Job}
 use Rattle.job.specs.Jobs.{entriesOf, viewOf, viewsOf, specOf}
-
--- "version byte 1"
-abbrev pub version : ℕ
-version = 1
 
 -- "kind byte 1 gather or 2 scatter"
 abbrev pub kindByte : Kind → ℕ
@@ -72,7 +69,7 @@ encoded j = bytesOf 4 (length (bodyBytes j)) ++ bodyBytes j
 -- ---- read
 unfoldable pub viewAt : List ℕ → ℕ → Field View
 viewAt bs at =
-    andThen (byteAt 0 rankLimit bs at) (λ n k.
+    andThen (byteAt 0 storedRankLimit bs at) (λ n k.
     andThen (wordsAt n bs k) (λ es l.
     andThen (wordsAt n bs l) (λ ss m.
     andThen (numberAt 8 bs m) (λ o p. read (viewOf es (map signedOf ss) (signedOf o)) p))))

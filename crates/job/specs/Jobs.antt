@@ -9,8 +9,8 @@ use Rattle.layout.specs.declared.Answer.{Answer}
 use Rattle.layout.specs.declared.Answer.the-variants as A
 use Rattle.layout.specs.declared.View.{View}
 use Rattle.layout.specs.Answers.{isDone, orElse}
-use Rattle.layout.specs.Layouts.{padded, layoutOf, strideLength, rankAtMost}
-use Rattle.job_bytes.specs.Fields.{listLimit}
+use Rattle.layout.specs.Layouts.{padded, layoutOf, strideLength}
+use Rattle.job_bytes.specs.Version.{storedRankLimit, listLimit}
 use Rattle.job.specs.declared.Kind.{Kind}
 use Rattle.job.specs.declared.Kind.the-variants as K
 use Rattle.job.specs.declared.Element.{Element}
@@ -47,6 +47,10 @@ noViews = viewsOf (viewOf [] [] (pos 0)) (viewOf [] [] (pos 0)) (viewOf [] [] (p
 abbrev pub noJob : Job
 noJob = record { kind = K.Gather; element = E.I32; views = noViews; spec = specOf [] [] [] 0 [] }
 
+-- 2: a rank above what is stored
+abbrev pub rankStored : ℕ → Answer
+rankStored n = cond (leb n storedRankLimit) A.Done (A.RankTooLarge n storedRankLimit)
+
 -- 5: "list length against 16"
 abbrev pub listAtMost : ℕ → Answer
 listAtMost n = cond (leb n listLimit) A.Done (A.RankMismatch n listLimit)
@@ -55,7 +59,7 @@ listAtMost n = cond (leb n listLimit) A.Done (A.RankMismatch n listLimit)
 unfoldable pub viewsRefusal : ℕ → ℕ → ℕ → ℕ → ℕ → ℕ → Answer
 viewsRefusal e1 s1 e2 s2 e3 s3 =
     orElse (strideLength e1 s1) (orElse (strideLength e2 s2) (orElse (strideLength e3 s3)
-    (orElse (rankAtMost e1) (orElse (rankAtMost e2) (rankAtMost e3)))))
+    (orElse (rankStored e1) (orElse (rankStored e2) (rankStored e3)))))
 
 unfoldable pub listsRefusal : ℕ → ℕ → ℕ → ℕ → Answer
 listsRefusal a b c d = orElse (listAtMost a) (orElse (listAtMost b) (orElse (listAtMost c) (listAtMost d)))

@@ -7,8 +7,7 @@ use lib.IntN.{ℤ}
 use mir.Syntax.{w64}
 use mir.Val.{SFits}
 use Rattle.layout.specs.declared.View.{View}
-use Rattle.layout.specs.Layouts.{rankLimit}
-use Rattle.job_bytes.specs.Fields.{listLimit}
+use Rattle.job_bytes.specs.Version.{storedRankLimit, listLimit}
 use Rattle.job_bytes.specs.Below.{AllBelow, AllFit}
 use Rattle.job.specs.declared.Kind.{Kind}
 use Rattle.job.specs.declared.Kind.the-variants as K
@@ -24,7 +23,7 @@ pub record MadeView (v : View) : Type 0 where
   pub offset : ℤ
   pub is : v ≡ viewOf extents strides offset
   pub same : length strides ≡ length extents
-  pub few : length extents ≤ rankLimit
+  pub few : length extents ≤ storedRankLimit
   pub words : AllBelow (2 ^ 64) extents
   pub fits : AllFit strides
   pub fit : SFits w64 offset

@@ -4,15 +4,13 @@ ghost use mathlib.Core.Path.{_≡_};
 ghost use mathlib.Core.List.{[]};
 ghost use lib.IntN.{pos};
 ghost use Rattle.job.specs.declared.Kind.the-variants as K;
-ghost use Rattle.job.specs.Jobs.{heldList, viewOf, viewsOf, specOf, noJob, listAtMost, viewsRefusal, listsRefusal, madeJob, jobFrom};
+ghost use Rattle.job.specs.Jobs.{heldList, viewOf, viewsOf, specOf, noJob, rankStored, listAtMost, viewsRefusal, listsRefusal, madeJob, jobFrom};
 use job_bytes::LIST_LIMIT;
+use job_bytes::STORED_RANK_LIMIT;
 use layout::Answer;
 use layout::Layout;
 use layout::RAW_FUSED_RANK_LIMIT;
 use layout::View;
-
-// The version that is read and written.
-pub const VERSION: u64 = 1;
 
 pub enum Kind {
     Gather,
@@ -152,6 +150,17 @@ pub fn list_from(list: &[u64]) -> List16
     }
 }
 
+// 2 for a rank above what is stored.
+fn check_rank(n: usize) -> Answer
+    ensures { λ r. ⌜ r ≡ rankStored n ⌝ }
+{
+    if n <= STORED_RANK_LIMIT {
+        Answer::Done
+    } else {
+        Answer::RankTooLarge(n as u64, STORED_RANK_LIMIT as u64)
+    }
+}
+
 // 1 for all views, then 2: the counts of extents and of strides.
 fn check_views(
     first_extents: usize,
@@ -166,9 +175,9 @@ fn check_views(
     let a = layout::check_stride_length(first_extents, first_strides);
     let b = layout::check_stride_length(second_extents, second_strides);
     let c = layout::check_stride_length(third_extents, third_strides);
-    let d = layout::check_rank(first_extents);
-    let e = layout::check_rank(second_extents);
-    let f = layout::check_rank(third_extents);
+    let d = check_rank(first_extents);
+    let e = check_rank(second_extents);
+    let f = check_rank(third_extents);
     let ranks = checks::or_else(d, checks::or_else(e, f));
     checks::or_else(a, checks::or_else(b, checks::or_else(c, ranks)))
 }
@@ -180,7 +189,7 @@ fn check_list(n: usize) -> Answer
     if n <= LIST_LIMIT {
         Answer::Done
     } else {
-        Answer::RankMismatch(n as u64, 16)
+        Answer::RankMismatch(n as u64, LIST_LIMIT as u64)
     }
 }
 

@@ -10,9 +10,10 @@ use lib.Dec.{leb}
 use lib.ListN.{length, take, drop, getD, set, replicate, length-set, take-append-drop}
 use lib.Seq.{take-suc-set, drop-set-lt, drop-cons, take-all, length-take-le, take-append-seam}
 use Rattle.layout.specs.Layouts.{padded}
-use Rattle.job_bytes.specs.Fields.{Field, read, fault, andThen, numberFrom, numberAt, byteAt, wordsAt, listLimit, heldNumber, heldWords}
+use Rattle.job_bytes.specs.Fields.{Field, read, fault, andThen, numberFrom, numberAt, byteAt, wordsAt, heldNumber, heldWords}
 use Rattle.job_bytes.specs.declared.Number.{Number}
 use Rattle.job_bytes.specs.declared.Words.{Words}
+use Rattle.job_bytes.specs.Version.{listLimit}
 
 -- what a number handed back says of the field
 pub number-read : (f : Field ℕ) (r : Number) → r ≡ heldNumber f → r .ok ≡ true → f ≡ read (r .value) (r .at)

@@ -8,6 +8,7 @@ use lib.IntN.{ℤ}
 use mir.Syntax.{w64}
 use mir.Val.{ofZ, toZ}
 use Rattle.layout.specs.Layouts.{padded}
+use Rattle.job_bytes.specs.Version.{listLimit}
 use Rattle.job_bytes.specs.declared.Number.{Number}
 use Rattle.job_bytes.specs.declared.Words.{Words}
 
@@ -55,10 +56,6 @@ byteAt low high bs at = andThen (numberAt 1 bs at) (λ b k. cond (leb low b && l
 unfoldable pub wordsAt : ℕ → List ℕ → ℕ → Field (List ℕ)
 wordsAt zero bs at = read [] at
 wordsAt (suc n) bs at = andThen (numberAt 8 bs at) (λ w k. andThen (wordsAt n bs k) (λ ws m. read (w ∷ ws) m))
-
--- "a count byte (at most 16)"
-abbrev pub listLimit : ℕ
-listLimit = 16
 
 -- fields as they are handed back by value: zeros where none was read
 abbrev pub heldNumber : Field ℕ → Number

@@ -3,9 +3,14 @@ ghost use mathlib.Core.Path.{_≡_};
 ghost use Prim.Native.Nat.{_+_, _*_, _/_, _%_, _^_, _≤_, _<_};
 ghost use lib.ListN.{length, take, drop};
 ghost use lib.Seq.{sets};
-ghost use Rattle.job_bytes.specs.Fields.{fault, bytesOf, wordsOf, numberFrom, wordOf, signedOf, numberAt, byteAt, wordsAt, listLimit, heldNumber, heldWords};
+ghost use Rattle.job_bytes.specs.Fields.{fault, bytesOf, wordsOf, numberFrom, wordOf, signedOf, numberAt, byteAt, wordsAt, heldNumber, heldWords};
+ghost use Rattle.job_bytes.specs.Version.{listLimit};
 
-// The most entries of a list.
+// The version that is read and written, and the most axes of a stored layout and entries of a list.
+pub const VERSION: u64 = 1;
+
+pub const STORED_RANK_LIMIT: usize = 8;
+
 pub const LIST_LIMIT: usize = 16;
 
 // A number that was read, with the place after it. Where `ok` is false, the place is that of the field at fault.

@@ -11,7 +11,7 @@ use lib.IntN.{ℤ, pos}
 use Rattle.layout.specs.declared.View.{View}
 use Rattle.layout.specs.Layouts.{rankLimit, padded}
 use Rattle.layout.proofs.Fill.{fill-one, fill-short, fill-full}
-use Rattle.job_bytes.specs.Fields.{Field, read, fault, signedOf, numberAt, byteAt, wordsAt, listLimit, heldWords}
+use Rattle.job_bytes.specs.Fields.{Field, read, fault, signedOf, numberAt, byteAt, wordsAt, heldWords}
 use Rattle.job_bytes.specs.declared.Words.{Words}
 use Rattle.job_bytes.proofs.Reading.{words-count, byte-range}
 use Rattle.job.specs.declared.Kind.{Kind}
@@ -25,7 +25,8 @@ use Rattle.job_reader.specs.declared.ReadList.{ReadList}
 use Rattle.job_reader.specs.declared.ReadSpec.{ReadSpec}
 use Rattle.job_reader.specs.declared.ReadHead.{ReadHead}
 use Rattle.job.specs.Jobs.{heldList, viewOf, viewsOf, specOf}
-use Rattle.job.specs.Format.{version, kindOf, elementOf, viewAt, viewsAt, listAt, sizesAt, specAt, countAt, headAt, jobAt}
+use Rattle.job.specs.Format.{kindOf, elementOf, viewAt, viewsAt, listAt, sizesAt, specAt, countAt, headAt, jobAt}
+use Rattle.job_bytes.specs.Version.{version, storedRankLimit, listLimit}
 use Rattle.job_reader.specs.Held.{heldView, heldViews, heldEntries, heldSpec, heldHead}
 
 -- ---- the first n of a list copied into eight places, each by f
@@ -49,28 +50,28 @@ signed-entry n ws i h = ap signedOf (sym (getD-take n ws i 0 h)) ∙ sym (List·
 
 -- ---- a view
 module _ (bs : List ℕ) (at : ℕ) where
-  pub view-1 : (k : ℕ) → byteAt 0 rankLimit bs at ≡ fault k → viewAt bs at ≡ fault k
+  pub view-1 : (k : ℕ) → byteAt 0 storedRankLimit bs at ≡ fault k → viewAt bs at ≡ fault k
   unfolding viewAt
   view-1 k e = rw e
 
-  pub view-2 : (n k m : ℕ) → byteAt 0 rankLimit bs at ≡ read n k → wordsAt n bs k ≡ fault m → viewAt bs at ≡ fault m
+  pub view-2 : (n k m : ℕ) → byteAt 0 storedRankLimit bs at ≡ read n k → wordsAt n bs k ≡ fault m → viewAt bs at ≡ fault m
   unfolding viewAt
   view-2 n k m e f = rw (e, f)
 
-  pub view-3 : (n k : ℕ) (es : List ℕ) (l m : ℕ) → byteAt 0 rankLimit bs at ≡ read n k → wordsAt n bs k ≡ read es l → wordsAt n bs l ≡ fault m → viewAt bs at ≡ fault m
+  pub view-3 : (n k : ℕ) (es : List ℕ) (l m : ℕ) → byteAt 0 storedRankLimit bs at ≡ read n k → wordsAt n bs k ≡ read es l → wordsAt n bs l ≡ fault m → viewAt bs at ≡ fault m
   unfolding viewAt
   view-3 n k es l m e f g = rw (e, f, g)
 
-  pub view-4 : (n k : ℕ) (es : List ℕ) (l : ℕ) (ss : List ℕ) (m p : ℕ) → byteAt 0 rankLimit bs at ≡ read n k → wordsAt n bs k ≡ read es l → wordsAt n bs l ≡ read ss m → numberAt 8 bs m ≡ fault p → viewAt bs at ≡ fault p
+  pub view-4 : (n k : ℕ) (es : List ℕ) (l : ℕ) (ss : List ℕ) (m p : ℕ) → byteAt 0 storedRankLimit bs at ≡ read n k → wordsAt n bs k ≡ read es l → wordsAt n bs l ≡ read ss m → numberAt 8 bs m ≡ fault p → viewAt bs at ≡ fault p
   unfolding viewAt
   view-4 n k es l ss m p e f g h = rw (e, f, g, h)
 
-  pub view-5 : (n k : ℕ) (es : List ℕ) (l : ℕ) (ss : List ℕ) (m o p : ℕ) → byteAt 0 rankLimit bs at ≡ read n k → wordsAt n bs k ≡ read es l → wordsAt n bs l ≡ read ss m → numberAt 8 bs m ≡ read o p → viewAt bs at ≡ read (viewOf es (map signedOf ss) (signedOf o)) p
+  pub view-5 : (n k : ℕ) (es : List ℕ) (l : ℕ) (ss : List ℕ) (m o p : ℕ) → byteAt 0 storedRankLimit bs at ≡ read n k → wordsAt n bs k ≡ read es l → wordsAt n bs l ≡ read ss m → numberAt 8 bs m ≡ read o p → viewAt bs at ≡ read (viewOf es (map signedOf ss) (signedOf o)) p
   unfolding viewAt
   view-5 n k es l ss m o p e f g h = rw (e, f, g, h)
 
 -- as it is handed back
-pub view-held : (bs : List ℕ) (at n k : ℕ) (es : List ℕ) (l : ℕ) (ss : List ℕ) (m o p : ℕ) → byteAt 0 rankLimit bs at ≡ read n k → wordsAt n bs k ≡ read es l → wordsAt n bs l ≡ read ss m → numberAt 8 bs m ≡ read o p
+pub view-held : (bs : List ℕ) (at n k : ℕ) (es : List ℕ) (l : ℕ) (ss : List ℕ) (m o p : ℕ) → byteAt 0 storedRankLimit bs at ≡ read n k → wordsAt n bs k ≡ read es l → wordsAt n bs l ≡ read ss m → numberAt 8 bs m ≡ read o p
     → (extents : List ℕ) (strides : List ℤ) (z : ℤ) → extents ≡ padded rankLimit 1 es → strides ≡ padded rankLimit (pos 0) (map signedOf ss) → z ≡ signedOf o
     → record { ok = true; at = p; view = record { layout = record { rank = n; extents = extents; strides = strides }; offset = z } } ≡ heldView (viewAt bs at)
 view-held bs at n k es l ss m o p e f g h extents strides z b c d = rw (view-5 bs at n k es l ss m o p e f g h, b, c, d, words-count n bs k es l f)
@@ -183,8 +184,8 @@ pub spec-held : (a b c d : List ℕ) (v p : ℕ) (x y z w : List16) → x ≡ he
 spec-held a b c d v p x y z w e f g h = rw (e, f, g, h)
 
 -- a rank is a count of words that can be read
-pub rank-words : (bs : List ℕ) (at n k : ℕ) → byteAt 0 rankLimit bs at ≡ read n k → n ≤ listLimit
-rank-words bs at n k e = omega (arith, byte-range 0 rankLimit bs at n k e .1)
+pub rank-words : (bs : List ℕ) (at n k : ℕ) → byteAt 0 storedRankLimit bs at ≡ read n k → n ≤ listLimit
+rank-words bs at n k e = omega (arith, byte-range 0 storedRankLimit bs at n k e .1)
 
 -- ---- the count of bytes
 module _ (bs : List ℕ) where

@@ -12,10 +12,11 @@ use job::Job;
 use job::Kind;
 use job::List16;
 use job::Spec;
-use job::VERSION;
 use job::Views;
 use job_bytes::LIST_LIMIT;
 use job_bytes::Number;
+use job_bytes::STORED_RANK_LIMIT;
+use job_bytes::VERSION;
 use layout::Answer;
 use layout::Layout;
 use layout::RAW_FUSED_RANK_LIMIT;
@@ -100,7 +101,7 @@ fn view_fault(at: usize) -> ReadView
 fn read_view(bytes: &[u8], at: usize) -> ReadView
     ensures { λ r. ⌜ r ≡ heldView (viewAt (now (bytes .entry)) at) ⌝ }
 {
-    let rank = job_bytes::read_byte(bytes, at, 0, RAW_FUSED_RANK_LIMIT as u64);
+    let rank = job_bytes::read_byte(bytes, at, 0, STORED_RANK_LIMIT as u64);
     if !rank.ok {
         return view_fault(rank.at);
     }

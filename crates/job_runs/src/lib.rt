@@ -7,7 +7,7 @@ ghost use lib.Ieee.{nan};
 ghost use lib.IntN.{pos};
 ghost use Rattle.indexing.specs.Scatter.{scatteredI32, scatteredF64};
 ghost use Rattle.job.specs.declared.Element.the-variants as E;
-ghost use Rattle.job_bytes.specs.Fields.{listLimit};
+ghost use Rattle.job_bytes.specs.Version.{listLimit};
 ghost use Rattle.gather_plan.specs.Plan.{compiledGather};
 ghost use Rattle.scatter_plan.specs.Plan.{compiledScatter};
 ghost use Rattle.job_runs.specs.Runs.{gatherWith, scatterWith, kindAnswer, elementAnswer, refusals, afterCall, openedGather, openedScatter, GatherRun, ScatterRun};

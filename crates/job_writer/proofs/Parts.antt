@@ -15,7 +15,7 @@ use Rattle.layout.specs.declared.View.{View}
 use Rattle.layout.specs.Layouts.{rankLimit, extentsOf, stridesOf}
 use Rattle.layout.proofs.Fill.{fill-one}
 use Rattle.axis_lists.proofs.Filling.{take-count}
-use Rattle.job_bytes.specs.Fields.{bytesOf, wordsOf, wordOf, listLimit}
+use Rattle.job_bytes.specs.Fields.{bytesOf, wordsOf, wordOf}
 use Rattle.job_bytes.proofs.Putting.{sets-append, length-bytes, length-words}
 use Rattle.job.specs.declared.Kind.{Kind}
 use Rattle.job.specs.declared.List16.{List16}
@@ -23,7 +23,8 @@ use Rattle.job.specs.declared.Views.{Views}
 use Rattle.job.specs.declared.Spec.{Spec}
 use Rattle.job.specs.declared.Job.{Job}
 use Rattle.job.specs.Jobs.{entriesOf}
-use Rattle.job.specs.Format.{viewBytes, listBytes, sizesBytes, specBytes, viewsBytes, bodyBytes, encoded, version, kindByte, elementByte}
+use Rattle.job.specs.Format.{viewBytes, listBytes, sizesBytes, specBytes, viewsBytes, bodyBytes, encoded, kindByte, elementByte}
+use Rattle.job_bytes.specs.Version.{version, listLimit}
 use Rattle.job_writer.specs.Written.{Put, Written, Sized}
 
 -- ---- how many bytes

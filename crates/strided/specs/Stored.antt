@@ -3,12 +3,13 @@ use mathlib.Core.Path.{_≡_}
 use mathlib.Core.Bool.{cond}
 use mathlib.Core.List.{List, _++_}
 use Prim.Native.Nat.{ℕ}
-use lib.Dec.{leb}
+use lib.Dec.{leb, eqb}
 use lib.ListN.{length, drop}
 use Rattle.layout.specs.declared.Answer.{Answer}
 use Rattle.layout.specs.declared.Answer.the-variants as A
 use Rattle.layout.specs.Answers.{isDone, orElse}
 use Rattle.job.specs.declared.MadeJob.{MadeJob}
+use Rattle.job.specs.Jobs.{noJob}
 use Rattle.job.specs.Format.{encoded}
 use Rattle.job_runs.specs.declared.RunAnswer.{RunAnswer}
 use Rattle.strided.specs.Words.{words}
@@ -18,6 +19,10 @@ pub record Handed (Does : RunAnswer → Type 0) (answer : List ℕ) : Type 0 whe
   pub ran : RunAnswer
   pub does : Does ran
   pub answered : answer ≡ words (ran .answer)
+
+-- "element byte 1 i32 or 2 f64": a job of any other element is refused by 10, at that byte, before all else
+abbrev pub elementListed : ℕ → MadeJob → MadeJob
+elementListed e m = cond (eqb e 1) m (cond (eqb e 2) m (record { answer = A.JobBytes 6; job = noJob }))
 
 -- the refusal by which a job was not made, then 9, given the bytes that are lent
 abbrev pub storedAnswer : MadeJob → ℕ → Answer

@@ -19,7 +19,7 @@ ghost use Rattle.job.specs.Jobs.{jobFrom};
 ghost use Rattle.job.specs.Format.{elementOf, jobAt};
 ghost use Rattle.job_reader.specs.Held.{readJob};
 ghost use Rattle.job_runs.specs.Runs.{openedGather, openedScatter, GatherRun, ScatterRun};
-ghost use Rattle.strided.specs.Stored.{Handed, Stored, StoredAs};
+ghost use Rattle.strided.specs.Stored.{elementListed, Handed, Stored, StoredAs};
 use gather_plan::CompiledGather;
 use job::Element;
 use job::MadeJob;
@@ -539,7 +539,7 @@ pub extern "C" fn strided_read_job(bytes: &[u8], answer: &mut [u64; 3])
     *answer = words_of(x);
 }
 
-// The element by the number that stands for it in a stored job: 1 is i32, any other f64.
+// The element by the number that stands for it in a stored job. Numbers that are not listed are refused by `listed`.
 fn element_of(element: u64) -> Element
     ensures { λ r. ⌜ r ≡ elementOf element ⌝ }
 {
@@ -548,6 +548,21 @@ fn element_of(element: u64) -> Element
     } else {
         Element::F64
     }
+}
+
+// The job, if its element is listed.
+fn listed(element: u64, made: MadeJob) -> MadeJob
+    ensures { λ r. ⌜ r ≡ elementListed element made ⌝ }
+{
+    if element == 1 {
+        return made;
+    }
+    if element == 2 {
+        return made;
+    }
+    let answer = Answer::JobBytes(6);
+    let job = job::no_job();
+    MadeJob { answer, job }
 }
 
 // The refusal by which a job was not made, or what the writer answers.
@@ -562,8 +577,8 @@ fn store(made: MadeJob, out: &mut [u8]) -> Answer
     job_writer::write_job(job, out)
 }
 
-// Writes a gather as a stored job from the first byte on. The answer as number, a, b: 1, 2, 5 for a list that no job holds, 9 with
-// the bytes that are needed as b.
+// Writes a gather as a stored job from the first byte on. The answer as number, a, b: 10 for an element that is not listed, 1, 2,
+// 5 for a list that no job holds, 9 with the bytes that are needed as b.
 #[no_mangle]
 pub extern "C" fn strided_write_gather_job(
     element: u64,
@@ -584,7 +599,7 @@ pub extern "C" fn strided_write_gather_job(
     out: &mut [u8],
     answer: &mut [u64; 3],
 )
-    ensures { λ _. ⌜ StoredAs (jobFrom K.Gather (elementOf element) (now («operand_extents» .entry)) (now («operand_strides» .entry)) «operand_offset» (now («index_extents» .entry)) (now («index_strides» .entry)) «index_offset» (now («dest_extents» .entry)) (now («dest_strides» .entry)) «dest_offset» (now («offset_dims» .entry)) (now («collapsed_slice_dims» .entry)) (now («start_index_map» .entry)) «index_vector_dim» (now («slice_sizes» .entry))) (now (out .entry)) (now (out .exit)) (now (answer .exit)) ⌝ }
+    ensures { λ _. ⌜ StoredAs (elementListed element (jobFrom K.Gather (elementOf element) (now («operand_extents» .entry)) (now («operand_strides» .entry)) «operand_offset» (now («index_extents» .entry)) (now («index_strides» .entry)) «index_offset» (now («dest_extents» .entry)) (now («dest_strides» .entry)) «dest_offset» (now («offset_dims» .entry)) (now («collapsed_slice_dims» .entry)) (now («start_index_map» .entry)) «index_vector_dim» (now («slice_sizes» .entry)))) (now (out .entry)) (now (out .exit)) (now (answer .exit)) ⌝ }
 {
     let e = element_of(element);
     let made = job::make_gather_job(
@@ -604,7 +619,8 @@ pub extern "C" fn strided_write_gather_job(
         index_vector_dim,
         slice_sizes,
     );
-    let r = store(made, out);
+    let job = listed(element, made);
+    let r = store(job, out);
     *answer = words_of(r);
 }
 
@@ -628,7 +644,7 @@ pub extern "C" fn strided_write_scatter_job(
     out: &mut [u8],
     answer: &mut [u64; 3],
 )
-    ensures { λ _. ⌜ StoredAs (jobFrom K.Scatter (elementOf element) (now («index_extents» .entry)) (now («index_strides» .entry)) «index_offset» (now («updates_extents» .entry)) (now («updates_strides» .entry)) «updates_offset» (now («dest_extents» .entry)) (now («dest_strides» .entry)) «dest_offset» (now («update_window_dims» .entry)) (now («inserted_window_dims» .entry)) (now («scatter_dims_to_operand_dims» .entry)) «index_vector_dim» []) (now (out .entry)) (now (out .exit)) (now (answer .exit)) ⌝ }
+    ensures { λ _. ⌜ StoredAs (elementListed element (jobFrom K.Scatter (elementOf element) (now («index_extents» .entry)) (now («index_strides» .entry)) «index_offset» (now («updates_extents» .entry)) (now («updates_strides» .entry)) «updates_offset» (now («dest_extents» .entry)) (now («dest_strides» .entry)) «dest_offset» (now («update_window_dims» .entry)) (now («inserted_window_dims» .entry)) (now («scatter_dims_to_operand_dims» .entry)) «index_vector_dim» [])) (now (out .entry)) (now (out .exit)) (now (answer .exit)) ⌝ }
 {
     let e = element_of(element);
     let made = job::make_scatter_job(
@@ -647,7 +663,8 @@ pub extern "C" fn strided_write_scatter_job(
         scatter_dims_to_operand_dims,
         index_vector_dim,
     );
-    let r = store(made, out);
+    let job = listed(element, made);
+    let r = store(job, out);
     *answer = words_of(r);
 }
 

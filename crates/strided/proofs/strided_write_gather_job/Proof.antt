@@ -5,6 +5,7 @@ use Rattle.integer.specs.Z.{back}
 use Rattle.job.specs.declared.Kind.the-variants as K
 use Rattle.job.specs.declared.Element.{Element}
 use Rattle.job.specs.Jobs.{jobFrom}
+use Rattle.strided.specs.Stored.{elementListed}
 use Rattle.strided.proofs.Stored.{stored-as}
 use borrow.Author.Needs.{needs}
 use Rattle.strided.proofs.strided_write_gather_job.Statement.{statement}
@@ -22,6 +23,9 @@ make-gather-job-requires : tie.Need-make-gather-job-requires
 make-gather-job-requires c κs = search needs
 
 -- src/lib.rt:411:9
+listed-requires : tie.Need-listed-requires
+listed-requires c κs = search needs
+
 store-requires : tie.Need-store-requires
 store-requires c κs = search needs
 
@@ -36,10 +40,10 @@ same-length c = search needs
 -- src/lib.rt:371:1
 returns : tie.Need-returns
 returns c =
-    let s = c .before .before .before .before .before .before .before .before .before .before .before .before .before .before .before in
+    let s = c .before .before .before .before .before .before .before .before .before .before .before .before .before .before .before .before in
     let f = offsets-fit s in
-    let made = simp (back (f .0), back (f .1), back (f .2)) at (c .before .before .before .before .before .make-gather-job .ensures) in
-    stored-as (c .before .before .before .before .before .make-gather-job .result) _ (s .args .out .now) _ (c .before .before .before .store .result) (c .words-of .result) (made ∙ ap (λ (e : Element). jobFrom K.Gather e (s .args .operand-extents .now) (s .args .operand-strides .now) (s .args .operand-offset) (s .args .index-extents .now) (s .args .index-strides .now) (s .args .index-offset) (s .args .dest-extents .now) (s .args .dest-strides .now) (s .args .dest-offset) (s .args .offset-dims .now) (s .args .collapsed-slice-dims .now) (s .args .start-index-map .now) (s .args .index-vector-dim) (s .args .slice-sizes .now)) (c .before .before .before .before .before .before .element-of .ensures)) (c .before .before .before .store .ensures) (c .words-of .ensures)
+    let made = simp (back (f .0), back (f .1), back (f .2)) at (c .before .before .before .before .before .before .make-gather-job .ensures) in
+    stored-as (c .before .before .before .before .before .listed .result) _ (s .args .out .now) _ (c .before .before .before .store .result) (c .words-of .result) (c .before .before .before .before .before .listed .ensures ∙ ap (elementListed (s .args .element)) (made ∙ ap (λ (e : Element). jobFrom K.Gather e (s .args .operand-extents .now) (s .args .operand-strides .now) (s .args .operand-offset) (s .args .index-extents .now) (s .args .index-strides .now) (s .args .index-offset) (s .args .dest-extents .now) (s .args .dest-strides .now) (s .args .dest-offset) (s .args .offset-dims .now) (s .args .collapsed-slice-dims .now) (s .args .start-index-map .now) (s .args .index-vector-dim) (s .args .slice-sizes .now)) (c .before .before .before .before .before .before .before .element-of .ensures))) (c .before .before .before .store .ensures) (c .words-of .ensures)
 
 pub strided-write-gather-job-spec : {M : Type 1} → statement M
 strided-write-gather-job-spec =
@@ -47,6 +51,7 @@ strided-write-gather-job-spec =
     (tie.spec
     element-of-requires
     make-gather-job-requires
+    listed-requires
     store-requires
     words-of-requires
     same-length

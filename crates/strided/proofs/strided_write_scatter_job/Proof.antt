@@ -6,6 +6,7 @@ use Rattle.integer.specs.Z.{back}
 use Rattle.job.specs.declared.Kind.the-variants as K
 use Rattle.job.specs.declared.Element.{Element}
 use Rattle.job.specs.Jobs.{jobFrom}
+use Rattle.strided.specs.Stored.{elementListed}
 use Rattle.strided.proofs.Stored.{stored-as}
 use borrow.Author.Needs.{needs}
 use Rattle.strided.proofs.strided_write_scatter_job.Statement.{statement}
@@ -23,6 +24,9 @@ make-scatter-job-requires : tie.Need-make-scatter-job-requires
 make-scatter-job-requires c κs = search needs
 
 -- src/lib.rt:454:9
+listed-requires : tie.Need-listed-requires
+listed-requires c κs = search needs
+
 store-requires : tie.Need-store-requires
 store-requires c κs = search needs
 
@@ -37,10 +41,10 @@ same-length c = search needs
 -- src/lib.rt:416:1
 returns : tie.Need-returns
 returns c =
-    let s = c .before .before .before .before .before .before .before .before .before .before .before .before .before .before in
+    let s = c .before .before .before .before .before .before .before .before .before .before .before .before .before .before .before in
     let f = offsets-fit s in
-    let made = simp (back (f .0), back (f .1), back (f .2)) at (c .before .before .before .before .before .make-scatter-job .ensures) in
-    stored-as (c .before .before .before .before .before .make-scatter-job .result) _ (s .args .out .now) _ (c .before .before .before .store .result) (c .words-of .result) (made ∙ ap (λ (e : Element). jobFrom K.Scatter e (s .args .index-extents .now) (s .args .index-strides .now) (s .args .index-offset) (s .args .updates-extents .now) (s .args .updates-strides .now) (s .args .updates-offset) (s .args .dest-extents .now) (s .args .dest-strides .now) (s .args .dest-offset) (s .args .update-window-dims .now) (s .args .inserted-window-dims .now) (s .args .scatter-dims-to-operand-dims .now) (s .args .index-vector-dim) []) (c .before .before .before .before .before .before .element-of .ensures)) (c .before .before .before .store .ensures) (c .words-of .ensures)
+    let made = simp (back (f .0), back (f .1), back (f .2)) at (c .before .before .before .before .before .before .make-scatter-job .ensures) in
+    stored-as (c .before .before .before .before .before .listed .result) _ (s .args .out .now) _ (c .before .before .before .store .result) (c .words-of .result) (c .before .before .before .before .before .listed .ensures ∙ ap (elementListed (s .args .element)) (made ∙ ap (λ (e : Element). jobFrom K.Scatter e (s .args .index-extents .now) (s .args .index-strides .now) (s .args .index-offset) (s .args .updates-extents .now) (s .args .updates-strides .now) (s .args .updates-offset) (s .args .dest-extents .now) (s .args .dest-strides .now) (s .args .dest-offset) (s .args .update-window-dims .now) (s .args .inserted-window-dims .now) (s .args .scatter-dims-to-operand-dims .now) (s .args .index-vector-dim) []) (c .before .before .before .before .before .before .before .element-of .ensures))) (c .before .before .before .store .ensures) (c .words-of .ensures)
 
 pub strided-write-scatter-job-spec : {M : Type 1} → statement M
 strided-write-scatter-job-spec =
@@ -48,6 +52,7 @@ strided-write-scatter-job-spec =
     (tie.spec
     element-of-requires
     make-scatter-job-requires
+    listed-requires
     store-requires
     words-of-requires
     same-length
