@@ -1,0 +1,40 @@
+//! The two types of element.
+
+use crate::ffi;
+
+/// The type of the elements of a grid, as a stored job names it.
+#[derive(Clone, Copy, Debug, Eq, Hash, PartialEq)]
+pub enum ElementType {
+    /// `i32`, whose sums wrap modulo 2^32.
+    I32,
+    /// `f64`, whose sums round one by one.
+    F64,
+}
+
+/// A type of element that can be gathered and scattered: `i32` or `f64`.
+///
+/// It is not for others to implement.
+///
+/// ```
+/// use strided::{Element, ElementType};
+///
+/// fn name<T: Element>() -> &'static str {
+///     match T::TYPE {
+///         ElementType::I32 => "i32",
+///         ElementType::F64 => "f64",
+///     }
+/// }
+/// assert_eq!(name::<f64>(), "f64");
+/// ```
+pub trait Element: Copy + ffi::Calls {
+    /// Which of the two it is.
+    const TYPE: ElementType;
+}
+
+impl Element for i32 {
+    const TYPE: ElementType = ElementType::I32;
+}
+
+impl Element for f64 {
+    const TYPE: ElementType = ElementType::F64;
+}

@@ -1,0 +1,212 @@
+//! Plans: three layouts and a spec that compile has accepted.
+
+use crate::{ffi, Element, GatherSpec, Result, ScatterSpec, StridedMut, StridedRef};
+
+/// Extents and strides that a plan keeps.
+#[derive(Clone, Debug, Eq, PartialEq)]
+pub struct Layout {
+    pub dims: Vec<usize>,
+    pub strides: Vec<isize>,
+}
+
+impl Layout {
+    fn new(dims: &[usize], strides: &[isize]) -> Self {
+        Self {
+            dims: dims.to_vec(),
+            strides: strides.to_vec(),
+        }
+    }
+}
+
+/// A gather that has been compiled for three layouts.
+///
+/// It keeps the layouts and the spec; a call compiles them again, inside the
+/// proved library, and neither call nor compile inside it allocates.
+///
+/// ```
+/// use strided::{GatherPlan, GatherSpec, StridedMut, StridedRef};
+///
+/// // Windows of two of five cells, at the starts 4 and -1, which are clamped
+/// // to 3 and 0.
+/// let spec = GatherSpec {
+///     offset_dims: vec![0],
+///     collapsed_slice_dims: vec![],
+///     start_index_map: vec![0],
+///     index_vector_dim: 1,
+///     slice_sizes: vec![2],
+/// };
+/// let plan = GatherPlan::compile(&[5], &[1], &[2], &[1], &[2, 2], &[1, 2], spec)?;
+///
+/// let mut dest = [0; 4];
+/// plan.execute(
+///     &mut StridedMut::new(&mut dest, &[2, 2], &[1, 2], 0),
+///     &StridedRef::new(&[10, 20, 30, 40, 50], &[5], &[1], 0),
+///     &StridedRef::new(&[4, -1], &[2], &[1], 0),
+/// )?;
+/// assert_eq!(dest, [40, 50, 10, 20]);
+/// # Ok::<(), strided::StridedError>(())
+/// ```
+#[derive(Clone, Debug, Eq, PartialEq)]
+pub struct GatherPlan {
+    pub(crate) operand: Layout,
+    pub(crate) index: Layout,
+    pub(crate) dest: Layout,
+    pub(crate) spec: GatherSpec,
+}
+
+impl GatherPlan {
+    /// Compiles a gather from an operand, at the starts of an index, to a
+    /// destination, each given by extents and strides.
+    ///
+    /// # Errors
+    ///
+    /// The first of the refusals 1 to 7 that is met.
+    pub fn compile(
+        operand_dims: &[usize],
+        operand_strides: &[isize],
+        index_dims: &[usize],
+        index_strides: &[isize],
+        dest_dims: &[usize],
+        dest_strides: &[isize],
+        spec: GatherSpec,
+    ) -> Result<Self> {
+        ffi::gather_refusal(
+            (operand_dims, operand_strides),
+            (index_dims, index_strides),
+            (dest_dims, dest_strides),
+            &spec,
+        )?;
+        Ok(Self {
+            operand: Layout::new(operand_dims, operand_strides),
+            index: Layout::new(index_dims, index_strides),
+            dest: Layout::new(dest_dims, dest_strides),
+            spec,
+        })
+    }
+
+    /// The spec that was compiled.
+    pub fn spec(&self) -> &GatherSpec {
+        &self.spec
+    }
+
+    /// The extents of the destination that was compiled for.
+    pub fn dest_dims(&self) -> &[usize] {
+        &self.dest.dims
+    }
+
+    /// Reads the windows at the starts, which are clamped so that each window
+    /// lies inside the operand, and writes them to the destination bit for
+    /// bit. Elements that no coordinate of the destination names stay.
+    ///
+    /// # Errors
+    ///
+    /// 8 where a view has another layout than the plan, then 9 for the first
+    /// view (operand 1, index 2, destination 3) that reaches outside its
+    /// slice. No element is changed then.
+    pub fn execute<T: Element>(
+        &self,
+        dest: &mut StridedMut<'_, T>,
+        operand: &StridedRef<'_, T>,
+        start_indices: &StridedRef<'_, i64>,
+    ) -> Result<()> {
+        T::raw_gather(self, dest, operand, start_indices)
+    }
+}
+
+/// A scatter that has been compiled for three layouts. The updates are added
+/// to what the destination holds.
+///
+/// It keeps the layouts and the spec; a call compiles them again, inside the
+/// proved library, and neither call nor compile inside it allocates.
+///
+/// ```
+/// use strided::{ScatterPlan, ScatterSpec, StridedMut, StridedRef};
+///
+/// // Three cells added to a grid of five, at the starts 0, 0 and 9; the last
+/// // is clamped to 4.
+/// let spec = ScatterSpec {
+///     update_window_dims: vec![],
+///     inserted_window_dims: vec![0],
+///     scatter_dims_to_operand_dims: vec![0],
+///     index_vector_dim: 1,
+/// };
+/// let plan = ScatterPlan::compile(&[3], &[1], &[3], &[1], &[5], &[1], spec)?;
+///
+/// let mut grid = [0; 5];
+/// plan.execute(
+///     &mut StridedMut::new(&mut grid, &[5], &[1], 0),
+///     &StridedRef::new(&[0, 0, 9], &[3], &[1], 0),
+///     &StridedRef::new(&[3, 4, 5], &[3], &[1], 0),
+/// )?;
+/// assert_eq!(grid, [7, 0, 0, 0, 5]);
+/// # Ok::<(), strided::StridedError>(())
+/// ```
+#[derive(Clone, Debug, Eq, PartialEq)]
+pub struct ScatterPlan {
+    pub(crate) index: Layout,
+    pub(crate) updates: Layout,
+    pub(crate) dest: Layout,
+    pub(crate) spec: ScatterSpec,
+}
+
+impl ScatterPlan {
+    /// Compiles a scatter of updates, at the starts of an index, to a
+    /// destination, each given by extents and strides.
+    ///
+    /// # Errors
+    ///
+    /// The first of the refusals 1 to 7 that is met.
+    pub fn compile(
+        index_dims: &[usize],
+        index_strides: &[isize],
+        update_dims: &[usize],
+        update_strides: &[isize],
+        dest_dims: &[usize],
+        dest_strides: &[isize],
+        spec: ScatterSpec,
+    ) -> Result<Self> {
+        ffi::scatter_refusal(
+            (index_dims, index_strides),
+            (update_dims, update_strides),
+            (dest_dims, dest_strides),
+            &spec,
+        )?;
+        Ok(Self {
+            index: Layout::new(index_dims, index_strides),
+            updates: Layout::new(update_dims, update_strides),
+            dest: Layout::new(dest_dims, dest_strides),
+            spec,
+        })
+    }
+
+    /// The spec that was compiled.
+    pub fn spec(&self) -> &ScatterSpec {
+        &self.spec
+    }
+
+    /// The extents of the destination that was compiled for.
+    pub fn dest_dims(&self) -> &[usize] {
+        &self.dest.dims
+    }
+
+    /// Adds each update to the element it lands on, batch by batch and, inside
+    /// a window, cell by cell, first axis fastest. Starts are clamped so that
+    /// each window lies inside the destination; none is skipped.
+    ///
+    /// The time goes by the number of update coordinates, which a stride of 0
+    /// lets be larger than any slice.
+    ///
+    /// # Errors
+    ///
+    /// 8 where a view has another layout than the plan, then 9 for the first
+    /// view (index 1, updates 2, destination 3) that reaches outside its
+    /// slice. No element is changed then.
+    pub fn execute<T: Element>(
+        &self,
+        dest: &mut StridedMut<'_, T>,
+        scatter_indices: &StridedRef<'_, i64>,
+        updates: &StridedRef<'_, T>,
+    ) -> Result<()> {
+        T::raw_scatter(self, dest, scatter_indices, updates)
+    }
+}
