@@ -3,7 +3,7 @@
 use std::env;
 use std::io::ErrorKind;
 use std::path::{Path, PathBuf};
-use std::process::Command;
+use std::process::{Command, Output};
 
 const ARCHIVE: &str = "libstrided.a";
 const FOLDER: &str = "STRIDED_LIB_DIR";
@@ -45,15 +45,15 @@ fn named(folder: PathBuf) -> Result<PathBuf, String> {
 }
 
 fn in_repository() -> Result<PathBuf, String> {
-    let root = Path::new(env!("CARGO_MANIFEST_DIR")).join("../..");
+    // Asked when the script runs: copies of this crate may share the compiled script.
+    let package = env::var_os("CARGO_MANIFEST_DIR").unwrap_or_default();
+    let root = Path::new(&package).join("../..");
     let folder = root.join("target/staticlib");
     if folder.join(ARCHIVE).is_file() {
         return Ok(folder);
     }
     if !root.join("crates.txt").is_file() {
-        return Err(missing(
-            "this crate stands outside the repository that makes it",
-        ));
+        return Err(missing("this crate stands outside its repository"));
     }
     make(&root)?;
     match folder.join(ARCHIVE).is_file() {
@@ -68,19 +68,31 @@ fn make(root: &Path) -> Result<(), String> {
         .args(["staticlib", "strided"])
         .current_dir(root)
         .output();
-    match made {
-        Ok(output) if output.status.success() => {
-            println!("cargo::warning={ARCHIVE} was missing and has been made by `rt staticlib strided`, which takes some ten minutes");
-            Ok(())
+    let output = match made {
+        Err(error) if error.kind() == ErrorKind::NotFound => {
+            let why = "the Rattle toolchain's command rt is not on the PATH";
+            return Err(missing(why));
         }
-        Ok(output) => Err(missing(&format!(
+        Err(error) => return Err(missing(&format!("rt cannot be started ({error})"))),
+        Ok(output) => output,
+    };
+    println!("cargo::warning={ARCHIVE} was missing: `rt staticlib strided` was run, which takes some ten minutes");
+    match output.status.success() {
+        true => Ok(()),
+        false => Err(missing(&format!(
             "`rt staticlib strided` has failed ({})",
-            output.status
+            last_line(&output)
         ))),
-        Err(error) if error.kind() == ErrorKind::NotFound => Err(missing(
-            "the Rattle toolchain's command rt is not on the PATH",
-        )),
-        Err(error) => Err(missing(&format!("rt cannot be started: {error}"))),
+    }
+}
+
+/// What a command said last, or its status where it said nothing.
+fn last_line(output: &Output) -> String {
+    let said = [&output.stdout[..], &output.stderr[..]].concat();
+    let said = String::from_utf8_lossy(&said);
+    match said.lines().rfind(|line| !line.trim().is_empty()) {
+        Some(line) => line.trim().to_string(),
+        None => output.status.to_string(),
     }
 }
 

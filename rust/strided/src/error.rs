@@ -9,7 +9,7 @@ use core::fmt;
 /// them as the C interface does. The text says the same in words.
 ///
 /// ```
-/// use strided::{StridedError, ViewLayout, GatherPlan, GatherSpec};
+/// use strided::{GatherPlan, GatherSpec, StridedError};
 ///
 /// // The index has rank 1, so that its vector axis is 0 or 1.
 /// let spec = GatherSpec {
@@ -197,3 +197,40 @@ impl fmt::Display for StridedError {
 }
 
 impl std::error::Error for StridedError {}
+
+#[cfg(test)]
+mod tests {
+    use super::StridedError;
+
+    #[test]
+    fn words_come_back_as_they_were() {
+        for number in 1..20 {
+            for (a, b) in [(0, 0), (3, 0), (0, 3), (u64::MAX, 7)] {
+                let refusal = StridedError::check([number, a, b]).unwrap_err();
+                assert_eq!(refusal.words(), [number, a, b]);
+                assert!(!refusal.to_string().is_empty());
+            }
+        }
+        assert_eq!(StridedError::check([0, 0, 0]), Ok(()));
+    }
+
+    #[test]
+    fn a_refusal_without_a_name() {
+        let refusal = StridedError::check([11, 40, 0]).unwrap_err();
+        let named = StridedError::Unknown {
+            number: 11,
+            a: 40,
+            b: 0,
+        };
+        assert_eq!(refusal, named);
+        let words = "refusal 11 (40, 0), which has no name here";
+        assert_eq!(refusal.to_string(), words);
+    }
+
+    #[test]
+    fn a_writer_without_room() {
+        let refusal = StridedError::check([9, 0, 152]).unwrap_err();
+        let words = "a stored job needs room for 152 bytes";
+        assert_eq!(refusal.to_string(), words);
+    }
+}

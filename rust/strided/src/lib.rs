@@ -1,4 +1,95 @@
 //! Gather and scatter on strided grids, by a proved library.
+//!
+//! A gather reads windows of a grid at given starts; a scatter adds updates to
+//! a grid at given starts. Each grid is a view: extents, strides and an offset,
+//! in elements, over a slice. The axis lists are those of StableHLO's gather
+//! and scatter. Starts are clamped so that a window lies inside its grid.
+//!
+//! The work is done by the C library `libstrided.a`, whose answers and elements
+//! are proved equal to written definitions. This crate adds names and borrows,
+//! and decides nothing by itself: every refusal, clamp, cell and sum comes from
+//! the library.
+//!
+//! # A gather
+//!
+//! ```
+//! use strided::{GatherPlan, GatherSpec, StridedMut, StridedRef};
+//!
+//! // Windows of two cells of a grid of five, shown on axis 0.
+//! let spec = GatherSpec {
+//!     offset_dims: vec![0],
+//!     collapsed_slice_dims: vec![],
+//!     start_index_map: vec![0],
+//!     index_vector_dim: 1,
+//!     slice_sizes: vec![2],
+//! };
+//! let plan = GatherPlan::compile(&[5], &[1], &[2], &[1], &[2, 2], &[1, 2], spec)?;
+//!
+//! let depths = [10, 20, 30, 40, 50];
+//! let starts = [4, -1]; // clamped to 3 and 0
+//! let mut windows = [0; 4];
+//! plan.execute(
+//!     &mut StridedMut::new(&mut windows, &[2, 2], &[1, 2], 0),
+//!     &StridedRef::new(&depths, &[5], &[1], 0),
+//!     &StridedRef::new(&starts, &[2], &[1], 0),
+//! )?;
+//! assert_eq!(windows, [40, 50, 10, 20]);
+//! # Ok::<(), strided::StridedError>(())
+//! ```
+//!
+//! # A scatter
+//!
+//! ```
+//! use strided::{ScatterPlan, ScatterSpec, StridedMut, StridedRef};
+//!
+//! let spec = ScatterSpec {
+//!     update_window_dims: vec![],
+//!     inserted_window_dims: vec![0],
+//!     scatter_dims_to_operand_dims: vec![0],
+//!     index_vector_dim: 1,
+//! };
+//! let plan = ScatterPlan::compile(&[3], &[1], &[3], &[1], &[5], &[1], spec)?;
+//!
+//! let starts = [0, 0, 9]; // the last is clamped to 4
+//! let mut grid = [0.0; 5];
+//! plan.execute(
+//!     &mut StridedMut::new(&mut grid, &[5], &[1], 0),
+//!     &StridedRef::new(&starts, &[3], &[1], 0),
+//!     &StridedRef::new(&[3.0, 4.0, 5.0], &[3], &[1], 0),
+//! )?;
+//! assert_eq!(grid, [7.0, 0.0, 0.0, 0.0, 5.0]);
+//! # Ok::<(), strided::StridedError>(())
+//! ```
+//!
+//! # Stored jobs
+//!
+//! A [`Job`] is a gather or a scatter with its views. [`Job::to_bytes`] stores
+//! it and [`Job::from_bytes`] reads it; [`gather_job`] and [`scatter_job`] run
+//! the bytes as they are.
+//!
+//! # Refusals
+//!
+//! Every function answers for all arguments. What cannot be done is refused by
+//! a [`StridedError`], and then no element of a destination has changed. Nothing
+//! here panics.
+//!
+//! # Elements
+//!
+//! An element is an `i32`, whose sums wrap modulo 2^32, or an `f64`, whose sums
+//! round one by one in the order of the updates. A gather copies elements bit
+//! for bit, those of a NaN too; which NaN a sum gives is left open. Starts are
+//! `i64`.
+//!
+//! # Why the calls are sound
+//!
+//! The library asks its caller for true counts, for pointers that are aligned
+//! and not null, and that what it writes overlaps nothing else. All three are
+//! what Rust's borrows guarantee: a slice goes over as its own pointer and
+//! length and stays borrowed for the call, and a destination is borrowed by
+//! `&mut`. The library then reads and writes only inside the slices, whatever
+//! the extents, strides, offsets and starts are; that is proved. So every
+//! function here is safe; the unsafe code stands in one module, `ffi`, and does
+//! nothing but hand the slices over.
 #![deny(missing_docs)]
 #![deny(unsafe_code)]
 
@@ -27,3 +118,8 @@ pub const RANK_LIMIT: usize = 8;
 
 /// The most entries that an axis list of a stored job has.
 pub const LIST_LIMIT: usize = 16;
+
+/// The examples of the page about this crate are run with the others.
+#[cfg(doctest)]
+#[doc = include_str!("../../README.md")]
+struct Page;

@@ -61,6 +61,21 @@ impl GatherPlan {
     /// # Errors
     ///
     /// The first of the refusals 1 to 7 that is met.
+    ///
+    /// ```
+    /// use strided::{GatherPlan, GatherSpec, StridedError};
+    ///
+    /// let spec = GatherSpec {
+    ///     offset_dims: vec![0],
+    ///     collapsed_slice_dims: vec![],
+    ///     start_index_map: vec![0],
+    ///     index_vector_dim: 1,
+    ///     slice_sizes: vec![2],
+    /// };
+    /// // Both axes of the destination step by 1, so that cells share elements.
+    /// let refusal = GatherPlan::compile(&[5], &[1], &[2], &[1], &[2, 2], &[1, 1], spec).unwrap_err();
+    /// assert_eq!(refusal, StridedError::NonInjectiveOutputLayout);
+    /// ```
     pub fn compile(
         operand_dims: &[usize],
         operand_strides: &[isize],
@@ -103,6 +118,33 @@ impl GatherPlan {
     /// 8 where a view has another layout than the plan, then 9 for the first
     /// view (operand 1, index 2, destination 3) that reaches outside its
     /// slice. No element is changed then.
+    ///
+    /// ```
+    /// use strided::{GatherPlan, GatherSpec, StridedError, StridedMut, StridedRef};
+    ///
+    /// let spec = GatherSpec {
+    ///     offset_dims: vec![],
+    ///     collapsed_slice_dims: vec![0],
+    ///     start_index_map: vec![0],
+    ///     index_vector_dim: 1,
+    ///     slice_sizes: vec![1],
+    /// };
+    /// let plan = GatherPlan::compile(&[3], &[1], &[2], &[1], &[2], &[1], spec)?;
+    /// let soundings = [1.5, -0.0, f64::NAN];
+    /// let operand = StridedRef::new(&soundings, &[3], &[1], 0);
+    /// let starts = StridedRef::new(&[2, 1], &[2], &[1], 0);
+    ///
+    /// let mut cells = [8.0; 3];
+    /// plan.execute(&mut StridedMut::new(&mut cells, &[2], &[1], 1), &operand, &starts)?;
+    /// assert_eq!(cells.map(f64::to_bits), [8.0, f64::NAN, -0.0].map(f64::to_bits));
+    ///
+    /// // Begun one element later, the destination leaves its slice.
+    /// let refusal = plan
+    ///     .execute(&mut StridedMut::new(&mut cells, &[2], &[1], 2), &operand, &starts)
+    ///     .unwrap_err();
+    /// assert_eq!(refusal, StridedError::BufferBounds { view: 3, bytes_needed: 0 });
+    /// # Ok::<(), StridedError>(())
+    /// ```
     pub fn execute<T: Element>(
         &self,
         dest: &mut StridedMut<'_, T>,
@@ -156,6 +198,20 @@ impl ScatterPlan {
     /// # Errors
     ///
     /// The first of the refusals 1 to 7 that is met.
+    ///
+    /// ```
+    /// use strided::{ScatterPlan, ScatterSpec, StridedError};
+    ///
+    /// let spec = ScatterSpec {
+    ///     update_window_dims: vec![],
+    ///     inserted_window_dims: vec![0],
+    ///     scatter_dims_to_operand_dims: vec![0],
+    ///     index_vector_dim: 1,
+    /// };
+    /// // Three starts, but four updates.
+    /// let refusal = ScatterPlan::compile(&[3], &[1], &[4], &[1], &[5], &[1], spec).unwrap_err();
+    /// assert_eq!(refusal, StridedError::ShapeMismatch { given: 1, expected: 1 });
+    /// ```
     pub fn compile(
         index_dims: &[usize],
         index_strides: &[isize],
@@ -201,6 +257,27 @@ impl ScatterPlan {
     /// 8 where a view has another layout than the plan, then 9 for the first
     /// view (index 1, updates 2, destination 3) that reaches outside its
     /// slice. No element is changed then.
+    ///
+    /// ```
+    /// use strided::{ScatterPlan, ScatterSpec, StridedMut, StridedRef};
+    ///
+    /// // One cut of two cells, at the start 1 of a grid with one axis.
+    /// let spec = ScatterSpec {
+    ///     update_window_dims: vec![0],
+    ///     inserted_window_dims: vec![],
+    ///     scatter_dims_to_operand_dims: vec![0],
+    ///     index_vector_dim: 0,
+    /// };
+    /// let plan = ScatterPlan::compile(&[1], &[1], &[2], &[1], &[3], &[1], spec)?;
+    /// let mut grid = [10, 20, i32::MAX];
+    /// plan.execute(
+    ///     &mut StridedMut::new(&mut grid, &[3], &[1], 0),
+    ///     &StridedRef::new(&[1], &[1], &[1], 0),
+    ///     &StridedRef::new(&[5, 1], &[2], &[1], 0),
+    /// )?;
+    /// assert_eq!(grid, [10, 25, i32::MIN]);
+    /// # Ok::<(), strided::StridedError>(())
+    /// ```
     pub fn execute<T: Element>(
         &self,
         dest: &mut StridedMut<'_, T>,

@@ -188,6 +188,16 @@ impl ViewLayout {
     }
 
     /// The view of a slice by this layout, to be written.
+    ///
+    /// ```
+    /// use strided::ViewLayout;
+    ///
+    /// // The second row of a grid of two rows.
+    /// let row = ViewLayout { dims: vec![3], strides: vec![1], offset: 3 };
+    /// let mut grid = [0; 6];
+    /// assert_eq!(row.view_mut(&mut grid).offset(), 3);
+    /// assert_eq!(row.view(&grid).data().len(), 6);
+    /// ```
     pub fn view_mut<'a, T>(&'a self, data: &'a mut [T]) -> StridedMut<'a, T> {
         StridedMut::new(data, &self.dims, &self.strides, self.offset)
     }

@@ -1,0 +1,10 @@
+//! The crate as its users call it.
+
+mod arguments;
+mod cases;
+mod elements;
+mod jobs;
+mod limits;
+mod random;
+mod reference;
+mod refusals;

@@ -1,0 +1,178 @@
+//! Gathers and scatters beside plain loops over all coordinates.
+
+use crate::cases::{bits, cells, summed, Cell, GatherCase, ScatterCase};
+use crate::random::Random;
+use strided::{gather_job, scatter_job, GatherJob, Job, ScatterJob, ViewLayout};
+
+const CASES: usize = 4000;
+
+#[test]
+fn gathers_of_i32() {
+    gathers::<i32>(11);
+}
+
+#[test]
+fn gathers_of_f64() {
+    gathers::<f64>(12);
+}
+
+#[test]
+fn scatters_of_i32() {
+    scatters::<i32>(13);
+}
+
+#[test]
+fn scatters_of_f64() {
+    scatters::<f64>(14);
+}
+
+fn gathers<T: Cell>(seed: u64) {
+    let mut random = Random::new(seed);
+    for case in 0..CASES {
+        let call = GatherCase::random(&mut random, T::TYPE);
+        let operand = cells::<T>(&mut random, call.operand_len);
+        let before = cells::<T>(&mut random, call.dest_len);
+
+        let mut expected = before.clone();
+        plain_gather(&call.job, &operand, &call.starts, &mut expected);
+
+        let mut dest = before.clone();
+        let plan = call.job.compile().expect("a valid gather");
+        plan.execute(
+            &mut call.job.dest.view_mut(&mut dest),
+            &call.job.operand.view(&operand),
+            &call.job.index.view(&call.starts),
+        )
+        .expect("views inside their slices");
+        assert_eq!(bits(&dest), bits(&expected), "case {case}: {:?}", call.job);
+
+        let mut dest = before;
+        let job = Job::Gather(call.job).to_bytes().expect("a small job");
+        gather_job(&job, &operand, &call.starts, &mut dest).expect("the same by its job");
+        assert_eq!(bits(&dest), bits(&expected), "case {case}, by its job");
+    }
+}
+
+fn scatters<T: Cell>(seed: u64) {
+    let mut random = Random::new(seed);
+    for case in 0..CASES {
+        let call = ScatterCase::random(&mut random, T::TYPE);
+        let updates = cells::<T>(&mut random, call.updates_len);
+        let before = cells::<T>(&mut random, call.dest_len);
+
+        let mut expected = before.clone();
+        plain_scatter(&call.job, &call.starts, &updates, &mut expected);
+
+        let mut dest = before.clone();
+        let plan = call.job.compile().expect("a valid scatter");
+        plan.execute(
+            &mut call.job.dest.view_mut(&mut dest),
+            &call.job.index.view(&call.starts),
+            &call.job.updates.view(&updates),
+        )
+        .expect("views inside their slices");
+        assert_eq!(
+            summed(&dest),
+            summed(&expected),
+            "case {case}: {:?}",
+            call.job
+        );
+
+        let mut dest = before;
+        let job = Job::Scatter(call.job).to_bytes().expect("a small job");
+        scatter_job(&job, &call.starts, &updates, &mut dest).expect("the same by its job");
+        assert_eq!(summed(&dest), summed(&expected), "case {case}, by its job");
+    }
+}
+
+fn plain_gather<T: Cell>(job: &GatherJob, operand: &[T], starts: &[i64], dest: &mut [T]) {
+    let spec = &job.spec;
+    let kept = others(job.operand.dims.len(), &spec.collapsed_slice_dims);
+    let batch_axes = others(job.dest.dims.len(), &spec.offset_dims);
+    for cell in coordinates(&job.dest.dims) {
+        let batch: Vec<usize> = batch_axes.iter().map(|&axis| cell[axis]).collect();
+        let components = components(&job.index, starts, spec.index_vector_dim, &batch);
+        let mut read = vec![0; job.operand.dims.len()];
+        for (&axis, &shown) in kept.iter().zip(&spec.offset_dims) {
+            read[axis] = cell[shown];
+        }
+        for (&axis, component) in spec.start_index_map.iter().zip(components) {
+            read[axis] += clamped(component, job.operand.dims[axis], spec.slice_sizes[axis]);
+        }
+        dest[place(&job.dest, &cell)] = operand[place(&job.operand, &read)];
+    }
+}
+
+fn plain_scatter<T: Cell>(job: &ScatterJob, starts: &[i64], updates: &[T], dest: &mut [T]) {
+    let spec = &job.spec;
+    let kept = others(job.dest.dims.len(), &spec.inserted_window_dims);
+    let batch_axes = others(job.updates.dims.len(), &spec.update_window_dims);
+    let extents = |axes: &[usize]| -> Vec<usize> {
+        axes.iter().map(|&axis| job.updates.dims[axis]).collect()
+    };
+    let window = extents(&spec.update_window_dims);
+    let mut windows = vec![1; job.dest.dims.len()];
+    for (&axis, &extent) in kept.iter().zip(&window) {
+        windows[axis] = extent;
+    }
+    for batch in coordinates(&extents(&batch_axes)) {
+        for cell in coordinates(&window) {
+            let components = components(&job.index, starts, spec.index_vector_dim, &batch);
+            let mut taken = vec![0; job.updates.dims.len()];
+            let mut lands = vec![0; job.dest.dims.len()];
+            for (&axis, &coordinate) in batch_axes.iter().zip(&batch) {
+                taken[axis] = coordinate;
+            }
+            for (at, &coordinate) in cell.iter().enumerate() {
+                taken[spec.update_window_dims[at]] = coordinate;
+                lands[kept[at]] = coordinate;
+            }
+            for (&axis, component) in spec.scatter_dims_to_operand_dims.iter().zip(components) {
+                lands[axis] += clamped(component, job.dest.dims[axis], windows[axis]);
+            }
+            let element = &mut dest[place(&job.dest, &lands)];
+            *element = element.plus(updates[place(&job.updates, &taken)]);
+        }
+    }
+}
+
+/// The axes below `rank` that are not listed.
+fn others(rank: usize, listed: &[usize]) -> Vec<usize> {
+    (0..rank).filter(|axis| !listed.contains(axis)).collect()
+}
+
+/// All coordinates, first axis fastest.
+fn coordinates(dims: &[usize]) -> Vec<Vec<usize>> {
+    let mut all = vec![vec![]];
+    for &dim in dims.iter().rev() {
+        let behind = |c: usize, rest: &Vec<usize>| [&[c], &rest[..]].concat();
+        all = all
+            .iter()
+            .flat_map(|rest| (0..dim).map(move |c| behind(c, rest)))
+            .collect();
+    }
+    all
+}
+
+fn place(view: &ViewLayout, coordinate: &[usize]) -> usize {
+    let steps = coordinate.iter().zip(&view.strides);
+    let sum: isize = steps.map(|(&c, &stride)| c as isize * stride).sum();
+    (view.offset + sum) as usize
+}
+
+/// The components of the start at a batch coordinate.
+fn components(index: &ViewLayout, starts: &[i64], vector: usize, batch: &[usize]) -> Vec<i64> {
+    let count = index.dims.get(vector).copied().unwrap_or(1);
+    let at = |component: usize| {
+        let mut coordinate = batch.to_vec();
+        if vector < index.dims.len() {
+            coordinate.insert(vector, component);
+        }
+        starts[place(index, &coordinate)]
+    };
+    (0..count).map(at).collect()
+}
+
+fn clamped(start: i64, extent: usize, window: usize) -> usize {
+    start.clamp(0, (extent - window) as i64) as usize
+}
