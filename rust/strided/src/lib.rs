@@ -90,6 +90,20 @@
 //! the extents, strides, offsets and starts are; that is proved. So every
 //! function here is safe; the unsafe code stands in one module, `ffi`, and does
 //! nothing but hand the slices over.
+//!
+//! A destination that is read in the same call is not accepted:
+//!
+//! ```compile_fail
+//! # use strided::{GatherPlan, StridedMut, StridedRef};
+//! # fn within(plan: &GatherPlan) -> strided::Result<()> {
+//! let mut grid = [10, 20, 30, 40, 50];
+//! plan.execute(
+//!     &mut StridedMut::new(&mut grid, &[2, 2], &[1, 2], 0),
+//!     &StridedRef::new(&grid, &[5], &[1], 0),
+//!     &StridedRef::new(&[4, -1], &[2], &[1], 0),
+//! )
+//! # }
+//! ```
 #![deny(missing_docs)]
 #![deny(unsafe_code)]
 

@@ -3,6 +3,7 @@
 mod arguments;
 mod cases;
 mod elements;
+mod header;
 mod jobs;
 mod limits;
 mod random;
