@@ -178,6 +178,7 @@ fn grids_without_axes() {
 fn layouts_whose_strides_do_not_fit() {
     assert_eq!(ViewLayout::column_major(&[usize::MAX, 1]), None);
     assert_eq!(ViewLayout::row_major(&[1, 1 << 32, 1 << 31]), None);
+    assert_eq!(ViewLayout::column_major(&[1 << 32, 1 << 32, 5]), None);
     // The last product is no stride.
     assert!(ViewLayout::column_major(&[1, usize::MAX]).is_some());
     assert!(ViewLayout::column_major(&[0, usize::MAX, 2]).is_some());
