@@ -81,17 +81,22 @@ fn gathers(rounds: usize, some: &str) {
 #[cfg(feature = "scatter")]
 fn scatters(rounds: usize, some: &str) {
     use original::Scatter;
+    let square = [1000, 1000];
+    let narrow = [500, 2000];
     let rank_four = [20, 20, 20, 20];
     for (name, job) in [
-        (
-            "64×64, 256 starts",
-            Job::windows(&[1000, 1000], &[64, 64], 256),
-        ),
+        ("64×64, 256 starts", Job::windows(&square, &[64, 64], 256)),
+        ("4×4, 65536 starts", Job::windows(&square, &[4, 4], 65536)),
+        ("256×256, 16 starts", Job::windows(&square, &[256, 256], 16)),
+        ("4×1024, 256 starts", Job::windows(&narrow, &[4, 1024], 256)),
         ("scalars, rank one", Job::puts(1_000_000, 1_000_000)),
         (
             "8×8×8×8, 256 starts, strides of 2",
             Job::windows(&rank_four, &[8, 8, 8, 8], 256).apart(2),
         ),
+        ("1×1, 1 start", Job::windows(&[100, 100], &[1, 1], 1)),
+        ("5×2, 1 start", Job::windows(&[100, 100], &[5, 2], 1)),
+        ("10×10, 1 start", Job::windows(&[100, 100], &[10, 10], 1)),
     ] {
         let name = format!("scatter {name}");
         if name.contains(some) {

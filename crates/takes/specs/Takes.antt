@@ -55,8 +55,12 @@ pub record Clamped (starts : List ℤ) (t ts base stride other step : ℤ) (limi
   pub clamped : (k : ℕ) → k < n → InSlice cn (clampedAt starts (line t ts) base stride limit k)
   pub plain : Line other step n pn
 
--- one start for each of n cells, and inside a slice of cn elements the places that they give, where every step is 1
-pub record Ones (starts : List ℤ) (base limit : ℤ) (n cn : ℕ) : Type 0 where
+-- the same in a slice that begins at the base, where every step is 1: the start itself, clamped
+abbrev pub oneAt : List ℤ → ℤ → ℕ → ℤ
+oneAt starts limit k = clamp (elementAt (pos 0) starts (pos k)) (natAbs limit) 0
+
+-- one start for each of n cells, and inside a slice of cn elements the places that they give
+pub record Ones (starts : List ℤ) (limit : ℤ) (n cn : ℕ) : Type 0 where
   pub low : pos 0 ≤ℤ limit
   pub each : length starts ≡ n
-  pub clamped : (k : ℕ) → k < n → InSlice cn (clampedAt starts pos base (pos 1) (natAbs limit) k)
+  pub clamped : (k : ℕ) → k < n → InSlice cn (oneAt starts limit k)

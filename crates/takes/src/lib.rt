@@ -1,15 +1,16 @@
 // Runs whose places on one side are given by starts, each clamped: windows of one cell, whose start changes with each cell.
 ghost use mathlib.Core.Path.{_≡_};
 ghost use lib.Ieee.{nan};
-ghost use Prim.Native.Nat.{_-_, _<_, _^_};
+ghost use Prim.Native.Nat.{_-_, _<_, _≤_, _^_};
 ghost use lib.IntN.{pos, natAbs, _+ℤ_};
 ghost use lib.Signed.{_≤ℤ_};
 ghost use lib.ListN.{length};
+ghost use Rattle.integer.specs.Z.{up};
 ghost use Rattle.indexing.specs.Start.{clamp};
 ghost use Rattle.indexing.specs.Loops.{inOrder};
 ghost use Rattle.runs.specs.Runs.{ruleI32, ruleF64, cellAt, line};
 ghost use Rattle.runs.specs.declared.Rule.the-variants as R;
-ghost use Rattle.takes.specs.Takes.{startAt, Starting, movedAt, Taking, Putting, clampedAt, Clamped, Ones};
+ghost use Rattle.takes.specs.Takes.{startAt, Starting, movedAt, Taking, Putting, clampedAt, Clamped, oneAt, Ones};
 use layout::RAW_FUSED_RANK_LIMIT;
 
 // s, moved by the components of the start that is read at t: each is clamped, and times its stride.
@@ -71,18 +72,20 @@ pub fn take_cells(
     }
 }
 
+// x, or 0 where it is below.
+fn not_below_zero(x: i64) -> i64
+    ensures { λ r. ⌜ r ≡ pos (up x) ⌝ }
+{
+    if x < 0 { 0 } else { x }
+}
+
 // x moved inside 0 .. limit.
 pub fn clamped(x: i64, limit: i64) -> i64
     requires { ⌜ pos 0 ≤ℤ limit ⌝ }
     ensures { λ r. ⌜ r ≡ clamp x (natAbs limit) 0 ⌝ }
 {
-    if x < 0 {
-        0
-    } else if limit < x {
-        limit
-    } else {
-        x
-    }
+    let y = not_below_zero(x);
+    if limit < y { limit } else { y }
 }
 
 // n cells: the source's place by the start read at t by ts, clamped, times the stride; the destination's from d by ds.
@@ -116,22 +119,50 @@ pub fn take_strided(
     }
 }
 
-// A cell for each start: of the source where the start says, clamped; of the destination in order.
-pub fn take_ones(src: &[i32], starts: &[i64], dst: &mut [i32], base: i64, limit: i64)
-    requires { ⌜ Ones (now starts) base limit (length (now dst)) (length (now src)) ⌝ }
-    ensures { λ _. ⌜ now (dst .exit) ≡ inOrder (cellAt (pos 0) (ruleI32 R.Copy) (now (src .entry)) (clampedAt (now (starts .entry)) pos base (pos 1) (natAbs limit)) pos) (length (now (dst .entry))) (now (dst .entry)) ⌝ }
+// Cell i: of the source where start i says, clamped; of the destination in order.
+fn take_one(src: &[i32], starts: &[i64], dst: &mut [i32], limit: i64, i: usize)
+    requires { ⌜ (i < length (now dst)) × Ones (now starts) limit (length (now dst)) (length (now src)) ⌝ }
+    ensures { λ _. ⌜ now (dst .exit) ≡ cellAt (pos 0) (ruleI32 R.Copy) (now (src .entry)) (oneAt (now (starts .entry)) limit) pos i (now (dst .entry)) ⌝ }
+{
+    let x = starts[i];
+    let y = clamped(x, limit);
+    let a = y as usize;
+    dst[i] = src[a];
+}
+
+// The first n cells.
+fn take_few(src: &[i32], starts: &[i64], dst: &mut [i32], limit: i64, n: usize)
+    requires { ⌜ (n ≤ length (now dst)) × Ones (now starts) limit (length (now dst)) (length (now src)) ⌝ }
+    ensures { λ _. ⌜ now (dst .exit) ≡ inOrder (cellAt (pos 0) (ruleI32 R.Copy) (now (src .entry)) (oneAt (now (starts .entry)) limit) pos) n (now (dst .entry)) ⌝ }
 {
     let mut i: usize = 0;
-    while i < dst.len() {
-        let x = starts[i];
-        let y = clamped(x, limit);
-        let a = (base + y) as usize;
-        dst[i] = src[a];
+    while i < n {
+        take_one(src, starts, dst, limit, i);
         i += 1;
     }
 }
 
-// n cells whose every step is 1: on the parts of the starts and the destination that they are.
+// A cell for each start: of the source where the start says, clamped; of the destination in order. Four to a turn, behind those
+// that are over.
+pub fn take_ones(src: &[i32], starts: &[i64], dst: &mut [i32], limit: i64)
+    requires { ⌜ Ones (now starts) limit (length (now dst)) (length (now src)) ⌝ }
+    ensures { λ _. ⌜ now (dst .exit) ≡ inOrder (cellAt (pos 0) (ruleI32 R.Copy) (now (src .entry)) (oneAt (now (starts .entry)) limit) pos) (length (now (dst .entry))) (now (dst .entry)) ⌝ }
+{
+    let n = dst.len();
+    let mut fours = n / 4;
+    let mut i = n - 4 * fours;
+    take_few(src, starts, dst, limit, i);
+    while 0 < fours {
+        take_one(src, starts, dst, limit, i);
+        take_one(src, starts, dst, limit, i + 1);
+        take_one(src, starts, dst, limit, i + 2);
+        take_one(src, starts, dst, limit, i + 3);
+        i += 4;
+        fours -= 1;
+    }
+}
+
+// n cells whose every step is 1: on the parts of the starts and the destination that they are, and the source from the base on.
 pub fn take_row(
     src: &[i32],
     starts: &[i64],
@@ -148,9 +179,11 @@ pub fn take_row(
     let l = limit as i64;
     let a = t as usize;
     let b = d as usize;
+    let c = base as usize;
     let e = a + n;
     let f = b + n;
-    take_ones(src, &starts[a..e], &mut dst[b..f], base, l);
+    let m = src.len();
+    take_ones(&src[c..m], &starts[a..e], &mut dst[b..f], l);
 }
 
 // n cells: by take_row where every step is 1, else by take_strided.
@@ -248,23 +281,51 @@ pub fn put_strided(
     }
 }
 
-// A cell for each start: of the source in order; of the destination where the start says, clamped. Each is added.
-pub fn put_ones(src: &[i32], starts: &[i64], dst: &mut [i32], base: i64, limit: i64)
-    requires { ⌜ Ones (now starts) base limit (length (now src)) (length (now dst)) ⌝ }
-    ensures { λ _. ⌜ now (dst .exit) ≡ inOrder (cellAt (pos 0) (ruleI32 R.Add) (now (src .entry)) pos (clampedAt (now (starts .entry)) pos base (pos 1) (natAbs limit))) (length (now (src .entry))) (now (dst .entry)) ⌝ }
+// Cell i: of the source in order; of the destination where start i says, clamped. It is added.
+fn put_one(src: &[i32], starts: &[i64], dst: &mut [i32], limit: i64, i: usize)
+    requires { ⌜ (i < length (now src)) × Ones (now starts) limit (length (now src)) (length (now dst)) ⌝ }
+    ensures { λ _. ⌜ now (dst .exit) ≡ cellAt (pos 0) (ruleI32 R.Add) (now (src .entry)) pos (oneAt (now (starts .entry)) limit) i (now (dst .entry)) ⌝ }
+{
+    let x = starts[i];
+    let y = clamped(x, limit);
+    let b = y as usize;
+    let v = integer::wrapping_add_i32(dst[b], src[i]);
+    dst[b] = v;
+}
+
+// The first n cells.
+fn put_few(src: &[i32], starts: &[i64], dst: &mut [i32], limit: i64, n: usize)
+    requires { ⌜ (n ≤ length (now src)) × Ones (now starts) limit (length (now src)) (length (now dst)) ⌝ }
+    ensures { λ _. ⌜ now (dst .exit) ≡ inOrder (cellAt (pos 0) (ruleI32 R.Add) (now (src .entry)) pos (oneAt (now (starts .entry)) limit)) n (now (dst .entry)) ⌝ }
 {
     let mut i: usize = 0;
-    while i < src.len() {
-        let x = starts[i];
-        let y = clamped(x, limit);
-        let b = (base + y) as usize;
-        let v = integer::wrapping_add_i32(dst[b], src[i]);
-        dst[b] = v;
+    while i < n {
+        put_one(src, starts, dst, limit, i);
         i += 1;
     }
 }
 
-// n cells whose every step is 1: on the parts of the source and the starts that they are.
+// A cell for each start: of the source in order; of the destination where the start says, clamped. Each is added. Four to a turn,
+// behind those that are over.
+pub fn put_ones(src: &[i32], starts: &[i64], dst: &mut [i32], limit: i64)
+    requires { ⌜ Ones (now starts) limit (length (now src)) (length (now dst)) ⌝ }
+    ensures { λ _. ⌜ now (dst .exit) ≡ inOrder (cellAt (pos 0) (ruleI32 R.Add) (now (src .entry)) pos (oneAt (now (starts .entry)) limit)) (length (now (src .entry))) (now (dst .entry)) ⌝ }
+{
+    let n = src.len();
+    let mut fours = n / 4;
+    let mut i = n - 4 * fours;
+    put_few(src, starts, dst, limit, i);
+    while 0 < fours {
+        put_one(src, starts, dst, limit, i);
+        put_one(src, starts, dst, limit, i + 1);
+        put_one(src, starts, dst, limit, i + 2);
+        put_one(src, starts, dst, limit, i + 3);
+        i += 4;
+        fours -= 1;
+    }
+}
+
+// n cells whose every step is 1: on the parts of the source and the starts that they are, and the destination from the base on.
 pub fn put_row(
     src: &[i32],
     starts: &[i64],
@@ -281,9 +342,11 @@ pub fn put_row(
     let l = limit as i64;
     let a = s as usize;
     let b = t as usize;
+    let c = base as usize;
     let e = a + n;
     let f = b + n;
-    put_ones(&src[a..e], &starts[b..f], dst, base, l);
+    let m = dst.len();
+    put_ones(&src[a..e], &starts[b..f], &mut dst[c..m], l);
 }
 
 // n cells: by put_row where every step is 1, else by put_strided. Each is added.
@@ -383,22 +446,50 @@ pub fn take_strided_f64(
     }
 }
 
-// A cell for each start: of the source where the start says, clamped; of the destination in order.
-pub fn take_ones_f64(src: &[f64], starts: &[i64], dst: &mut [f64], base: i64, limit: i64)
-    requires { ⌜ Ones (now starts) base limit (length (now dst)) (length (now src)) ⌝ }
-    ensures { λ _. ⌜ now (dst .exit) ≡ inOrder (cellAt nan (ruleF64 R.Copy) (now (src .entry)) (clampedAt (now (starts .entry)) pos base (pos 1) (natAbs limit)) pos) (length (now (dst .entry))) (now (dst .entry)) ⌝ }
+// Cell i: of the source where start i says, clamped; of the destination in order.
+fn take_one_f64(src: &[f64], starts: &[i64], dst: &mut [f64], limit: i64, i: usize)
+    requires { ⌜ (i < length (now dst)) × Ones (now starts) limit (length (now dst)) (length (now src)) ⌝ }
+    ensures { λ _. ⌜ now (dst .exit) ≡ cellAt nan (ruleF64 R.Copy) (now (src .entry)) (oneAt (now (starts .entry)) limit) pos i (now (dst .entry)) ⌝ }
+{
+    let x = starts[i];
+    let y = clamped(x, limit);
+    let a = y as usize;
+    dst[i] = src[a];
+}
+
+// The first n cells.
+fn take_few_f64(src: &[f64], starts: &[i64], dst: &mut [f64], limit: i64, n: usize)
+    requires { ⌜ (n ≤ length (now dst)) × Ones (now starts) limit (length (now dst)) (length (now src)) ⌝ }
+    ensures { λ _. ⌜ now (dst .exit) ≡ inOrder (cellAt nan (ruleF64 R.Copy) (now (src .entry)) (oneAt (now (starts .entry)) limit) pos) n (now (dst .entry)) ⌝ }
 {
     let mut i: usize = 0;
-    while i < dst.len() {
-        let x = starts[i];
-        let y = clamped(x, limit);
-        let a = (base + y) as usize;
-        dst[i] = src[a];
+    while i < n {
+        take_one_f64(src, starts, dst, limit, i);
         i += 1;
     }
 }
 
-// n cells whose every step is 1: on the parts of the starts and the destination that they are.
+// A cell for each start: of the source where the start says, clamped; of the destination in order. Four to a turn, behind those
+// that are over.
+pub fn take_ones_f64(src: &[f64], starts: &[i64], dst: &mut [f64], limit: i64)
+    requires { ⌜ Ones (now starts) limit (length (now dst)) (length (now src)) ⌝ }
+    ensures { λ _. ⌜ now (dst .exit) ≡ inOrder (cellAt nan (ruleF64 R.Copy) (now (src .entry)) (oneAt (now (starts .entry)) limit) pos) (length (now (dst .entry))) (now (dst .entry)) ⌝ }
+{
+    let n = dst.len();
+    let mut fours = n / 4;
+    let mut i = n - 4 * fours;
+    take_few_f64(src, starts, dst, limit, i);
+    while 0 < fours {
+        take_one_f64(src, starts, dst, limit, i);
+        take_one_f64(src, starts, dst, limit, i + 1);
+        take_one_f64(src, starts, dst, limit, i + 2);
+        take_one_f64(src, starts, dst, limit, i + 3);
+        i += 4;
+        fours -= 1;
+    }
+}
+
+// n cells whose every step is 1: on the parts of the starts and the destination that they are, and the source from the base on.
 pub fn take_row_f64(
     src: &[f64],
     starts: &[i64],
@@ -415,9 +506,11 @@ pub fn take_row_f64(
     let l = limit as i64;
     let a = t as usize;
     let b = d as usize;
+    let c = base as usize;
     let e = a + n;
     let f = b + n;
-    take_ones_f64(src, &starts[a..e], &mut dst[b..f], base, l);
+    let m = src.len();
+    take_ones_f64(&src[c..m], &starts[a..e], &mut dst[b..f], l);
 }
 
 // n cells: by take_row_f64 where every step is 1, else by take_strided_f64.
@@ -515,23 +608,51 @@ pub fn put_strided_f64(
     }
 }
 
-// A cell for each start: of the source in order; of the destination where the start says, clamped. Each is added.
-pub fn put_ones_f64(src: &[f64], starts: &[i64], dst: &mut [f64], base: i64, limit: i64)
-    requires { ⌜ Ones (now starts) base limit (length (now src)) (length (now dst)) ⌝ }
-    ensures { λ _. ⌜ now (dst .exit) ≡ inOrder (cellAt nan (ruleF64 R.Add) (now (src .entry)) pos (clampedAt (now (starts .entry)) pos base (pos 1) (natAbs limit))) (length (now (src .entry))) (now (dst .entry)) ⌝ }
+// Cell i: of the source in order; of the destination where start i says, clamped. It is added.
+fn put_one_f64(src: &[f64], starts: &[i64], dst: &mut [f64], limit: i64, i: usize)
+    requires { ⌜ (i < length (now src)) × Ones (now starts) limit (length (now src)) (length (now dst)) ⌝ }
+    ensures { λ _. ⌜ now (dst .exit) ≡ cellAt nan (ruleF64 R.Add) (now (src .entry)) pos (oneAt (now (starts .entry)) limit) i (now (dst .entry)) ⌝ }
+{
+    let x = starts[i];
+    let y = clamped(x, limit);
+    let b = y as usize;
+    let v = dst[b] + src[i];
+    dst[b] = v;
+}
+
+// The first n cells.
+fn put_few_f64(src: &[f64], starts: &[i64], dst: &mut [f64], limit: i64, n: usize)
+    requires { ⌜ (n ≤ length (now src)) × Ones (now starts) limit (length (now src)) (length (now dst)) ⌝ }
+    ensures { λ _. ⌜ now (dst .exit) ≡ inOrder (cellAt nan (ruleF64 R.Add) (now (src .entry)) pos (oneAt (now (starts .entry)) limit)) n (now (dst .entry)) ⌝ }
 {
     let mut i: usize = 0;
-    while i < src.len() {
-        let x = starts[i];
-        let y = clamped(x, limit);
-        let b = (base + y) as usize;
-        let v = dst[b] + src[i];
-        dst[b] = v;
+    while i < n {
+        put_one_f64(src, starts, dst, limit, i);
         i += 1;
     }
 }
 
-// n cells whose every step is 1: on the parts of the source and the starts that they are.
+// A cell for each start: of the source in order; of the destination where the start says, clamped. Each is added. Four to a turn,
+// behind those that are over.
+pub fn put_ones_f64(src: &[f64], starts: &[i64], dst: &mut [f64], limit: i64)
+    requires { ⌜ Ones (now starts) limit (length (now src)) (length (now dst)) ⌝ }
+    ensures { λ _. ⌜ now (dst .exit) ≡ inOrder (cellAt nan (ruleF64 R.Add) (now (src .entry)) pos (oneAt (now (starts .entry)) limit)) (length (now (src .entry))) (now (dst .entry)) ⌝ }
+{
+    let n = src.len();
+    let mut fours = n / 4;
+    let mut i = n - 4 * fours;
+    put_few_f64(src, starts, dst, limit, i);
+    while 0 < fours {
+        put_one_f64(src, starts, dst, limit, i);
+        put_one_f64(src, starts, dst, limit, i + 1);
+        put_one_f64(src, starts, dst, limit, i + 2);
+        put_one_f64(src, starts, dst, limit, i + 3);
+        i += 4;
+        fours -= 1;
+    }
+}
+
+// n cells whose every step is 1: on the parts of the source and the starts that they are, and the destination from the base on.
 pub fn put_row_f64(
     src: &[f64],
     starts: &[i64],
@@ -548,9 +669,11 @@ pub fn put_row_f64(
     let l = limit as i64;
     let a = s as usize;
     let b = t as usize;
+    let c = base as usize;
     let e = a + n;
     let f = b + n;
-    put_ones_f64(&src[a..e], &starts[b..f], dst, base, l);
+    let m = dst.len();
+    put_ones_f64(&src[a..e], &starts[b..f], &mut dst[c..m], l);
 }
 
 // n cells: by put_row_f64 where every step is 1, else by put_strided_f64. Each is added.

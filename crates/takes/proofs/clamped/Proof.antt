@@ -1,20 +1,43 @@
+use mathlib.Core.Path.{_≡_, sym, ap, subst, _∙_}
 use native.Mathlib.Omega.{arith}
-use lib.IntN.{pos}
-use Rattle.integer.specs.Z.{only, known, zfacts}
+use borrow.Author.Needs.{needs}
+use lib.IntN.{ℤ, pos}
+use mir.Syntax.{w64}
+use mir.Val.{SFits}
+use Rattle.integer.specs.Z.{up, dn, only, known, back, zfacts}
 use Rattle.takes.proofs.Ones.{clamped-by}
 use Rattle.takes.proofs.clamped.Statement.{statement}
 use Rattle.takes.proofs.clamped.Tie as tie
 
+not-below-zero-requires : tie.Need-not-below-zero-requires
+not-below-zero-requires c κs = search needs
+
+-- what is not below 0
+module _ (c : tie.After-not-below-zero) where
+  abbrev from : ℤ
+  from = c .before .args .x
+
+  is : c .not-below-zero .result ≡ pos (up from)
+  is = c .not-below-zero .ensures ∙ ap (λ (z : ℤ). pos (up z)) (back (c .before .fits .x))
+
+  fits : SFits w64 (c .not-below-zero .result)
+  fits = subst (SFits w64) (sym is) (record { sfits = omega (arith, zfacts, known (c .before .fits .x), only from) })
+
+  ups : up (c .not-below-zero .result) ≡ up from
+  ups = ap up is
+
+  dns : dn (c .not-below-zero .result) ≡ 0
+  dns = ap dn is
+
 returns : tie.Need-returns
-returns c = let a = c .before in clamped-by (pos 0) (a .args .x) (a .args .limit) (a .pre) (omega (arith, zfacts, known (a .fits .x), only (a .args .x))) (omega arith)
+returns c = let q = c .before in
+    let a = q .before in
+    clamped-by _ (a .args .x) (a .args .limit) (a .pre) (omega (arith, zfacts, ups q, dns q, known (fits q), known (a .fits .limit), only (a .args .limit))) (omega (arith, zfacts, a .pre, known (a .fits .limit), only (a .args .limit)))
 
 returns-2 : tie.Need-returns-2
-returns-2 c = let a = c .before .before in
-    clamped-by _ (a .args .x) (a .args .limit) (a .pre) (omega (arith, zfacts, known (a .fits .x), known (a .fits .limit), only (a .args .x), only (a .args .limit))) (omega (arith, zfacts, a .pre, known (a .fits .limit), only (a .args .limit)))
-
-returns-3 : tie.Need-returns-3
-returns-3 c = let a = c .before .before in
-    clamped-by _ (a .args .x) (a .args .limit) (a .pre) (omega (arith, zfacts, known (a .fits .x), known (a .fits .limit), only (a .args .x), only (a .args .limit))) (omega (arith, zfacts, known (a .fits .x), only (a .args .x)))
+returns-2 c = let q = c .before in
+    let a = q .before in
+    clamped-by _ (a .args .x) (a .args .limit) (a .pre) (omega (arith, zfacts, ups q, dns q, known (fits q), known (a .fits .limit), only (a .args .limit), a .pre)) (omega (arith, zfacts, ups q, dns q, known (fits q)))
 
 pub clamped-spec : {M : Type 1} → statement M
-clamped-spec = tie.close (tie.spec returns returns-2 returns-3)
+clamped-spec = tie.close (tie.spec not-below-zero-requires returns returns-2)

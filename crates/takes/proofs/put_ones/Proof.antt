@@ -1,103 +1,105 @@
-use mathlib.Core.Path.{_≡_, refl, subst, sym, _∙_}
-use Prim.Native.Nat.{_-_, _≤_}
+use mathlib.Core.Path.{_≡_, refl, _∙_}
+use mathlib.Core.List.{List}
+use Prim.Native.Nat.{_+_, _*_}
 use native.Mathlib.Omega.{arith}
-use borrow.Author.Needs.{needs, sfits-of}
-use lib.ListN.{length, getD, length-set}
-use lib.IntN.{ℤ, pos, natAbs, _+ℤ_}
-use lib.Signed.{_≤ℤ_}
+use lib.ListN.{length}
+use lib.IntN.{ℤ, pos}
 use mir.Syntax.{w64}
 use mir.Val.{toZ}
-use Rattle.integer.specs.Z.{back}
 use Rattle.indexing.specs.Loops.{inOrder}
 use Rattle.runs.specs.Runs.{ruleI32, cellAt}
 use Rattle.runs.specs.declared.Rule.the-variants as R
-use Rattle.runs.proofs.Turns.{none, cell-more}
-use Rattle.runs.proofs.Place.{read, Index}
-use Rattle.runs.proofs.Rules.{stored}
-use Rattle.takes.specs.Takes.{clampedAt}
-use Rattle.takes.proofs.Ones.{ones-fits, ones-index, ones-is, put-ones-end}
+use Rattle.runs.proofs.Place.{read}
+use Rattle.takes.specs.Takes.{oneAt}
+use Rattle.takes.proofs.Ones.{ones-left, turn-length, cells-length, four-turns, put-ones-end}
 use Rattle.takes.proofs.put_ones.Statement.{statement}
 use Rattle.takes.proofs.put_ones.Tie as tie
 
 abbrev Inv-loop : tie.InvT-loop
-Inv-loop src starts dst₀ base limit i₀ dst i = (i ≤ length src) × (length dst ≡ length dst₀) × (dst ≡ inOrder (cellAt (pos 0) (ruleI32 R.Add) src pos (clampedAt starts pos (toZ w64 base) (pos 1) (natAbs (toZ w64 limit)))) i dst₀)
+Inv-loop src starts dst₀ limit n fours₀ i₀ dst fours i =
+    (i + 4 * fours ≡ n) × (length dst ≡ length dst₀) × ((x : List ℤ) → dst₀ ≡ inOrder (cellAt (pos 0) (ruleI32 R.Add) src pos (oneAt starts (toZ w64 limit))) i₀ x → dst ≡ inOrder (cellAt (pos 0) (ruleI32 R.Add) src pos (oneAt starts (toZ w64 limit))) i x)
 
 abbrev μ-loop : tie.MeasureT-loop
-μ-loop src starts dst₀ base limit i₀ dst i = length src - i
+μ-loop src starts dst₀ limit n fours₀ i₀ dst fours i = fours
 
-abbrev start : tie.In-loop Inv-loop μ-loop → tie.Start Inv-loop μ-loop
-start d = d .before .before
+mul-i : tie.Need-mul-i Inv-loop μ-loop
+mul-i c = omega (arith, c .good .0 .1)
 
--- the place of the clamped side
-module _ (c : tie.After-clamped Inv-loop μ-loop) where
-  place : Index (read (start (c .before .before) .args .base) +ℤ read (c .clamped .result)) (length (start (c .before .before) .args .dst .now))
-  place = let a = start (c .before .before) in ones-index _ _ _ _ _ (a .pre) (a .fits .base) (a .fits .limit) (omega (arith, a .good .1 .1 .0 .1)) _ (omega (arith, c .before .before .loop-test .taken)) (sfits-of (c .before .x .given)) _ (c .clamped .ensures)
+sub-i : tie.Need-sub-i Inv-loop μ-loop
+sub-i c = omega arith
 
-  by-start : pos (natAbs (read (read (start (c .before .before) .args .base) +ℤ read (c .clamped .result)))) ≡ clampedAt (start (c .before .before) .args .starts .now) pos (read (start (c .before .before) .args .base)) (pos 1) (natAbs (read (start (c .before .before) .args .limit))) (c .before .before .before .loop .i)
-  by-start = let a = start (c .before .before) in ones-is (a .args .starts .now) _ _ _ _ (a .pre) (a .fits .base) (a .fits .limit) (omega (arith, a .good .1 .1 .0 .1)) _ (omega (arith, c .before .before .loop-test .taken)) (sfits-of (c .before .x .given)) _ (c .clamped .ensures)
+put-few-requires : tie.Need-put-few-requires Inv-loop μ-loop
+put-few-requires c κs = let a = c .before in (omega arith, ones-left _ _ _ _ _ _ (a .fits .limit) (a .pre) refl refl)
 
 loop-holds : tie.Need-loop-holds Inv-loop μ-loop
-loop-holds c = (omega arith, refl, none _ 0 (c .args .dst .now) refl)
+loop-holds c = let a = c .before .before .before in (omega arith, refl, λ x e. e)
 
-mul-x : tie.Need-mul-x Inv-loop μ-loop
-mul-x c = omega (arith, start c .pre .each, start c .good .1 .0 .1, c .loop-test .taken)
+put-one-requires : tie.Need-put-one-requires Inv-loop μ-loop
+put-one-requires c κs = let h = c .before .before in
+    let a = h .before .before .before .before in
+    (omega (arith, h .loop .inv .0, c .before .loop-test .taken), ones-left _ _ _ _ _ _ (a .fits .limit) (a .pre) refl (h .loop .inv .1 ∙ cells-length (pos 0) (ruleI32 R.Add) (a .args .src .now) pos (oneAt (a .args .starts .now) (read (a .args .limit))) _ (a .args .dst .now) _ (h .before .before .put-few .ensures)))
 
-shared-slice-copy-out-x : tie.Need-shared-slice-copy-out-x Inv-loop μ-loop
-shared-slice-copy-out-x c = omega (arith, start c .pre .each, c .loop-test .taken)
+add-put-one : tie.Need-add-put-one Inv-loop μ-loop
+add-put-one c = let h = c .before .before .before .before .before in
+    let a = h .before .before .before .before in omega (arith, h .loop .inv .0, c .before .before .before .before .loop-test .taken, a .good .0 .1)
 
-clamped-requires : tie.Need-clamped-requires Inv-loop μ-loop
-clamped-requires c κs = let a = start (c .before) in subst (λ (x : ℤ). pos 0 ≤ℤ x) (sym (back (a .fits .limit))) (a .pre .low)
+put-one-requires-2 : tie.Need-put-one-requires-2 Inv-loop μ-loop
+put-one-requires-2 c κs = let h = c .before .before .before .before .before in
+    let a = h .before .before .before .before in
+    let l1 = turn-length (pos 0) (ruleI32 R.Add) (a .args .src .now) pos (oneAt (a .args .starts .now) (read (a .args .limit))) (h .loop .i) (h .loop .dst) _ (c .before .before .put-one .ensures) in
+    (omega (arith, h .loop .inv .0, c .before .before .before .before .loop-test .taken), ones-left _ _ _ _ _ _ (a .fits .limit) (a .pre) refl (l1 ∙ h .loop .inv .1 ∙ cells-length (pos 0) (ruleI32 R.Add) (a .args .src .now) pos (oneAt (a .args .starts .now) (read (a .args .limit))) _ (a .args .dst .now) _ (h .before .before .put-few .ensures)))
 
-add-b : tie.Need-add-b Inv-loop μ-loop
-add-b c = let a = start (c .before .before) in ones-fits _ _ _ _ _ (a .pre) (a .fits .base) (a .fits .limit) (omega (arith, a .good .1 .1 .0 .1)) _ (omega (arith, c .before .before .loop-test .taken)) (sfits-of (c .before .x .given)) _ (c .clamped .ensures)
+add-put-one-2 : tie.Need-add-put-one-2 Inv-loop μ-loop
+add-put-one-2 c = let h = c .before .before .before .before .before .before .before .before in
+    let a = h .before .before .before .before in omega (arith, h .loop .inv .0, c .before .before .before .before .before .before .before .loop-test .taken, a .good .0 .1)
 
-cast-b : tie.Need-cast-b Inv-loop μ-loop
-cast-b c = place c .cast
+put-one-requires-3 : tie.Need-put-one-requires-3 Inv-loop μ-loop
+put-one-requires-3 c κs = let h = c .before .before .before .before .before .before .before .before in
+    let a = h .before .before .before .before in
+    let l1 = turn-length (pos 0) (ruleI32 R.Add) (a .args .src .now) pos (oneAt (a .args .starts .now) (read (a .args .limit))) (h .loop .i) (h .loop .dst) _ (c .before .before .before .before .before .put-one .ensures) in
+    let l2 = turn-length (pos 0) (ruleI32 R.Add) (a .args .src .now) pos (oneAt (a .args .starts .now) (read (a .args .limit))) (h .loop .i + 1) (c .before .before .before .before .before .put-one .last .1 .1 .0) _ (c .before .before .put-one2 .ensures) in
+    (omega (arith, h .loop .inv .0, c .before .before .before .before .before .before .before .loop-test .taken), ones-left _ _ _ _ _ _ (a .fits .limit) (a .pre) refl (l2 ∙ l1 ∙ h .loop .inv .1 ∙ cells-length (pos 0) (ruleI32 R.Add) (a .args .src .now) pos (oneAt (a .args .starts .now) (read (a .args .limit))) _ (a .args .dst .now) _ (h .before .before .put-few .ensures)))
 
-mul-wrapping-add-i32 : tie.Need-mul-wrapping-add-i32 Inv-loop μ-loop
-mul-wrapping-add-i32 c = omega (arith, place c .below, start (c .before .before) .good .1 .1 .0 .1)
+add-put-one-3 : tie.Need-add-put-one-3 Inv-loop μ-loop
+add-put-one-3 c = let h = c .before .before .before .before .before .before .before .before .before .before .before in
+    let a = h .before .before .before .before in omega (arith, h .loop .inv .0, c .before .before .before .before .before .before .before .before .before .before .loop-test .taken, a .good .0 .1)
 
-slice-copy-out-wrapping-add-i32 : tie.Need-slice-copy-out-wrapping-add-i32 Inv-loop μ-loop
-slice-copy-out-wrapping-add-i32 c = omega (arith, place c .below, c .before .before .before .loop .inv .1)
-
-mul-wrapping-add-i32-2 : tie.Need-mul-wrapping-add-i32-2 Inv-loop μ-loop
-mul-wrapping-add-i32-2 c = omega (arith, start (c .before .before .before) .good .0 .1, c .before .before .before .loop-test .taken)
-
-shared-slice-copy-out-wrapping-add-i32 : tie.Need-shared-slice-copy-out-wrapping-add-i32 Inv-loop μ-loop
-shared-slice-copy-out-wrapping-add-i32 c = omega (arith, c .before .before .before .loop-test .taken)
-
-wrapping-add-i32-requires : tie.Need-wrapping-add-i32-requires Inv-loop μ-loop
-wrapping-add-i32-requires c κs = search needs
-
-mul-v : tie.Need-mul-v Inv-loop μ-loop
-mul-v c = omega (arith, place (c .before .before .before) .below, start (c .before .before .before .before .before) .good .1 .1 .0 .1)
-
-slice-set-from-v : tie.Need-slice-set-from-v Inv-loop μ-loop
-slice-set-from-v c = omega (arith, place (c .before .before .before) .below, c .before .before .before .before .before .before .loop .inv .1)
+put-one-requires-4 : tie.Need-put-one-requires-4 Inv-loop μ-loop
+put-one-requires-4 c κs = let h = c .before .before .before .before .before .before .before .before .before .before .before in
+    let a = h .before .before .before .before in
+    let l1 = turn-length (pos 0) (ruleI32 R.Add) (a .args .src .now) pos (oneAt (a .args .starts .now) (read (a .args .limit))) (h .loop .i) (h .loop .dst) _ (c .before .before .before .before .before .before .before .before .put-one .ensures) in
+    let l2 = turn-length (pos 0) (ruleI32 R.Add) (a .args .src .now) pos (oneAt (a .args .starts .now) (read (a .args .limit))) (h .loop .i + 1) (c .before .before .before .before .before .before .before .before .put-one .last .1 .1 .0) _ (c .before .before .before .before .before .put-one2 .ensures) in
+    let l3 = turn-length (pos 0) (ruleI32 R.Add) (a .args .src .now) pos (oneAt (a .args .starts .now) (read (a .args .limit))) (h .loop .i + 2) (c .before .before .before .before .before .put-one2 .last .1 .1 .0) _ (c .before .before .put-one3 .ensures) in
+    (omega (arith, h .loop .inv .0, c .before .before .before .before .before .before .before .before .before .before .loop-test .taken), ones-left _ _ _ _ _ _ (a .fits .limit) (a .pre) refl (l3 ∙ l2 ∙ l1 ∙ h .loop .inv .1 ∙ cells-length (pos 0) (ruleI32 R.Add) (a .args .src .now) pos (oneAt (a .args .starts .now) (read (a .args .limit))) _ (a .args .dst .now) _ (h .before .before .put-few .ensures)))
 
 add-i : tie.Need-add-i Inv-loop μ-loop
-add-i c = omega arith
+add-i c = let h = c .before .before .before .before .before .before .before .before .before .before .before .before .before in
+    let a = h .before .before .before .before in omega (arith, h .loop .inv .0, c .before .before .before .before .before .before .before .before .before .before .before .before .loop-test .taken, a .good .0 .1)
+
+sub-fours : tie.Need-sub-fours Inv-loop μ-loop
+sub-fours c = omega (arith, c .before .before .before .before .before .before .before .before .before .before .before .before .loop-test .taken)
 
 loop-less : tie.Need-loop-less Inv-loop μ-loop
-loop-less c = omega arith
+loop-less c = omega (arith, c .before .before .before .before .before .before .before .before .before .before .before .before .loop-test .taken)
 
 loop-again : tie.Need-loop-again Inv-loop μ-loop
-loop-again c = let q = c .before .before .before in
-    let h = q .before .before .before in
-    let a = h .before in
-    let m = natAbs (read (read (a .args .base) +ℤ read (q .clamped .result))) in (
-      omega arith,
-      length-set (h .loop .dst) _ _ ∙ h .loop .inv .1,
-      cell-more (pos 0) (ruleI32 R.Add) (a .args .src .now) pos (clampedAt (a .args .starts .now) pos (read (a .args .base)) (pos 1) (natAbs (read (a .args .limit)))) (a .args .dst .now) (h .loop .dst) (h .loop .i) (h .loop .i) m _ (h .loop .inv .2) refl (by-start q) (stored R.Add (getD (h .loop .dst) m (pos 0)) (getD (a .args .src .now) (h .loop .i) (pos 0)) (c .wrapping-add-i32 .result) (sfits-of (c .before .before .wrapping-add-i32-arg .given)) (sfits-of (c .before .wrapping-add-i32-arg2 .given)) (c .wrapping-add-i32 .ensures)),
-    )
+loop-again c = let h = c .before .before .before .before .before .before .before .before .before .before .before .before .before in
+    let a = h .before .before .before .before in
+    let l1 = turn-length (pos 0) (ruleI32 R.Add) (a .args .src .now) pos (oneAt (a .args .starts .now) (read (a .args .limit))) (h .loop .i) (h .loop .dst) _ (c .before .before .before .before .before .before .before .before .before .before .put-one .ensures) in
+    let l2 = turn-length (pos 0) (ruleI32 R.Add) (a .args .src .now) pos (oneAt (a .args .starts .now) (read (a .args .limit))) (h .loop .i + 1) (c .before .before .before .before .before .before .before .before .before .before .put-one .last .1 .1 .0) _ (c .before .before .before .before .before .before .before .put-one2 .ensures) in
+    let l3 = turn-length (pos 0) (ruleI32 R.Add) (a .args .src .now) pos (oneAt (a .args .starts .now) (read (a .args .limit))) (h .loop .i + 2) (c .before .before .before .before .before .before .before .put-one2 .last .1 .1 .0) _ (c .before .before .before .before .put-one3 .ensures) in
+    let l4 = turn-length (pos 0) (ruleI32 R.Add) (a .args .src .now) pos (oneAt (a .args .starts .now) (read (a .args .limit))) (h .loop .i + 3) (c .before .before .before .before .put-one3 .last .1 .1 .0) _ (c .before .put-one4 .ensures) in
+    (omega (arith, h .loop .inv .0, c .before .before .before .before .before .before .before .before .before .before .before .before .loop-test .taken), l4 ∙ l3 ∙ l2 ∙ l1 ∙ h .loop .inv .1, λ x e. four-turns (cellAt (pos 0) (ruleI32 R.Add) (a .args .src .now) pos (oneAt (a .args .starts .now) (read (a .args .limit)))) (h .loop .i) x (h .loop .dst) _ _ _ _ (h .loop .inv .2 x e) (c .before .before .before .before .before .before .before .before .before .before .put-one .ensures) (c .before .before .before .before .before .before .before .put-one2 .ensures) (c .before .before .before .before .put-one3 .ensures) (c .before .put-one4 .ensures))
 
 same-length : tie.Need-same-length Inv-loop μ-loop
-same-length c = c .before .loop .inv .1
+same-length c = let h = c .before in
+    let a = h .before .before .before .before in
+    h .loop .inv .1 ∙ cells-length (pos 0) (ruleI32 R.Add) (a .args .src .now) pos (oneAt (a .args .starts .now) (read (a .args .limit))) _ (a .args .dst .now) _ (h .before .before .put-few .ensures)
 
 returns : tie.Need-returns Inv-loop μ-loop
 returns c = let h = c .before in
-    let a = h .before in
-    put-ones-end (pos 0) (ruleI32 R.Add) (a .args .src .now) (a .args .starts .now) (a .args .base) (a .args .limit) (h .loop .i) _ (a .args .dst .now) (h .loop .dst) (a .fits .base) (a .fits .limit) (omega arith) (h .loop .inv .2)
+    let a = h .before .before .before .before in
+    put-ones-end (pos 0) (ruleI32 R.Add) (a .args .src .now) (a .args .starts .now) (a .args .limit) (h .loop .i) _ (a .args .dst .now) (h .loop .dst) (a .fits .limit) (omega (arith, h .loop .inv .0, c .loop-test .left)) (h .loop .inv .2 (a .args .dst .now) (h .before .before .put-few .ensures))
 
 pub put-ones-spec : {M : Type 1} → statement M
 put-ones-spec =
@@ -105,20 +107,19 @@ put-ones-spec =
     (tie.spec
     Inv-loop
     μ-loop
+    mul-i
+    sub-i
+    put-few-requires
     loop-holds
-    mul-x
-    shared-slice-copy-out-x
-    clamped-requires
-    add-b
-    cast-b
-    mul-wrapping-add-i32
-    slice-copy-out-wrapping-add-i32
-    mul-wrapping-add-i32-2
-    shared-slice-copy-out-wrapping-add-i32
-    wrapping-add-i32-requires
-    mul-v
-    slice-set-from-v
+    put-one-requires
+    add-put-one
+    put-one-requires-2
+    add-put-one-2
+    put-one-requires-3
+    add-put-one-3
+    put-one-requires-4
     add-i
+    sub-fours
     loop-less
     loop-again
     same-length

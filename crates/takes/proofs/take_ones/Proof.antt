@@ -1,93 +1,103 @@
-use mathlib.Core.Path.{_≡_, refl, subst, sym, _∙_}
-use Prim.Native.Nat.{_-_, _≤_}
+use mathlib.Core.Path.{_≡_, refl, _∙_}
+use mathlib.Core.List.{List}
+use Prim.Native.Nat.{_+_, _*_}
 use native.Mathlib.Omega.{arith}
-use borrow.Author.Needs.{needs, sfits-of}
-use lib.ListN.{length, length-set}
-use lib.IntN.{ℤ, pos, natAbs, _+ℤ_}
-use lib.Signed.{_≤ℤ_}
+use lib.ListN.{length}
+use lib.IntN.{ℤ, pos}
 use mir.Syntax.{w64}
 use mir.Val.{toZ}
-use Rattle.integer.specs.Z.{back}
 use Rattle.indexing.specs.Loops.{inOrder}
 use Rattle.runs.specs.Runs.{ruleI32, cellAt}
 use Rattle.runs.specs.declared.Rule.the-variants as R
-use Rattle.runs.proofs.Turns.{none, cell-more}
-use Rattle.runs.proofs.Place.{read, Index}
-use Rattle.takes.specs.Takes.{clampedAt}
-use Rattle.takes.proofs.Ones.{ones-fits, ones-index, ones-is, take-ones-end}
+use Rattle.runs.proofs.Place.{read}
+use Rattle.takes.specs.Takes.{oneAt}
+use Rattle.takes.proofs.Ones.{ones-left, turn-length, cells-length, four-turns, take-ones-end}
 use Rattle.takes.proofs.take_ones.Statement.{statement}
 use Rattle.takes.proofs.take_ones.Tie as tie
 
 abbrev Inv-loop : tie.InvT-loop
-Inv-loop src starts dst₀ base limit i₀ dst i = (i ≤ length dst₀) × (length dst ≡ length dst₀) × (dst ≡ inOrder (cellAt (pos 0) (ruleI32 R.Copy) src (clampedAt starts pos (toZ w64 base) (pos 1) (natAbs (toZ w64 limit))) pos) i dst₀)
+Inv-loop src starts dst₀ limit n fours₀ i₀ dst fours i =
+    (i + 4 * fours ≡ n) × (length dst ≡ n) × ((x : List ℤ) → dst₀ ≡ inOrder (cellAt (pos 0) (ruleI32 R.Copy) src (oneAt starts (toZ w64 limit)) pos) i₀ x → dst ≡ inOrder (cellAt (pos 0) (ruleI32 R.Copy) src (oneAt starts (toZ w64 limit)) pos) i x)
 
 abbrev μ-loop : tie.MeasureT-loop
-μ-loop src starts dst₀ base limit i₀ dst i = length dst₀ - i
+μ-loop src starts dst₀ limit n fours₀ i₀ dst fours i = fours
 
-abbrev start : tie.In-loop Inv-loop μ-loop → tie.Start Inv-loop μ-loop
-start d = d .before .before
+mul-i : tie.Need-mul-i Inv-loop μ-loop
+mul-i c = omega (arith, c .good .1 .1 .0 .1)
 
--- the place of the clamped side
-module _ (c : tie.After-clamped Inv-loop μ-loop) where
-  place : Index (read (start (c .before .before) .args .base) +ℤ read (c .clamped .result)) (length (start (c .before .before) .args .src .now))
-  place = let a = start (c .before .before) in ones-index _ _ _ _ _ (a .pre) (a .fits .base) (a .fits .limit) (omega (arith, a .good .0 .1)) _ (omega (arith, c .before .before .loop-test .taken)) (sfits-of (c .before .x .given)) _ (c .clamped .ensures)
+sub-i : tie.Need-sub-i Inv-loop μ-loop
+sub-i c = omega arith
 
-  by-start : pos (natAbs (read (read (start (c .before .before) .args .base) +ℤ read (c .clamped .result)))) ≡ clampedAt (start (c .before .before) .args .starts .now) pos (read (start (c .before .before) .args .base)) (pos 1) (natAbs (read (start (c .before .before) .args .limit))) (c .before .before .before .loop .i)
-  by-start = let a = start (c .before .before) in ones-is (a .args .starts .now) _ _ _ _ (a .pre) (a .fits .base) (a .fits .limit) (omega (arith, a .good .0 .1)) _ (omega (arith, c .before .before .loop-test .taken)) (sfits-of (c .before .x .given)) _ (c .clamped .ensures)
+take-few-requires : tie.Need-take-few-requires Inv-loop μ-loop
+take-few-requires c κs = let a = c .before in (omega arith, ones-left _ _ _ _ _ _ (a .fits .limit) (a .pre) refl refl)
 
 loop-holds : tie.Need-loop-holds Inv-loop μ-loop
-loop-holds c = (omega arith, refl, none _ 0 (c .args .dst .now) refl)
+loop-holds c = let a = c .before .before .before in (omega arith, cells-length (pos 0) (ruleI32 R.Copy) (a .args .src .now) (oneAt (a .args .starts .now) (read (a .args .limit))) pos _ (a .args .dst .now) _ (c .before .take-few .ensures), λ x e. e)
 
-mul-x : tie.Need-mul-x Inv-loop μ-loop
-mul-x c = omega (arith, start c .pre .each, start c .good .1 .0 .1, c .loop-test .taken)
+take-one-requires : tie.Need-take-one-requires Inv-loop μ-loop
+take-one-requires c κs = let h = c .before .before in
+    let a = h .before .before .before .before in
+    (omega (arith, h .loop .inv .1, h .loop .inv .0, c .before .loop-test .taken), ones-left _ _ _ _ _ _ (a .fits .limit) (a .pre) (h .loop .inv .1) refl)
 
-shared-slice-copy-out-x : tie.Need-shared-slice-copy-out-x Inv-loop μ-loop
-shared-slice-copy-out-x c = omega (arith, start c .pre .each, c .loop-test .taken)
+add-take-one : tie.Need-add-take-one Inv-loop μ-loop
+add-take-one c = let h = c .before .before .before .before .before in
+    let a = h .before .before .before .before in omega (arith, h .loop .inv .0, c .before .before .before .before .loop-test .taken, a .good .1 .1 .0 .1)
 
-clamped-requires : tie.Need-clamped-requires Inv-loop μ-loop
-clamped-requires c κs = let a = start (c .before) in subst (λ (x : ℤ). pos 0 ≤ℤ x) (sym (back (a .fits .limit))) (a .pre .low)
+take-one-requires-2 : tie.Need-take-one-requires-2 Inv-loop μ-loop
+take-one-requires-2 c κs = let h = c .before .before .before .before .before in
+    let a = h .before .before .before .before in
+    let l1 = turn-length (pos 0) (ruleI32 R.Copy) (a .args .src .now) (oneAt (a .args .starts .now) (read (a .args .limit))) pos (h .loop .i) (h .loop .dst) _ (c .before .before .take-one .ensures) in
+    (omega (arith, l1 ∙ h .loop .inv .1, h .loop .inv .0, c .before .before .before .before .loop-test .taken), ones-left _ _ _ _ _ _ (a .fits .limit) (a .pre) (l1 ∙ h .loop .inv .1) refl)
 
-add-a : tie.Need-add-a Inv-loop μ-loop
-add-a c = let a = start (c .before .before) in ones-fits _ _ _ _ _ (a .pre) (a .fits .base) (a .fits .limit) (omega (arith, a .good .0 .1)) _ (omega (arith, c .before .before .loop-test .taken)) (sfits-of (c .before .x .given)) _ (c .clamped .ensures)
+add-take-one-2 : tie.Need-add-take-one-2 Inv-loop μ-loop
+add-take-one-2 c = let h = c .before .before .before .before .before .before .before .before in
+    let a = h .before .before .before .before in omega (arith, h .loop .inv .0, c .before .before .before .before .before .before .before .loop-test .taken, a .good .1 .1 .0 .1)
 
-cast-a : tie.Need-cast-a Inv-loop μ-loop
-cast-a c = place c .cast
+take-one-requires-3 : tie.Need-take-one-requires-3 Inv-loop μ-loop
+take-one-requires-3 c κs = let h = c .before .before .before .before .before .before .before .before in
+    let a = h .before .before .before .before in
+    let l1 = turn-length (pos 0) (ruleI32 R.Copy) (a .args .src .now) (oneAt (a .args .starts .now) (read (a .args .limit))) pos (h .loop .i) (h .loop .dst) _ (c .before .before .before .before .before .take-one .ensures) in
+    let l2 = turn-length (pos 0) (ruleI32 R.Copy) (a .args .src .now) (oneAt (a .args .starts .now) (read (a .args .limit))) pos (h .loop .i + 1) (c .before .before .before .before .before .take-one .last .1 .1 .0) _ (c .before .before .take-one2 .ensures) in
+    (omega (arith, l2 ∙ l1 ∙ h .loop .inv .1, h .loop .inv .0, c .before .before .before .before .before .before .before .loop-test .taken), ones-left _ _ _ _ _ _ (a .fits .limit) (a .pre) (l2 ∙ l1 ∙ h .loop .inv .1) refl)
 
-mul-dst : tie.Need-mul-dst Inv-loop μ-loop
-mul-dst c = omega (arith, place c .below, start (c .before .before) .good .0 .1)
+add-take-one-3 : tie.Need-add-take-one-3 Inv-loop μ-loop
+add-take-one-3 c = let h = c .before .before .before .before .before .before .before .before .before .before .before in
+    let a = h .before .before .before .before in omega (arith, h .loop .inv .0, c .before .before .before .before .before .before .before .before .before .before .loop-test .taken, a .good .1 .1 .0 .1)
 
-shared-slice-copy-out-dst : tie.Need-shared-slice-copy-out-dst Inv-loop μ-loop
-shared-slice-copy-out-dst c = place c .below
-
-mul-t16 : tie.Need-mul-t16 Inv-loop μ-loop
-mul-t16 c = omega (arith, start (c .before .before .before) .good .1 .1 .0 .1, c .before .before .before .loop-test .taken)
-
-slice-set-from-dst : tie.Need-slice-set-from-dst Inv-loop μ-loop
-slice-set-from-dst c = omega (arith, c .before .before .before .loop-test .taken)
+take-one-requires-4 : tie.Need-take-one-requires-4 Inv-loop μ-loop
+take-one-requires-4 c κs = let h = c .before .before .before .before .before .before .before .before .before .before .before in
+    let a = h .before .before .before .before in
+    let l1 = turn-length (pos 0) (ruleI32 R.Copy) (a .args .src .now) (oneAt (a .args .starts .now) (read (a .args .limit))) pos (h .loop .i) (h .loop .dst) _ (c .before .before .before .before .before .before .before .before .take-one .ensures) in
+    let l2 = turn-length (pos 0) (ruleI32 R.Copy) (a .args .src .now) (oneAt (a .args .starts .now) (read (a .args .limit))) pos (h .loop .i + 1) (c .before .before .before .before .before .before .before .before .take-one .last .1 .1 .0) _ (c .before .before .before .before .before .take-one2 .ensures) in
+    let l3 = turn-length (pos 0) (ruleI32 R.Copy) (a .args .src .now) (oneAt (a .args .starts .now) (read (a .args .limit))) pos (h .loop .i + 2) (c .before .before .before .before .before .take-one2 .last .1 .1 .0) _ (c .before .before .take-one3 .ensures) in
+    (omega (arith, l3 ∙ l2 ∙ l1 ∙ h .loop .inv .1, h .loop .inv .0, c .before .before .before .before .before .before .before .before .before .before .loop-test .taken), ones-left _ _ _ _ _ _ (a .fits .limit) (a .pre) (l3 ∙ l2 ∙ l1 ∙ h .loop .inv .1) refl)
 
 add-i : tie.Need-add-i Inv-loop μ-loop
-add-i c = omega arith
+add-i c = let h = c .before .before .before .before .before .before .before .before .before .before .before .before .before in
+    let a = h .before .before .before .before in omega (arith, h .loop .inv .0, c .before .before .before .before .before .before .before .before .before .before .before .before .loop-test .taken, a .good .1 .1 .0 .1)
+
+sub-fours : tie.Need-sub-fours Inv-loop μ-loop
+sub-fours c = omega (arith, c .before .before .before .before .before .before .before .before .before .before .before .before .loop-test .taken)
 
 loop-less : tie.Need-loop-less Inv-loop μ-loop
-loop-less c = omega arith
+loop-less c = omega (arith, c .before .before .before .before .before .before .before .before .before .before .before .before .loop-test .taken)
 
 loop-again : tie.Need-loop-again Inv-loop μ-loop
-loop-again c = let q = c .before in
-    let h = q .before .before .before in
-    let a = h .before in
-    let m = natAbs (read (read (a .args .base) +ℤ read (q .clamped .result))) in (
-      omega arith,
-      length-set (h .loop .dst) _ _ ∙ h .loop .inv .1,
-      cell-more (pos 0) (ruleI32 R.Copy) (a .args .src .now) (clampedAt (a .args .starts .now) pos (read (a .args .base)) (pos 1) (natAbs (read (a .args .limit)))) pos (a .args .dst .now) (h .loop .dst) (h .loop .i) m (h .loop .i) _ (h .loop .inv .2) (by-start q) refl (back (sfits-of (c .dst .given))),
-    )
+loop-again c = let h = c .before .before .before .before .before .before .before .before .before .before .before .before .before in
+    let a = h .before .before .before .before in
+    let l1 = turn-length (pos 0) (ruleI32 R.Copy) (a .args .src .now) (oneAt (a .args .starts .now) (read (a .args .limit))) pos (h .loop .i) (h .loop .dst) _ (c .before .before .before .before .before .before .before .before .before .before .take-one .ensures) in
+    let l2 = turn-length (pos 0) (ruleI32 R.Copy) (a .args .src .now) (oneAt (a .args .starts .now) (read (a .args .limit))) pos (h .loop .i + 1) (c .before .before .before .before .before .before .before .before .before .before .take-one .last .1 .1 .0) _ (c .before .before .before .before .before .before .before .take-one2 .ensures) in
+    let l3 = turn-length (pos 0) (ruleI32 R.Copy) (a .args .src .now) (oneAt (a .args .starts .now) (read (a .args .limit))) pos (h .loop .i + 2) (c .before .before .before .before .before .before .before .take-one2 .last .1 .1 .0) _ (c .before .before .before .before .take-one3 .ensures) in
+    let l4 = turn-length (pos 0) (ruleI32 R.Copy) (a .args .src .now) (oneAt (a .args .starts .now) (read (a .args .limit))) pos (h .loop .i + 3) (c .before .before .before .before .take-one3 .last .1 .1 .0) _ (c .before .take-one4 .ensures) in
+    (omega (arith, h .loop .inv .0, c .before .before .before .before .before .before .before .before .before .before .before .before .loop-test .taken), l4 ∙ l3 ∙ l2 ∙ l1 ∙ h .loop .inv .1, λ x e. four-turns (cellAt (pos 0) (ruleI32 R.Copy) (a .args .src .now) (oneAt (a .args .starts .now) (read (a .args .limit))) pos) (h .loop .i) x (h .loop .dst) _ _ _ _ (h .loop .inv .2 x e) (c .before .before .before .before .before .before .before .before .before .before .take-one .ensures) (c .before .before .before .before .before .before .before .take-one2 .ensures) (c .before .before .before .before .take-one3 .ensures) (c .before .take-one4 .ensures))
 
 same-length : tie.Need-same-length Inv-loop μ-loop
 same-length c = c .before .loop .inv .1
 
 returns : tie.Need-returns Inv-loop μ-loop
 returns c = let h = c .before in
-    let a = h .before in
-    take-ones-end (pos 0) (ruleI32 R.Copy) (a .args .src .now) (a .args .starts .now) (a .args .base) (a .args .limit) (h .loop .i) _ (a .args .dst .now) (h .loop .dst) (a .fits .base) (a .fits .limit) (omega arith) (h .loop .inv .2)
+    let a = h .before .before .before .before in
+    take-ones-end (pos 0) (ruleI32 R.Copy) (a .args .src .now) (a .args .starts .now) (a .args .limit) (h .loop .i) _ (a .args .dst .now) (h .loop .dst) (a .fits .limit) (omega (arith, h .loop .inv .0, c .loop-test .left)) (h .loop .inv .2 (a .args .dst .now) (h .before .before .take-few .ensures))
 
 pub take-ones-spec : {M : Type 1} → statement M
 take-ones-spec =
@@ -95,17 +105,19 @@ take-ones-spec =
     (tie.spec
     Inv-loop
     μ-loop
+    mul-i
+    sub-i
+    take-few-requires
     loop-holds
-    mul-x
-    shared-slice-copy-out-x
-    clamped-requires
-    add-a
-    cast-a
-    mul-dst
-    shared-slice-copy-out-dst
-    mul-t16
-    slice-set-from-dst
+    take-one-requires
+    add-take-one
+    take-one-requires-2
+    add-take-one-2
+    take-one-requires-3
+    add-take-one-3
+    take-one-requires-4
     add-i
+    sub-fours
     loop-less
     loop-again
     same-length

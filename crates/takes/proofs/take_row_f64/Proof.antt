@@ -1,28 +1,39 @@
+use mathlib.Core.Path.{refl}
 use Prim.Native.Nat.{ℕ, _+_, _*_, _-_, _<_, _^_}
 use native.Mathlib.Omega.{arith}
 use borrow.Author.Needs.{needs}
-use lib.ListN.{length}
+use lib.ListN.{length, take, drop}
 use lib.Ieee.{nan}
-use lib.IntN.{natAbs}
-use Rattle.runs.specs.Runs.{ruleF64}
+use lib.IntN.{pos, natAbs}
+use mir.Syntax.{w64}
+use mir.Val.{toZ}
+use Rattle.runs.specs.Runs.{ruleF64, line}
 use Rattle.runs.specs.declared.Rule.the-variants as R
-use Rattle.runs.proofs.Place.{read}
+use Rattle.runs.proofs.Place.{read, Index, index}
 use Rattle.runs.proofs.Runs.{Part, part-of}
-use Rattle.takes.proofs.Ones.{part-place, ones-ask, part-take}
+use Rattle.takes.specs.Takes.{clampedAt, oneAt}
+use Rattle.takes.proofs.Ones.{part-read, ones-ask, part-take}
 use Rattle.takes.proofs.take_row_f64.Statement.{statement}
 use Rattle.takes.proofs.take_row_f64.Tie as tie
 
 starts-room : (a : tie.Start) → length (a .args .starts .now) * 8 < 2 ^ 63
 starts-room a = a .good .1 .0 .1
 
-dst-room : (a : tie.Start) → length (a .args .dst .now) * 8 < 2 ^ 63
-dst-room a = a .good .1 .1 .0 .1
+plain-room : (a : tie.Start) → length (a .args .dst .now) * 8 < 2 ^ 63
+plain-room a = a .good .1 .1 .0 .1
+
+moved-room : (a : tie.Start) → length (a .args .src .now) * 8 < 2 ^ 63
+moved-room a = a .good .0 .1
 
 starting : (a : tie.Start) → Part (a .args .t) (a .args .n) (length (a .args .starts .now))
 starting a = part-of _ _ _ (a .pre .1 .starting) (a .pre .0) (omega (arith, starts-room a))
 
 plain : (a : tie.Start) → Part (a .args .d) (a .args .n) (length (a .args .dst .now))
-plain a = part-of _ _ _ (a .pre .1 .plain) (a .pre .0) (omega (arith, dst-room a))
+plain a = part-of _ _ _ (a .pre .1 .plain) (a .pre .0) (omega (arith, plain-room a))
+
+-- the base, from which on the side is lent that the starts move in
+first : (a : tie.Start) → Index (a .args .base) (length (a .args .src .now))
+first a = index _ _ (a .pre .1 .first) (omega (arith, moved-room a))
 
 cast-l : tie.Need-cast-l
 cast-l c = search needs
@@ -33,26 +44,29 @@ cast-a c = starting (c .before .before) .cast
 cast-b : tie.Need-cast-b
 cast-b c = plain (c .before .before) .cast
 
+cast-c : tie.Need-cast-c
+cast-c c = first (c .before .before) .cast
+
 add-e : tie.Need-add-e
 add-e c = omega (arith, starting (c .before .before) .room, starts-room (c .before .before))
 
 add-f : tie.Need-add-f
-add-f c = omega (arith, plain (c .before .before) .room, dst-room (c .before .before))
+add-f c = omega (arith, plain (c .before .before) .room, plain-room (c .before .before))
 
 mul-take-ones-f64 : tie.Need-mul-take-ones-f64
-mul-take-ones-f64 c = omega (arith, starting (c .before .before) .room, starts-room (c .before .before))
+mul-take-ones-f64 c = omega (arith, first (c .before .before) .below, moved-room (c .before .before))
 
 sub-take-ones-f64 : tie.Need-sub-take-ones-f64
-sub-take-ones-f64 c = search needs
+sub-take-ones-f64 c = omega (arith, first (c .before .before) .below)
 
 part-take-ones-f64-start : tie.Need-part-take-ones-f64-start
-part-take-ones-f64-start c = search needs
+part-take-ones-f64-start c = omega (arith, first (c .before .before) .below)
 
 part-take-ones-f64-end : tie.Need-part-take-ones-f64-end
-part-take-ones-f64-end c = starting (c .before .before) .room
+part-take-ones-f64-end c = search needs
 
 mul-take-ones-f64-2 : tie.Need-mul-take-ones-f64-2
-mul-take-ones-f64-2 c = omega (arith, plain (c .before .before .before) .room, dst-room (c .before .before .before))
+mul-take-ones-f64-2 c = omega (arith, starting (c .before .before .before) .room, starts-room (c .before .before .before))
 
 sub-take-ones-f64-2 : tie.Need-sub-take-ones-f64-2
 sub-take-ones-f64-2 c = search needs
@@ -61,22 +75,36 @@ part-take-ones-f64-start-2 : tie.Need-part-take-ones-f64-start-2
 part-take-ones-f64-start-2 c = search needs
 
 part-take-ones-f64-end-2 : tie.Need-part-take-ones-f64-end-2
-part-take-ones-f64-end-2 c = plain (c .before .before .before) .room
+part-take-ones-f64-end-2 c = starting (c .before .before .before) .room
+
+mul-take-ones-f64-3 : tie.Need-mul-take-ones-f64-3
+mul-take-ones-f64-3 c = omega (arith, plain (c .before .before .before .before) .room, plain-room (c .before .before .before .before))
+
+sub-take-ones-f64-3 : tie.Need-sub-take-ones-f64-3
+sub-take-ones-f64-3 c = search needs
+
+part-take-ones-f64-start-3 : tie.Need-part-take-ones-f64-start-3
+part-take-ones-f64-start-3 c = search needs
+
+part-take-ones-f64-end-3 : tie.Need-part-take-ones-f64-end-3
+part-take-ones-f64-end-3 c = plain (c .before .before .before .before) .room
 
 take-ones-f64-requires : tie.Need-take-ones-f64-requires
-take-ones-f64-requires c κs = let a = c .before .before .before .before in
+take-ones-f64-requires c κs = let a = c .before .before .before .before .before in
     let x : ℕ = natAbs (read (a .args .t)) in
     let y : ℕ = natAbs (read (a .args .d)) in
-    ones-ask (a .args .starts .now) _ _ _ _ _ _ _ (a .pre .1) (a .fits .base) x (x + a .args .n - x) (omega arith) (starting a .is) (a .args .dst .now) y (y + a .args .n - y) (omega arith) (starting a .room) (plain a .room)
+    let u : ℕ = natAbs (read (a .args .base)) in
+    ones-ask (a .args .starts .now) _ _ _ _ _ _ _ (a .pre .1) x (x + a .args .n - x) (omega arith) (starting a .is) u (length (a .args .src .now) - u) (first a .is) refl (a .args .dst .now) y (y + a .args .n - y) (a .args .src .now) (omega arith) (starting a .room) (plain a .room) refl
 
 same-length : tie.Need-same-length
 same-length c = search needs
 
 returns : tie.Need-returns
-returns c = let a = c .before .before .before .before .before .before .before in
+returns c = let a = c .before .before .before .before .before .before .before .before in
     let x : ℕ = natAbs (read (a .args .t)) in
     let y : ℕ = natAbs (read (a .args .d)) in
-    part-take nan (ruleF64 R.Copy) (a .args .src .now) (a .args .dst .now) _ _ _ (a .args .d) y (a .args .n) (y + a .args .n - y) (omega arith) (plain a .is) (plain a .room) (part-place (a .args .starts .now) _ _ _ _ _ _ _ (a .pre .1) (a .fits .base) x (x + a .args .n - x) (omega arith) (starting a .is)) (c .before .before .take-ones-f64 .ensures)
+    let u : ℕ = natAbs (read (a .args .base)) in
+    part-take nan (ruleF64 R.Copy) (take (length (a .args .src .now) - u) (drop u (a .args .src .now))) (a .args .src .now) (a .args .dst .now) _ (oneAt (take (x + a .args .n - x) (drop x (a .args .starts .now))) (toZ w64 (a .args .limit))) (clampedAt (a .args .starts .now) (line (a .args .t) (pos 1)) (a .args .base) (pos 1) (a .args .limit)) (a .args .d) y (a .args .n) (y + a .args .n - y) (omega arith) (plain a .is) (plain a .room) (part-read (a .args .starts .now) _ _ _ _ _ _ _ (a .pre .1) x (x + a .args .n - x) (omega arith) (starting a .is) u (length (a .args .src .now) - u) (first a .is) refl nan (a .args .src .now)) (c .before .before .take-ones-f64 .ensures)
 
 pub take-row-f64-spec : {M : Type 1} → statement M
 take-row-f64-spec =
@@ -85,6 +113,7 @@ take-row-f64-spec =
     cast-l
     cast-a
     cast-b
+    cast-c
     add-e
     add-f
     mul-take-ones-f64
@@ -95,6 +124,10 @@ take-row-f64-spec =
     sub-take-ones-f64-2
     part-take-ones-f64-start-2
     part-take-ones-f64-end-2
+    mul-take-ones-f64-3
+    sub-take-ones-f64-3
+    part-take-ones-f64-start-3
+    part-take-ones-f64-end-3
     take-ones-f64-requires
     same-length
     returns)

@@ -1,0 +1,80 @@
+use mathlib.Core.Path.{_≡_, refl}
+use native.Mathlib.Omega.{arith}
+use borrow.Author.Needs.{needs, sfits-of}
+use lib.ListN.{length, getD}
+use lib.Ieee.{nan}
+use lib.IntN.{pos, natAbs}
+use Rattle.runs.specs.Runs.{ruleF64}
+use Rattle.runs.specs.declared.Rule.the-variants as R
+use Rattle.runs.proofs.Place.{read, Index}
+use Rattle.takes.specs.Takes.{oneAt}
+use Rattle.takes.proofs.Ones.{ones-index, ones-is, one-turn}
+use Rattle.takes.proofs.put_one_f64.Statement.{statement}
+use Rattle.takes.proofs.put_one_f64.Tie as tie
+
+-- the place of the destination
+module _ (c : tie.After-clamped) where
+  abbrev at-start : tie.Start
+  at-start = c .before .before .before .before
+
+  place : Index (c .clamped .result) (length (at-start .args .dst .now))
+  place = let a = at-start in ones-index _ _ _ _ (a .pre .1) (a .fits .limit) (omega (arith, a .good .1 .1 .0 .1)) _ (a .pre .0) (sfits-of (c .before .x .given)) _ (c .clamped .ensures)
+
+  by-start : pos (natAbs (read (c .clamped .result))) ≡ oneAt (at-start .args .starts .now) (at-start .args .limit) (at-start .args .i)
+  by-start = let a = at-start in ones-is _ _ _ _ (a .pre .1) (a .fits .limit) (omega (arith, a .good .1 .1 .0 .1)) _ (a .pre .0) (sfits-of (c .before .x .given)) _ (c .clamped .ensures)
+
+mul-x : tie.Need-mul-x
+mul-x c = search needs
+
+shared-slice-copy-out-x : tie.Need-shared-slice-copy-out-x
+shared-slice-copy-out-x c = search needs
+
+clamped-requires : tie.Need-clamped-requires
+clamped-requires c κs = search needs
+
+cast-b : tie.Need-cast-b
+cast-b c = place c .cast
+
+mul-v : tie.Need-mul-v
+mul-v c = omega (arith, place c .below, at-start c .good .1 .1 .0 .1)
+
+slice-read-v : tie.Need-slice-read-v
+slice-read-v c = place (c .before) .below
+
+mul-v-2 : tie.Need-mul-v-2
+mul-v-2 c = search needs
+
+shared-slice-read-v : tie.Need-shared-slice-read-v
+shared-slice-read-v c = search needs
+
+mul-dst : tie.Need-mul-dst
+mul-dst c = omega (arith, place (c .before .before) .below, at-start (c .before .before) .good .1 .1 .0 .1)
+
+slice-write-dst : tie.Need-slice-write-dst
+slice-write-dst c = place (c .before .before) .below
+
+same-length : tie.Need-same-length
+same-length c = search needs
+
+returns : tie.Need-returns
+returns c = let q = c .before .before in
+    let a = at-start q in
+    let m = natAbs (read (q .clamped .result)) in
+    one-turn nan (ruleF64 R.Add) (a .args .src .now) pos (oneAt (a .args .starts .now) (a .args .limit)) (a .args .dst .now) (a .args .i) (a .args .i) m _ refl (by-start q) refl
+
+pub put-one-f64-spec : {M : Type 1} → statement M
+put-one-f64-spec =
+    tie.close
+    (tie.spec
+    mul-x
+    shared-slice-copy-out-x
+    clamped-requires
+    cast-b
+    mul-v
+    slice-read-v
+    mul-v-2
+    shared-slice-read-v
+    mul-dst
+    slice-write-dst
+    same-length
+    returns)
