@@ -1,0 +1,197 @@
+//! The command line.
+
+use std::path::PathBuf;
+
+use clap::{Args, Parser, Subcommand};
+
+use crate::window::{Scale, Window};
+
+/// Gather and scatter on grids in .npy files, by stored jobs, and pictures of grids.
+///
+/// What is read, added, clamped or refused, the proved library libstrided decides.
+/// The exit status is 0; 1 where the library refuses; 2 for usage, a file that cannot be read or written, or elements of another type.
+#[derive(Parser)]
+#[command(
+    name = "strided",
+    version,
+    after_help = "Example:\n  strided job make cut.txt cut.job\n  strided scatter --job cut.job --starts starts.npy --updates cuts.npy --grid bed.npy --out bed.npy\n  strided show bed.npy bed.png"
+)]
+pub struct Cli {
+    /// Say nothing of what was done; failures are told
+    #[arg(short, long, global = true)]
+    pub quiet: bool,
+
+    /// What to do.
+    #[command(subcommand)]
+    pub command: Command,
+}
+
+/// What to do.
+#[derive(Subcommand)]
+pub enum Command {
+    /// Make, print or check a stored job
+    #[command(subcommand)]
+    Job(JobCommand),
+    /// Read windows of a grid at given starts
+    Gather(GatherArgs),
+    /// Add updates to a grid at given starts
+    Scatter(ScatterArgs),
+    /// Draw a grid of two axes, or a window of it, as PNG
+    Show(ShowArgs),
+    /// Tell how two grids differ
+    Compare(CompareArgs),
+    /// Print a .npy file as text
+    Print(PrintArgs),
+}
+
+/// What to do with a job.
+#[derive(Subcommand)]
+pub enum JobCommand {
+    /// Store a job that a text describes
+    #[command(after_help = MAKE_HELP)]
+    Make {
+        /// The text: lines `key = value`
+        text: PathBuf,
+        /// The stored job
+        out: PathBuf,
+    },
+    /// Print a stored job as the text that makes it
+    #[command(after_help = "Example:\n  strided job show cut.job > cut.txt")]
+    Show {
+        /// The stored job
+        job: PathBuf,
+    },
+    /// Tell whether a file stores a job, and whether the job can be run
+    #[command(
+        after_help = "Example:\n  strided job check cut.job\n\nWhether the elements of the files suffice is found when it is run."
+    )]
+    Check {
+        /// The stored job
+        job: PathBuf,
+    },
+}
+
+const MAKE_HELP: &str = "\
+The text has one `key = value` a line, in any order; # begins a comment.
+  kind = gather | scatter       element = i32 | f64
+Three views, of a gather operand, index, dest, of a scatter index, updates, dest:
+  VIEW.extents = 64, 48
+  VIEW.strides = 1, 64          or row-major; left out: first axis fastest
+  VIEW.offset = 0               left out: 0
+The lists have StableHLO's names, and may be empty:
+  gather:  offset_dims, collapsed_slice_dims, start_index_map, index_vector_dim, slice_sizes
+  scatter: update_window_dims, inserted_window_dims, scatter_dims_to_operand_dims, index_vector_dim
+
+Example: cells of a row of five are raised at given starts
+  kind = scatter
+  element = i32
+  index.extents = 3
+  updates.extents = 3
+  dest.extents = 5
+  update_window_dims =
+  inserted_window_dims = 0
+  scatter_dims_to_operand_dims = 0
+  index_vector_dim = 1
+
+  strided job make cut.txt cut.job";
+
+/// Files of a gather.
+#[derive(Args)]
+#[command(after_help = "\
+A file lends its elements in memory order; the job names the layouts, whatever the shape and order of the file.
+Without --dest the destination begins as zeros, where the job's layout of it is packed, in either order.
+
+Example:
+  strided gather --job berth.job --operand bed.npy --starts berth.npy --out window.npy")]
+pub struct GatherArgs {
+    /// The stored job
+    #[arg(long, value_name = "JOB")]
+    pub job: PathBuf,
+    /// The grid that is read, of the job's element
+    #[arg(long, value_name = "NPY")]
+    pub operand: PathBuf,
+    /// The starts, i64
+    #[arg(long, value_name = "NPY")]
+    pub starts: PathBuf,
+    /// What the destination holds before
+    #[arg(long, value_name = "NPY")]
+    pub dest: Option<PathBuf>,
+    /// The destination afterwards; it may be the file of --dest
+    #[arg(long, value_name = "NPY")]
+    pub out: PathBuf,
+}
+
+/// Files of a scatter.
+#[derive(Args)]
+#[command(after_help = "\
+A file lends its elements in memory order; the job names the layouts, whatever the shape and order of the file.
+The output is written beside and takes its name at the end, so that a failure leaves an old file as it was.
+
+Example:
+  strided scatter --job cut.job --starts starts.npy --updates cuts.npy --grid bed.npy --out bed.npy")]
+pub struct ScatterArgs {
+    /// The stored job
+    #[arg(long, value_name = "JOB")]
+    pub job: PathBuf,
+    /// The starts, i64
+    #[arg(long, value_name = "NPY")]
+    pub starts: PathBuf,
+    /// The updates, of the job's element
+    #[arg(long, value_name = "NPY")]
+    pub updates: PathBuf,
+    /// The grid that they are added to, of the job's element
+    #[arg(long, value_name = "NPY")]
+    pub grid: PathBuf,
+    /// The grid afterwards; it may be the file of --grid
+    #[arg(long, value_name = "NPY")]
+    pub out: PathBuf,
+}
+
+/// What is drawn, and how.
+#[derive(Args)]
+#[command(after_help = "\
+The first axis goes down, the second to the right. Low values are light, high ones dark, and NaN is orange.
+
+Example:
+  strided show bed.npy berth.png --window 10:30,40:80 --scale 8000:14000 --cell 8")]
+pub struct ShowArgs {
+    /// The grid, i32 or f64, of two axes
+    pub grid: PathBuf,
+    /// The picture
+    pub out: PathBuf,
+    /// Rows R0 up to R1 and columns C0 up to C1, the last of each left out; a side may be left empty
+    #[arg(long, value_name = "R0:R1,C0:C1", allow_hyphen_values = true)]
+    pub window: Option<Window>,
+    /// The values at the two ends of the colours; otherwise the lowest and the highest that are drawn
+    #[arg(long, value_name = "LOW:HIGH", allow_hyphen_values = true)]
+    pub scale: Option<Scale>,
+    /// Pixels along a cell; otherwise as suits the size
+    #[arg(long, value_name = "N")]
+    pub cell: Option<usize>,
+}
+
+/// The two files.
+#[derive(Args)]
+#[command(after_help = "\
+The files have the same element and shape; the order in memory may differ.
+
+Example:
+  strided compare before.npy after.npy")]
+pub struct CompareArgs {
+    /// The first grid, i32 or f64
+    pub before: PathBuf,
+    /// The second grid
+    pub after: PathBuf,
+}
+
+/// The file.
+#[derive(Args)]
+#[command(after_help = "\
+A line for each run along the last axis, the elements with spaces between them.
+
+Example:
+  strided print starts.npy")]
+pub struct PrintArgs {
+    /// The file, i32, i64 or f64
+    pub file: PathBuf,
+}

@@ -1,0 +1,117 @@
+//! `strided gather`.
+
+use strided::{Element, ElementType, GatherJob, Job};
+
+use super::lent::{packed_order, Lent};
+use super::stored::Stored;
+use super::Report;
+use crate::cli::GatherArgs;
+use crate::failure::{Failure, Outcome};
+use crate::npy::{self, cells, shape_in_words, Grid, Item};
+use crate::output;
+
+pub fn run(args: &GatherArgs, report: &mut Report) -> Outcome<()> {
+    output::is_apart(
+        &args.out,
+        &[
+            ("--job", &args.job),
+            ("--operand", &args.operand),
+            ("--starts", &args.starts),
+        ],
+    )?;
+    let stored = Stored::read(&args.job)?;
+    let Job::Gather(job) = &stored.job else {
+        let answer = strided::gather_job::<i32>(&stored.bytes, &[], &[], &mut []);
+        return Err(stored.of_other_kind(answer, "scatter"));
+    };
+    match job.element {
+        ElementType::I32 => gather::<i32>(args, &stored, job, report),
+        ElementType::F64 => gather::<f64>(args, &stored, job, report),
+    }
+}
+
+fn gather<T: Element + Item>(
+    args: &GatherArgs,
+    stored: &Stored,
+    job: &GatherJob,
+    report: &mut Report,
+) -> Outcome<()> {
+    let operand = Lent {
+        path: &args.operand,
+        name: "operand",
+        layout: &job.operand,
+    }
+    .load::<T>(report)?;
+    let starts = Lent {
+        path: &args.starts,
+        name: "index",
+        layout: &job.index,
+    }
+    .load::<i64>(report)?;
+    let mut dest = destination::<T>(args, stored, job, report)?;
+    strided::gather_job(&stored.bytes, &operand.data, &starts.data, &mut dest.data).map_err(
+        |error| {
+            let dest_name = match &args.dest {
+                Some(path) => path.display().to_string(),
+                None => "the destination of zeros".to_owned(),
+            };
+            let lent = [
+                (args.operand.display().to_string(), operand.data.len()),
+                (args.starts.display().to_string(), starts.data.len()),
+                (dest_name, dest.data.len()),
+            ];
+            stored.refused(error, Some(lent))
+        },
+    )?;
+    let name = args.out.display().to_string();
+    output::write(&args.out, |file| npy::write(&dest, &name, file))?;
+    report.say(&format!(
+        "gathered {} cells ({}) into {name}",
+        cells(&job.dest.dims).unwrap_or(0),
+        shape_in_words(&job.dest.dims)
+    ));
+    Ok(())
+}
+
+/// What the destination holds before the gather.
+fn destination<T: Item>(
+    args: &GatherArgs,
+    stored: &Stored,
+    job: &GatherJob,
+    report: &mut Report,
+) -> Outcome<Grid<T>> {
+    if let Some(path) = &args.dest {
+        let lent = Lent {
+            path,
+            name: "dest",
+            layout: &job.dest,
+        };
+        return lent.load(report);
+    }
+    // A job that cannot be run is refused before room is made for its result.
+    job.compile().map_err(|error| stored.refused(error, None))?;
+    let order = packed_order(&job.dest).ok_or_else(|| {
+        let why = "its dest is not packed, so that there may be elements between its cells; give them with --dest";
+        Failure::of_file(&args.job, why)
+    })?;
+    Ok(Grid {
+        shape: job.dest.dims.clone(),
+        fortran_order: order.fortran_order(),
+        data: zeros(args, &job.dest.dims)?,
+    })
+}
+
+fn zeros<T: Item>(args: &GatherArgs, dims: &[usize]) -> Outcome<Vec<T>> {
+    let mut data = Vec::new();
+    let count = cells(dims).filter(|count| data.try_reserve_exact(*count).is_ok());
+    match count {
+        Some(count) => {
+            data.resize(count, T::default());
+            Ok(data)
+        }
+        None => Err(Failure::of_file(
+            &args.job,
+            format_args!("there is no memory for its dest, {}", shape_in_words(dims)),
+        )),
+    }
+}

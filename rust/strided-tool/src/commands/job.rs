@@ -1,0 +1,92 @@
+//! `strided job`: make, show, check.
+
+use std::path::Path;
+
+use strided::Job;
+
+use super::stored::{small_file, Stored};
+use super::{print_out, Report};
+use crate::cli::JobCommand;
+use crate::failure::{Failure, Outcome};
+use crate::job_text;
+use crate::npy::shape_in_words;
+use crate::output;
+use crate::refusal::{refused, views, Known};
+
+pub fn run(command: &JobCommand, report: &mut Report) -> Outcome<()> {
+    match command {
+        JobCommand::Make { text, out } => make(text, out, report),
+        JobCommand::Show { job } => print_out(&job_text::print(&Stored::read(job)?.job)),
+        JobCommand::Check { job } => check(job, report),
+    }
+}
+
+fn make(path: &Path, out: &Path, report: &mut Report) -> Outcome<()> {
+    output::is_apart(out, &[("the text", path)])?;
+    let job = described(path)?;
+    let about = path.display().to_string();
+    let known = Known {
+        job: Some(&job),
+        ..Known::default()
+    };
+    let bytes = job
+        .to_bytes()
+        .map_err(|error| refused(&about, error, &known))?;
+    output::write(out, |file| file.write_all(&bytes))?;
+    report.say(&format!("stored {} in {}", in_words(&job), out.display()));
+    if let Err(error) = compile(&job) {
+        let why = refused(&about, error, &known);
+        report.say(&format!("it is stored, but it cannot be run: {why}"));
+    }
+    Ok(())
+}
+
+/// The job that a file describes as text.
+fn described(path: &Path) -> Outcome<Job> {
+    let bytes = small_file(path, "a job's text")?;
+    let text = match String::from_utf8(bytes) {
+        Ok(text) if !text.contains('\0') => text,
+        _ => {
+            return Err(Failure::of_file(
+                path,
+                "it is not text; `strided job show` prints a stored job as text",
+            ))
+        }
+    };
+    let text = text.strip_prefix('\u{feff}').unwrap_or(&text);
+    job_text::parse(text).map_err(|error| match error.line {
+        Some(line) => Failure::Unusable(format!("{}:{line}: {}", path.display(), error.what)),
+        None => Failure::of_file(path, error.what),
+    })
+}
+
+fn check(path: &Path, report: &mut Report) -> Outcome<()> {
+    let stored = Stored::read(path)?;
+    compile(&stored.job).map_err(|error| stored.refused(error, None))?;
+    report.say(&format!(
+        "{}: {}, which can be run",
+        path.display(),
+        in_words(&stored.job)
+    ));
+    Ok(())
+}
+
+fn compile(job: &Job) -> strided::Result<()> {
+    match job {
+        Job::Gather(job) => job.compile().map(drop),
+        Job::Scatter(job) => job.compile().map(drop),
+    }
+}
+
+fn in_words(job: &Job) -> String {
+    let kind = match job {
+        Job::Gather(_) => "a gather",
+        Job::Scatter(_) => "a scatter",
+    };
+    let element = match job.element() {
+        strided::ElementType::I32 => "i32",
+        strided::ElementType::F64 => "f64",
+    };
+    let views = views(job).map(|(name, view)| format!("{name} {}", shape_in_words(&view.dims)));
+    format!("{kind} of {element} ({})", views.join(", "))
+}

@@ -1,0 +1,60 @@
+//! The commands.
+
+mod compare;
+mod gather;
+mod job;
+mod lent;
+mod print;
+mod scatter;
+mod show;
+mod stored;
+
+use std::io::{self, ErrorKind, Write};
+use std::path::Path;
+
+use crate::cli::Command;
+use crate::failure::{Failure, Outcome};
+
+/// Where a command tells what it has done.
+pub struct Report {
+    quiet: bool,
+}
+
+impl Report {
+    /// A report that says nothing where it is quiet.
+    pub fn new(quiet: bool) -> Report {
+        Report { quiet }
+    }
+
+    /// A line for the user, on standard error.
+    pub fn say(&mut self, line: &str) {
+        if !self.quiet {
+            let _ = writeln!(io::stderr(), "strided: {line}");
+        }
+    }
+}
+
+/// Does what the command line asks for.
+pub fn run(command: &Command, report: &mut Report) -> Outcome<()> {
+    match command {
+        Command::Job(command) => job::run(command, report),
+        Command::Gather(args) => gather::run(args, report),
+        Command::Scatter(args) => scatter::run(args, report),
+        Command::Show(args) => show::run(args, report),
+        Command::Compare(args) => compare::run(args),
+        Command::Print(args) => print::run(args),
+    }
+}
+
+/// Prints to standard output. A reader that has gone wants no more, and that is no failure.
+fn print_out(text: &str) -> Outcome<()> {
+    let mut out = io::stdout().lock();
+    match out.write_all(text.as_bytes()).and_then(|()| out.flush()) {
+        Err(error) if error.kind() != ErrorKind::BrokenPipe => Err(Failure::of_io(
+            Path::new("standard output"),
+            "write it",
+            &error,
+        )),
+        _ => Ok(()),
+    }
+}

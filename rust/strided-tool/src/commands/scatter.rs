@@ -1,0 +1,76 @@
+//! `strided scatter`.
+
+use strided::{Element, ElementType, Job, ScatterJob};
+
+use super::lent::Lent;
+use super::stored::Stored;
+use super::Report;
+use crate::cli::ScatterArgs;
+use crate::failure::Outcome;
+use crate::npy::{self, cells, shape_in_words, Item};
+use crate::output;
+
+pub fn run(args: &ScatterArgs, report: &mut Report) -> Outcome<()> {
+    output::is_apart(
+        &args.out,
+        &[
+            ("--job", &args.job),
+            ("--starts", &args.starts),
+            ("--updates", &args.updates),
+        ],
+    )?;
+    let stored = Stored::read(&args.job)?;
+    let Job::Scatter(job) = &stored.job else {
+        let answer = strided::scatter_job::<i32>(&stored.bytes, &[], &[], &mut []);
+        return Err(stored.of_other_kind(answer, "gather"));
+    };
+    match job.element {
+        ElementType::I32 => scatter::<i32>(args, &stored, job, report),
+        ElementType::F64 => scatter::<f64>(args, &stored, job, report),
+    }
+}
+
+fn scatter<T: Element + Item>(
+    args: &ScatterArgs,
+    stored: &Stored,
+    job: &ScatterJob,
+    report: &mut Report,
+) -> Outcome<()> {
+    let starts = Lent {
+        path: &args.starts,
+        name: "index",
+        layout: &job.index,
+    }
+    .load::<i64>(report)?;
+    let updates = Lent {
+        path: &args.updates,
+        name: "updates",
+        layout: &job.updates,
+    }
+    .load::<T>(report)?;
+    let mut grid = Lent {
+        path: &args.grid,
+        name: "dest",
+        layout: &job.dest,
+    }
+    .load::<T>(report)?;
+    strided::scatter_job(&stored.bytes, &starts.data, &updates.data, &mut grid.data).map_err(
+        |error| {
+            let lent = [
+                (args.starts.display().to_string(), starts.data.len()),
+                (args.updates.display().to_string(), updates.data.len()),
+                (args.grid.display().to_string(), grid.data.len()),
+            ];
+            stored.refused(error, Some(lent))
+        },
+    )?;
+    let name = args.out.display().to_string();
+    output::write(&args.out, |file| npy::write(&grid, &name, file))?;
+    report.say(&format!(
+        "added {} updates ({}) to the grid {}; it is in {name}",
+        cells(&job.updates.dims).unwrap_or(0),
+        shape_in_words(&job.updates.dims),
+        args.grid.display()
+    ));
+    Ok(())
+}

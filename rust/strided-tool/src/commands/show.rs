@@ -1,0 +1,128 @@
+//! `strided show`.
+
+use std::path::Path;
+
+use strided::{Element, GatherPlan, GatherSpec, StridedMut, StridedRef, ViewLayout};
+
+use super::Report;
+use crate::cli::ShowArgs;
+use crate::failure::{Failure, Outcome};
+use crate::npy::{shape_in_words, Grid, Header, Item, Kind, Opened};
+use crate::output;
+use crate::picture::{self, Drawn, Field, Place, Settings};
+use crate::refusal::{refused, Known};
+use crate::window::{Span, Window};
+
+pub fn run(args: &ShowArgs, report: &mut Report) -> Outcome<()> {
+    output::is_apart(&args.out, &[("the grid", &args.grid)])?;
+    let opened = Opened::open(&args.grid)?;
+    let place = place(args, opened.header())?;
+    match opened.header().kind {
+        Kind::I32 => show::<i32>(args, place, opened, report),
+        Kind::F64 => show::<f64>(args, place, opened, report),
+        Kind::I64 => Err(Failure::of_file(
+            &args.grid,
+            "it holds i64; grids of i32 and f64 are drawn",
+        )),
+    }
+}
+
+/// The rows and columns that are drawn.
+fn place(args: &ShowArgs, header: &Header) -> Outcome<Place> {
+    let [rows, columns] = header.shape.as_slice() else {
+        let shape = shape_in_words(&header.shape);
+        return Err(Failure::of_file(
+            &args.grid,
+            format_args!("its shape is {shape}; a grid of two axes is drawn"),
+        ));
+    };
+    if *rows == 0 || *columns == 0 {
+        return Err(Failure::of_file(&args.grid, "it has no cells to draw"));
+    }
+    let whole = Span {
+        from: None,
+        to: None,
+    };
+    let window = args.window.unwrap_or(Window {
+        rows: whole,
+        columns: whole,
+    });
+    let wrong = |why: String| Failure::of_file(&args.grid, why);
+    let (row, rows) = window.rows.within(*rows, "rows").map_err(wrong)?;
+    let (column, columns) = window.columns.within(*columns, "columns").map_err(wrong)?;
+    Ok(Place {
+        row,
+        rows,
+        column,
+        columns,
+    })
+}
+
+fn show<T: Element + Item + Drawn>(
+    args: &ShowArgs,
+    place: Place,
+    opened: Opened,
+    report: &mut Report,
+) -> Outcome<()> {
+    let grid: Grid<T> = opened.elements()?;
+    let field = Field {
+        place,
+        cells: read_window(&args.grid, &grid, place)?,
+    };
+    drop(grid);
+    let settings = Settings {
+        scale: args.scale,
+        cell: args.cell,
+    };
+    let picture = picture::draw(&field, &settings).map_err(Failure::Unusable)?;
+    output::write(&args.out, |file| picture.write(file))?;
+    for line in picture.in_words() {
+        report.say(&format!("{}: {line}", args.out.display()));
+    }
+    Ok(())
+}
+
+/// The window's cells, row by row, gathered by the library.
+fn read_window<T: Element + Item>(path: &Path, grid: &Grid<T>, place: Place) -> Outcome<Vec<T>> {
+    let (rows, columns) = (place.rows, place.columns);
+    let packed = if grid.fortran_order {
+        ViewLayout::column_major(&grid.shape)
+    } else {
+        ViewLayout::row_major(&grid.shape)
+    };
+    let layouts = packed.zip(ViewLayout::row_major(&[rows, columns]));
+    let starts = [place.row, place.column].map(|start| i64::try_from(start).unwrap_or(i64::MAX));
+    let mut cells = Vec::new();
+    let (Some((operand, dest)), Ok(())) = (
+        layouts,
+        cells.try_reserve_exact(rows.saturating_mul(columns)),
+    ) else {
+        return Err(Failure::of_file(path, "there is no memory for its window"));
+    };
+    cells.resize(rows.saturating_mul(columns), T::default());
+    let spec = GatherSpec {
+        offset_dims: vec![0, 1],
+        collapsed_slice_dims: Vec::new(),
+        start_index_map: vec![0, 1],
+        index_vector_dim: 0,
+        slice_sizes: vec![rows, columns],
+    };
+    GatherPlan::compile(
+        &operand.dims,
+        &operand.strides,
+        &[2],
+        &[1],
+        &dest.dims,
+        &dest.strides,
+        spec,
+    )
+    .and_then(|plan| {
+        plan.execute(
+            &mut StridedMut::new(&mut cells, &dest.dims, &dest.strides, 0),
+            &operand.view(&grid.data),
+            &StridedRef::new(&starts, &[2], &[1], 0),
+        )
+    })
+    .map_err(|error| refused(&path.display().to_string(), error, &Known::default()))?;
+    Ok(cells)
+}

@@ -1,0 +1,159 @@
+//! Pictures of a grid's cells, with a bar that shows which colour stands for which value.
+
+mod canvas;
+mod colours;
+mod field;
+mod font;
+mod layout;
+mod ticks;
+
+pub use field::{Drawn, Field, Place};
+
+use std::io::{self, Write};
+
+use canvas::Canvas;
+use field::Summary;
+use layout::Layout;
+
+use crate::progress::Progress;
+use crate::window::Scale;
+
+/// The longer side of a picture's cells, in pixels, where no size of a cell is asked for.
+const COMFORTABLE: usize = 640;
+/// The largest size of a cell that is chosen.
+const LARGE_CELL: usize = 32;
+/// With one pixel for each cell a picture may be as long as this; beyond it cells are put together.
+const LONGEST: usize = 4096;
+/// With a size that is asked for it may be as long as this.
+const LONGEST_ASKED: usize = 8192;
+
+/// What the user asks of a picture.
+pub struct Settings {
+    /// The values at the ends of the colours.
+    pub scale: Option<Scale>,
+    /// Pixels along a cell.
+    pub cell: Option<usize>,
+}
+
+/// A picture, with what is told of it.
+pub struct Picture {
+    canvas: Canvas,
+    place: Place,
+    summary: Summary,
+    sizes: Sizes,
+    outside: usize,
+}
+
+/// How large cells are drawn.
+#[derive(Clone, Copy, Debug, Eq, PartialEq)]
+struct Sizes {
+    /// Pixels along a drawn square.
+    pixels: usize,
+    /// Cells along a drawn square.
+    cells: usize,
+}
+
+/// Draws a field; says what to do where it is too large.
+pub fn draw<T: Drawn>(field: &Field<T>, settings: &Settings) -> Result<Picture, String> {
+    let sizes = sizes(field.place, settings.cell)?;
+    let summary = field.summary();
+    let scale = settings.scale.unwrap_or(Scale {
+        low: summary.low.unwrap_or(0.0),
+        high: summary.high.unwrap_or(0.0),
+    });
+    let squares = field.squares(sizes.cells);
+    let layout = Layout::new(
+        field.place,
+        sizes.pixels,
+        sizes.cells,
+        scale,
+        summary.nan > 0,
+    );
+    Ok(Picture {
+        canvas: layout
+            .draw(&squares)
+            .ok_or("there is no memory for the picture")?,
+        place: field.place,
+        summary,
+        sizes,
+        outside: field.outside(scale),
+    })
+}
+
+fn sizes(place: Place, asked: Option<usize>) -> Result<Sizes, String> {
+    let longest = place.rows.max(place.columns);
+    match asked {
+        Some(0) => Err("--cell is 0; give at least 1 pixel".to_owned()),
+        Some(pixels) if longest.saturating_mul(pixels) > LONGEST_ASKED => Err(format!(
+            "{longest} cells of {pixels} pixels are more than {LONGEST_ASKED} pixels; give a smaller --cell or --window, or leave --cell out"
+        )),
+        Some(pixels) => Ok(Sizes { pixels, cells: 1 }),
+        None => Ok(Sizes {
+            pixels: COMFORTABLE
+                .checked_div(longest)
+                .unwrap_or(1)
+                .clamp(1, LARGE_CELL),
+            cells: longest.div_ceil(LONGEST).max(1),
+        }),
+    }
+}
+
+impl Picture {
+    /// Writes the picture as PNG.
+    pub fn write(&self, output: &mut dyn Write) -> io::Result<()> {
+        let too_large = |_| io::Error::new(io::ErrorKind::InvalidInput, "the picture is too large");
+        let width = u32::try_from(self.canvas.width()).map_err(too_large)?;
+        let height = u32::try_from(self.canvas.height()).map_err(too_large)?;
+        let mut encoder = png::Encoder::new(output, width, height);
+        encoder.set_color(png::ColorType::Rgb);
+        encoder.set_depth(png::BitDepth::Eight);
+        let mut writer = encoder.write_header()?;
+        let mut stream = writer.stream_writer()?;
+        let mut progress = Progress::new("writing the picture", u64::from(height));
+        for row in self.canvas.rows() {
+            stream.write_all(row)?;
+            progress.advance(1);
+        }
+        stream.finish()?;
+        drop(writer);
+        Ok(())
+    }
+
+    /// What is told of the picture, a line each.
+    pub fn in_words(&self) -> Vec<String> {
+        let place = self.place;
+        let drawn = format!(
+            "{} x {} cells, rows {} to {}, columns {} to {}",
+            place.rows,
+            place.columns,
+            place.row,
+            place.last_row(),
+            place.column,
+            place.last_column()
+        );
+        let size = match self.sizes {
+            Sizes { pixels, cells: 1 } => format!("{pixels} pixels a cell"),
+            Sizes { cells, .. } => {
+                format!("too many for one pixel each: a pixel shows the lowest value of {cells} x {cells} cells")
+            }
+        };
+        vec![format!("{drawn}, {size}"), self.values_in_words()]
+    }
+
+    fn values_in_words(&self) -> String {
+        let summary = &self.summary;
+        let mut words = match (summary.low, summary.high) {
+            (Some(low), Some(high)) => format!("lowest {low}, highest {high}"),
+            _ => "no cell has a finite value".to_owned(),
+        };
+        let counted = [
+            (summary.nan, "NaN"),
+            (summary.infinite, "infinite"),
+            (self.outside, "outside the scale"),
+        ];
+        for (count, what) in counted.iter().filter(|(count, _)| *count > 0) {
+            words.push_str(&format!(", {count} {what}"));
+        }
+        words
+    }
+}

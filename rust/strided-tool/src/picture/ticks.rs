@@ -1,0 +1,141 @@
+//! Which numbers stand at a scale.
+
+use crate::window::Scale;
+
+/// At most so many values stand between the ends of a scale.
+const BETWEEN: u32 = 5;
+
+/// A number beside a scale: how far along it stands, from 0 to 1, and its text.
+#[derive(Clone, Debug, PartialEq)]
+pub struct Tick {
+    /// How far along.
+    pub share: f64,
+    /// What stands there.
+    pub text: String,
+}
+
+/// The two ends, and round numbers between them.
+pub fn of_values(scale: Scale) -> Vec<Tick> {
+    let Scale { low, high } = scale;
+    let reach = high - low;
+    if reach.partial_cmp(&0.0) != Some(std::cmp::Ordering::Greater) {
+        return vec![Tick {
+            share: 0.5,
+            text: text(low, 0),
+        }];
+    }
+    let step = round_step(reach / f64::from(BETWEEN));
+    let decimals = decimals_of(step);
+    let end = |share, value| Tick {
+        share,
+        text: text(value, decimals),
+    };
+    let mut ticks = vec![end(0.0, low), end(1.0, high)];
+    if reach.is_finite() && step > 0.0 {
+        let first = (low / step).ceil();
+        for number in 0..=BETWEEN.saturating_mul(2) {
+            let value = (first + f64::from(number)) * step;
+            let share = (value - low) / reach;
+            if share > 0.0 && share < 1.0 {
+                ticks.push(end(share, value));
+            }
+        }
+    }
+    ticks
+}
+
+/// The least of 1, 2 and 5 times a power of ten that is not below a number.
+fn round_step(at_least: f64) -> f64 {
+    let power = 10_f64.powf(at_least.log10().floor());
+    [1.0, 2.0, 5.0, 10.0]
+        .iter()
+        .map(|factor| factor * power)
+        .find(|step| *step >= at_least)
+        .unwrap_or(at_least)
+}
+
+fn decimals_of(step: f64) -> usize {
+    let places = -step.log10().floor();
+    if places > 0.0 {
+        // Between 0 and 324.
+        places as usize
+    } else {
+        0
+    }
+}
+
+/// A number with so many decimals, or with an exponent where that is long. The decimals of an end that is not round are kept.
+fn text(value: f64, decimals: usize) -> String {
+    let plain = format!("{value:.decimals$}");
+    let exact = format!("{value}");
+    let short = if exact.len() <= plain.len().saturating_add(2) {
+        exact
+    } else {
+        plain
+    };
+    if short.len() > 9 {
+        return format!("{value:.3e}");
+    }
+    short
+}
+
+/// Round indices from the first to the last, at least so many apart.
+pub fn of_indices(first: usize, last: usize, apart: usize) -> Vec<usize> {
+    let step = round_index_step(apart.max(1));
+    let from = first.checked_next_multiple_of(step).unwrap_or(usize::MAX);
+    (from..=last).step_by(step).collect()
+}
+
+fn round_index_step(at_least: usize) -> usize {
+    let mut power = 1_usize;
+    loop {
+        for factor in [1, 2, 5] {
+            let step = power.saturating_mul(factor);
+            if step >= at_least {
+                return step;
+            }
+        }
+        power = power.saturating_mul(10);
+    }
+}
+
+#[cfg(test)]
+mod tests {
+    use super::*;
+
+    fn texts(low: f64, high: f64) -> Vec<String> {
+        let ticks = of_values(Scale { low, high });
+        assert!(ticks.iter().all(|tick| (0.0..=1.0).contains(&tick.share)));
+        ticks.into_iter().map(|tick| tick.text).collect()
+    }
+
+    #[test]
+    fn round_numbers_between_the_ends() {
+        assert_eq!(texts(0.0, 100.0), ["0", "100", "20", "40", "60", "80"]);
+        assert_eq!(
+            texts(7312.0, 12044.0),
+            ["7312", "12044", "8000", "9000", "10000", "11000", "12000"]
+        );
+        assert_eq!(
+            texts(-0.25, 0.25),
+            ["-0.25", "0.25", "-0.2", "-0.1", "0", "0.1", "0.2"]
+        );
+        assert_eq!(texts(3.0, 3.0), ["3"]);
+    }
+
+    #[test]
+    fn extreme_scales() {
+        assert_eq!(texts(-f64::MAX, f64::MAX).len(), 2);
+        assert!(texts(0.0, f64::MIN_POSITIVE).len() >= 2);
+        assert!(texts(1e300, 2e300).iter().all(|text| text.len() < 12));
+        assert!(texts(1.0, 1.0 + f64::EPSILON).len() >= 2);
+    }
+
+    #[test]
+    fn round_indices() {
+        assert_eq!(of_indices(3, 42, 7), [10, 20, 30, 40]);
+        assert_eq!(of_indices(0, 3, 1), [0, 1, 2, 3]);
+        assert_eq!(of_indices(7, 7, 10), Vec::<usize>::new());
+        assert_eq!(of_indices(usize::MAX, usize::MAX, 7), [usize::MAX]);
+    }
+}

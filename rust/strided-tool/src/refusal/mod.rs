@@ -1,0 +1,130 @@
+//! The library's refusals in words: the number with its name and meaning, then what it says of the job at hand.
+
+mod bytes;
+mod counts;
+mod gather;
+mod scatter;
+
+use strided::{Job, StridedError, ViewLayout};
+
+use crate::failure::Failure;
+use crate::job_text::list;
+
+/// What is known where the library refuses.
+#[derive(Default)]
+pub struct Known<'a> {
+    /// The job, where it could be read.
+    pub job: Option<&'a Job>,
+    /// The bytes of the stored job.
+    pub bytes: Option<&'a [u8]>,
+    /// For the three views in order, the file that lends the elements and how many they are.
+    pub lent: Option<[(String, usize); 3]>,
+}
+
+/// The failure that tells a refusal: `about` names what was refused.
+pub fn refused(about: &str, error: StridedError, known: &Known<'_>) -> Failure {
+    let (number, a, b) = (error.number(), error.a(), error.b());
+    let name = name(&error);
+    let mut text = format!("{about}: refused by {number} {name} (a = {a}, b = {b}): {error}");
+    if let Some(more) = explanation(error, known) {
+        text.push('\n');
+        text.push_str(&more);
+    }
+    Failure::Refused(text)
+}
+
+fn name(error: &StridedError) -> &'static str {
+    match error {
+        StridedError::StrideLengthMismatch => "StrideLengthMismatch",
+        StridedError::RankTooLarge { .. } => "RankTooLarge",
+        StridedError::OffsetOverflow => "OffsetOverflow",
+        StridedError::NonInjectiveOutputLayout => "NonInjectiveOutputLayout",
+        StridedError::RankMismatch { .. } => "RankMismatch",
+        StridedError::InvalidAxis { .. } => "InvalidAxis",
+        StridedError::ShapeMismatch { .. } => "ShapeMismatch",
+        StridedError::PlanLayoutMismatch => "PlanLayoutMismatch",
+        StridedError::BufferBounds { .. } => "BufferBounds",
+        StridedError::JobBytes { .. } => "JobBytes",
+        _ => "(a refusal that this tool does not know by name)",
+    }
+}
+
+fn explanation(error: StridedError, known: &Known<'_>) -> Option<String> {
+    if let StridedError::JobBytes { place } = error {
+        return known.bytes.map(|bytes| bytes::field_at(bytes, place));
+    }
+    let job = known.job?;
+    match error {
+        StridedError::StrideLengthMismatch => unequal_strides(job),
+        StridedError::RankTooLarge { rank, .. } => large_rank(job, rank),
+        StridedError::OffsetOverflow => Some("make extents or strides smaller".to_owned()),
+        StridedError::NonInjectiveOutputLayout => not_nested(job),
+        StridedError::BufferBounds { view, .. } => outside(job, view, known),
+        StridedError::RankMismatch { .. }
+        | StridedError::InvalidAxis { .. }
+        | StridedError::ShapeMismatch { .. } => match job {
+            Job::Gather(job) => gather::explanation(job, error),
+            Job::Scatter(job) => scatter::explanation(job, error),
+        },
+        _ => None,
+    }
+}
+
+/// The three views in order, by the names that a job's text has for them.
+pub fn views(job: &Job) -> [(&'static str, &ViewLayout); 3] {
+    match job {
+        Job::Gather(job) => [
+            ("operand", &job.operand),
+            ("index", &job.index),
+            ("dest", &job.dest),
+        ],
+        Job::Scatter(job) => [
+            ("index", &job.index),
+            ("updates", &job.updates),
+            ("dest", &job.dest),
+        ],
+    }
+}
+
+fn unequal_strides(job: &Job) -> Option<String> {
+    views(job)
+        .iter()
+        .find(|(_, view)| view.dims.len() != view.strides.len())
+        .map(|(name, view)| {
+            let (extents, strides) = (view.dims.len(), view.strides.len());
+            format!("{name}.extents has {extents} entries and {name}.strides {strides}; give one stride for each axis")
+        })
+}
+
+fn large_rank(job: &Job, rank: u64) -> Option<String> {
+    views(job)
+        .iter()
+        .find(|(_, view)| u64::try_from(view.dims.len()) == Ok(rank))
+        .map(|(name, _)| format!("it is the {name} that has {rank} axes"))
+}
+
+fn not_nested(job: &Job) -> Option<String> {
+    let [_, _, (_, dest)] = views(job);
+    Some(format!(
+        "dest has extents {} with strides {}; ordered by size, each stride must exceed the reach of the smaller ones",
+        list(&dest.dims),
+        list(&dest.strides)
+    ))
+}
+
+fn outside(job: &Job, view: u64, known: &Known<'_>) -> Option<String> {
+    let place = usize::try_from(view).ok()?.checked_sub(1)?;
+    let (name, layout) = *views(job).get(place)?;
+    let cells = format!(
+        "view {view} is the {name}: extents {}, strides {}, offset {}",
+        list(&layout.dims),
+        list(&layout.strides),
+        layout.offset
+    );
+    match known.lent.as_ref().and_then(|lent| lent.get(place)) {
+        Some((file, count)) => Some(format!(
+            "{cells}; {file} lends {count} elements, numbered from 0"
+        )),
+        None => Some(cells),
+    }
+}
