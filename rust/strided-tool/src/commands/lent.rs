@@ -37,8 +37,11 @@ impl Lent<'_> {
     fn other_type(&self, found: Kind, wanted: Kind) -> String {
         let (name, descr) = (self.name, wanted.descr());
         let convert = format!("convert it in NumPy with .astype('{descr}')");
-        match wanted {
-            Kind::I64 => format!("it holds {found}, and starts are i64; {convert}"),
+        match (wanted, found) {
+            (Kind::I64, _) => format!("it holds {found}, and starts are i64; {convert}"),
+            (_, Kind::I64) => {
+                format!("it holds {found}, and the job's {name} is of {wanted}; {convert}")
+            }
             _ => format!(
                 "it holds {found}, and the job's {name} is of {wanted}; {convert}, or make a job of {found}"
             ),

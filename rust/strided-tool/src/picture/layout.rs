@@ -4,6 +4,7 @@ use super::canvas::{text_width, Box, Canvas, TEXT_HEIGHT};
 use super::colours::{colour_at, colour_of, INK, NOT_A_NUMBER};
 use super::field::{Place, Squares};
 use super::ticks::{self, Tick};
+use super::Sizes;
 use crate::progress::Progress;
 use crate::window::Scale;
 
@@ -19,8 +20,7 @@ const APART: usize = 14;
 /// A picture's parts.
 pub struct Layout {
     place: Place,
-    pixels: usize,
-    side: usize,
+    sizes: Sizes,
     scale: Scale,
     ticks: Vec<Tick>,
     cells: Box,
@@ -29,8 +29,8 @@ pub struct Layout {
 }
 
 impl Layout {
-    /// Places everything: `pixels` along a square of `side` cells each way.
-    pub fn new(place: Place, pixels: usize, side: usize, scale: Scale, nan: bool) -> Layout {
+    /// Places everything, the colour of NaN where there is one.
+    pub fn new(place: Place, sizes: Sizes, scale: Scale, nan: bool) -> Layout {
         let ticks = ticks::of_values(scale);
         let rows = place.last_row().to_string();
         let left = MARGIN
@@ -39,12 +39,12 @@ impl Layout {
         let top = MARGIN
             .saturating_add(TEXT_HEIGHT)
             .saturating_add(GAP.saturating_add(TICK));
-        let along = |count: usize| count.div_ceil(side.max(1)).saturating_mul(pixels);
+        let squares = |count: usize| count.div_ceil(sizes.cells.max(1));
         let cells = Box {
             x: left,
             y: top,
-            width: along(place.columns),
-            height: along(place.rows),
+            width: squares(place.columns).saturating_mul(sizes.across),
+            height: squares(place.rows).saturating_mul(sizes.down),
         };
         let bar = Box {
             x: cells.right().saturating_add(MARGIN.saturating_mul(2)),
@@ -59,8 +59,7 @@ impl Layout {
         });
         Layout {
             place,
-            pixels,
-            side: side.max(1),
+            sizes,
             scale,
             ticks,
             cells,
@@ -100,16 +99,14 @@ impl Layout {
         let total = u64::try_from(squares.values.len()).unwrap_or(u64::MAX);
         let mut progress = Progress::new("drawing", total);
         let rows = squares.values.chunks(squares.columns.max(1));
+        let Sizes { across, down, .. } = self.sizes;
         for (row, values) in (0_usize..).zip(rows) {
             for (column, value) in (0_usize..).zip(values) {
                 let place = Box {
-                    x: self
-                        .cells
-                        .x
-                        .saturating_add(column.saturating_mul(self.pixels)),
-                    y: self.cells.y.saturating_add(row.saturating_mul(self.pixels)),
-                    width: self.pixels,
-                    height: self.pixels,
+                    x: self.cells.x.saturating_add(column.saturating_mul(across)),
+                    y: self.cells.y.saturating_add(row.saturating_mul(down)),
+                    width: across,
+                    height: down,
                 };
                 canvas.fill(place, colour_of(*value, self.scale));
             }
@@ -118,28 +115,26 @@ impl Layout {
         canvas.frame(self.cells);
     }
 
-    /// The middle of the cell at an index, so many cells from the first that is drawn.
-    fn middle(&self, cells: usize) -> usize {
-        let square = cells.checked_div(self.side).unwrap_or(0);
-        square
-            .saturating_mul(self.pixels)
-            .saturating_add(self.pixels / 2)
+    /// The middle of the cell that comes after so many others, where a square takes so many pixels.
+    fn middle(&self, cells: usize, pixels: usize) -> usize {
+        let square = cells.checked_div(self.sizes.cells).unwrap_or(0);
+        square.saturating_mul(pixels).saturating_add(pixels / 2)
     }
 
-    /// How many cells lie at least between two numbers that take so many pixels.
-    fn cells_apart(&self, pixels: usize) -> usize {
-        let squares = pixels.saturating_add(APART).div_ceil(self.pixels.max(1));
-        squares.saturating_mul(self.side)
+    /// How many cells lie at least from one number to the next, which takes so much room.
+    fn cells_apart(&self, room: usize, pixels: usize) -> usize {
+        let squares = room.saturating_add(APART).div_ceil(pixels.max(1));
+        squares.saturating_mul(self.sizes.cells)
     }
 
     fn rows(&self, canvas: &mut Canvas) {
         let place = self.place;
-        let apart = self.cells_apart(TEXT_HEIGHT);
+        let apart = self.cells_apart(TEXT_HEIGHT, self.sizes.down);
         for row in shown(place.row, place.last_row(), apart) {
             let y = self
                 .cells
                 .y
-                .saturating_add(self.middle(row.saturating_sub(place.row)));
+                .saturating_add(self.middle(row.saturating_sub(place.row), self.sizes.down));
             let x = self.cells.x.saturating_sub(TICK);
             canvas.fill(
                 Box {
@@ -161,9 +156,16 @@ impl Layout {
     fn columns(&self, canvas: &mut Canvas) {
         let place = self.place;
         let widest = text_width(&place.last_column().to_string());
-        for column in shown(place.column, place.last_column(), self.cells_apart(widest)) {
+        for column in shown(
+            place.column,
+            place.last_column(),
+            self.cells_apart(widest, self.sizes.across),
+        ) {
             let cells = column.saturating_sub(place.column);
-            let x = self.cells.x.saturating_add(self.middle(cells));
+            let x = self
+                .cells
+                .x
+                .saturating_add(self.middle(cells, self.sizes.across));
             let y = self.cells.y.saturating_sub(TICK);
             canvas.fill(
                 Box {

@@ -20,6 +20,8 @@ use crate::window::Scale;
 
 /// The longer side of a picture's cells, in pixels, where no size of a cell is asked for.
 const COMFORTABLE: usize = 640;
+/// The shorter side is at least about this long then.
+const THIN: usize = 24;
 /// The largest size of a cell that is chosen.
 const LARGE_CELL: usize = 32;
 /// With one pixel for each cell a picture may be as long as this; beyond it cells are put together.
@@ -47,9 +49,11 @@ pub struct Picture {
 /// How large cells are drawn.
 #[derive(Clone, Copy, Debug, Eq, PartialEq)]
 struct Sizes {
-    /// Pixels along a drawn square.
-    pixels: usize,
-    /// Cells along a drawn square.
+    /// Pixels from left to right of a drawn square.
+    across: usize,
+    /// Pixels from top to bottom of it.
+    down: usize,
+    /// Cells along each of its sides.
     cells: usize,
 }
 
@@ -62,13 +66,7 @@ pub fn draw<T: Drawn>(field: &Field<T>, settings: &Settings) -> Result<Picture, 
         high: summary.high.unwrap_or(0.0),
     });
     let squares = field.squares(sizes.cells);
-    let layout = Layout::new(
-        field.place,
-        sizes.pixels,
-        sizes.cells,
-        scale,
-        summary.nan > 0,
-    );
+    let layout = Layout::new(field.place, sizes, scale, summary.nan > 0);
     Ok(Picture {
         canvas: layout
             .draw(&squares)
@@ -87,14 +85,30 @@ fn sizes(place: Place, asked: Option<usize>) -> Result<Sizes, String> {
         Some(pixels) if longest.saturating_mul(pixels) > LONGEST_ASKED => Err(format!(
             "{longest} cells of {pixels} pixels are more than {LONGEST_ASKED} pixels; give a smaller --cell or --window, or leave --cell out"
         )),
-        Some(pixels) => Ok(Sizes { pixels, cells: 1 }),
-        None => Ok(Sizes {
-            pixels: COMFORTABLE
-                .checked_div(longest)
-                .unwrap_or(1)
-                .clamp(1, LARGE_CELL),
-            cells: longest.div_ceil(LONGEST).max(1),
+        Some(pixels) => Ok(Sizes {
+            across: pixels,
+            down: pixels,
+            cells: 1,
         }),
+        None => Ok(chosen(place, longest)),
+    }
+}
+
+/// A size that suits the field; a thin one is drawn thicker than its cells are long.
+fn chosen(place: Place, longest: usize) -> Sizes {
+    let cells = longest.div_ceil(LONGEST).max(1);
+    let pixels = COMFORTABLE
+        .checked_div(longest)
+        .unwrap_or(1)
+        .min(LARGE_CELL);
+    let along = |count: usize| {
+        let thick = THIN.checked_div(count.div_ceil(cells)).unwrap_or(1);
+        pixels.max(thick).max(1)
+    };
+    Sizes {
+        across: along(place.columns),
+        down: along(place.rows),
+        cells,
     }
 }
 
@@ -132,10 +146,12 @@ impl Picture {
             place.last_column()
         );
         let size = match self.sizes {
-            Sizes { pixels, cells: 1 } => format!("{pixels} pixels a cell"),
-            Sizes { cells, .. } => {
-                format!("too many for one pixel each: a pixel shows the lowest value of {cells} x {cells} cells")
-            }
+            Sizes { cells: 1, across: 1, down: 1 } => "1 pixel a cell".to_owned(),
+            Sizes { cells: 1, across, down } if across == down => format!("{across} pixels a cell"),
+            Sizes { cells: 1, across, down } => format!("{down} x {across} pixels a cell"),
+            Sizes { cells, .. } => format!(
+                "too many for one pixel each: a pixel shows the lowest value of {cells} x {cells} cells"
+            ),
         };
         vec![format!("{drawn}, {size}"), self.values_in_words()]
     }
@@ -143,7 +159,9 @@ impl Picture {
     fn values_in_words(&self) -> String {
         let summary = &self.summary;
         let mut words = match (summary.low, summary.high) {
-            (Some(low), Some(high)) => format!("lowest {low}, highest {high}"),
+            (Some(low), Some(high)) => {
+                format!("lowest {}, highest {}", exact(low), exact(high))
+            }
             _ => "no cell has a finite value".to_owned(),
         };
         let counted = [
@@ -155,5 +173,42 @@ impl Picture {
             words.push_str(&format!(", {count} {what}"));
         }
         words
+    }
+}
+
+/// A value so that it is read back the same.
+fn exact(value: f64) -> String {
+    if value.fract() == 0.0 && value.abs() < 1e15 {
+        return format!("{value}");
+    }
+    format!("{value:?}")
+}
+
+#[cfg(test)]
+mod tests {
+    use super::*;
+
+    fn chosen(rows: usize, columns: usize) -> Sizes {
+        let place = Place {
+            row: 0,
+            rows,
+            column: 0,
+            columns,
+        };
+        super::chosen(place, rows.max(columns))
+    }
+
+    #[test]
+    fn sizes_suit_the_field() {
+        let sizes = |across, down, cells| Sizes {
+            across,
+            down,
+            cells,
+        };
+        assert_eq!(chosen(96, 160), sizes(4, 4, 1));
+        assert_eq!(chosen(1, 1), sizes(32, 32, 1));
+        assert_eq!(chosen(1, 3000), sizes(1, 24, 1));
+        assert_eq!(chosen(5000, 9000), sizes(1, 1, 3));
+        assert_eq!(chosen(usize::MAX, 1).cells, usize::MAX / 4096 + 1);
     }
 }

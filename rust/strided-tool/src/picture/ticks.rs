@@ -26,18 +26,20 @@ pub fn of_values(scale: Scale) -> Vec<Tick> {
     }
     let step = round_step(reach / f64::from(BETWEEN));
     let decimals = decimals_of(step);
-    let end = |share, value| Tick {
+    let tick = |share, value, decimals| Tick {
         share,
         text: text(value, decimals),
     };
-    let mut ticks = vec![end(0.0, low), end(1.0, high)];
+    // An end need not be round, and gets a decimal more.
+    let finer = decimals.saturating_add(1);
+    let mut ticks = vec![tick(0.0, low, finer), tick(1.0, high, finer)];
     if reach.is_finite() && step > 0.0 {
         let first = (low / step).ceil();
         for number in 0..=BETWEEN.saturating_mul(2) {
             let value = (first + f64::from(number)) * step;
             let share = (value - low) / reach;
             if share > 0.0 && share < 1.0 {
-                ticks.push(end(share, value));
+                ticks.push(tick(share, value, decimals));
             }
         }
     }
@@ -64,11 +66,11 @@ fn decimals_of(step: f64) -> usize {
     }
 }
 
-/// A number with so many decimals, or with an exponent where that is long. The decimals of an end that is not round are kept.
+/// A number with so many decimals, fewer where it has fewer, or with an exponent where that is long.
 fn text(value: f64, decimals: usize) -> String {
     let plain = format!("{value:.decimals$}");
     let exact = format!("{value}");
-    let short = if exact.len() <= plain.len().saturating_add(2) {
+    let short = if exact.len() <= plain.len() {
         exact
     } else {
         plain
@@ -120,6 +122,7 @@ mod tests {
             texts(-0.25, 0.25),
             ["-0.25", "0.25", "-0.2", "-0.1", "0", "0.1", "0.2"]
         );
+        assert_eq!(texts(-3.7366, 3.5781), ["-3.7", "3.6", "-2", "0", "2"]);
         assert_eq!(texts(3.0, 3.0), ["3"]);
     }
 
