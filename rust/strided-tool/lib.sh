@@ -1,0 +1,76 @@
+# Shared by the commands that build and check the tool: where its crates come from. Sourced, with $root set.
+
+registry=/usr/share/cargo/registry
+packages='librust-clap-dev librust-png-dev librust-indicatif-dev'
+tool=$root/target/rust/release/strided
+archive=$root/target/staticlib/libstrided.a
+
+say() { printf '%s\n' "$*" >&2; }
+
+fail() {
+    say "$*"
+    exit 1
+}
+
+need_cargo() {
+    command -v cargo >/dev/null 2>&1 || PATH=$PATH:${HOME-}/.cargo/bin
+    command -v cargo >/dev/null 2>&1 || fail "cargo is missing: install Rust 1.84 or newer"
+}
+
+# Installs Debian's packages, named as arguments, where that can be done. What apt-get says goes to a file.
+install_packages() {
+    command -v apt-get >/dev/null 2>&1 && [ "$(id -u)" -eq 0 ] || return 1
+    say "installing $* from Debian"
+    mkdir -p "$root/target/rust"
+    {
+        apt-get -o DPkg::Lock::Timeout=300 update &&
+            DEBIAN_FRONTEND=noninteractive apt-get -o DPkg::Lock::Timeout=300 install -y "$@"
+    } >"$root/target/rust/apt.log" 2>&1 || {
+        say "apt-get could not install them (target/rust/apt.log)"
+        return 1
+    }
+}
+
+have_crates() {
+    set -- "$registry"/clap-4.* "$registry"/png-0.17.* "$registry"/indicatif-0.17.*
+    [ -e "$1" ] && [ -e "$2" ] && [ -e "$3" ]
+}
+
+# The archive is made where it is missing or older than what it is made from.
+need_archive() {
+    if [ -e "$archive" ]; then
+        newer=$(find "$root/crates.txt" "$root"/crates/*/src "$root"/crates/*/specs -newer "$archive" | head -n 1)
+        [ -n "$newer" ] || return 0
+    fi
+    command -v rt >/dev/null 2>&1 || fail "libstrided.a is missing or old, and the Rattle toolchain's command rt is not on the PATH"
+    say "making libstrided.a"
+    (cd "$root" && rt staticlib strided) >&2
+}
+
+# Finds the crates: Debian's where they are or can be installed, or else those of the usual registry.
+find_crates() {
+    # shellcheck disable=SC2086
+    if have_crates || { install_packages $packages && have_crates; }; then
+        from_debian=yes
+        # Debian has one version of each crate, so that a lock of other versions is of no use.
+        rm -f "$root/rust/strided-tool/Cargo.lock"
+        return 0
+    fi
+    from_debian=no
+    (cd "$root/rust/strided-tool" && cargo fetch --quiet) >&2 ||
+        fail "clap, png and indicatif could not be had: neither as Debian's packages ($packages) nor from the usual registry"
+}
+
+# Runs cargo in the tool's folder, its results in target/rust.
+tool_cargo() {
+    (
+        cd "$root/rust/strided-tool"
+        command=$1
+        shift
+        if [ "$from_debian" = yes ]; then
+            set -- --offline --config 'source.crates-io.replace-with="debian"' \
+                --config "source.debian.directory=\"$registry\"" "$@"
+        fi
+        cargo "$command" --quiet --release --target-dir "$root/target/rust" "$@"
+    ) >&2
+}
