@@ -56,14 +56,10 @@ fn round_step(at_least: f64) -> f64 {
         .unwrap_or(at_least)
 }
 
+/// The decimals that tell two neighbours apart; a number of more than a few is written with an exponent, so twenty are enough.
 fn decimals_of(step: f64) -> usize {
     let places = -step.log10().floor();
-    if places > 0.0 {
-        // Between 0 and 324.
-        places as usize
-    } else {
-        0
-    }
+    places.clamp(0.0, 20.0) as usize
 }
 
 /// A number with so many decimals, fewer where it has fewer, or with an exponent where that is long.
@@ -130,6 +126,7 @@ mod tests {
     fn extreme_scales() {
         assert_eq!(texts(-f64::MAX, f64::MAX).len(), 2);
         assert!(texts(0.0, f64::MIN_POSITIVE).len() >= 2);
+        assert!(texts(0.0, 5e-324).len() >= 2);
         assert!(texts(1e300, 2e300).iter().all(|text| text.len() < 12));
         assert!(texts(1.0, 1.0 + f64::EPSILON).len() >= 2);
     }

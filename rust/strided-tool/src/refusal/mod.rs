@@ -121,10 +121,15 @@ fn outside(job: &Job, view: u64, known: &Known<'_>) -> Option<String> {
         list(&layout.strides),
         layout.offset
     );
-    match known.lent.as_ref().and_then(|lent| lent.get(place)) {
-        Some((file, count)) => Some(format!(
-            "{cells}; {file} lends {count} elements, numbered from 0"
-        )),
-        None => Some(cells),
-    }
+    let Some((file, count)) = known.lent.as_ref().and_then(|lent| lent.get(place)) else {
+        return Some(cells);
+    };
+    let wanted = if layout.dims.contains(&0) {
+        format!("it has no cells, and its offset may be from 0 to {count}")
+    } else {
+        "all its cells must lie among them".to_owned()
+    };
+    Some(format!(
+        "{cells}; {file} lends {count} elements, numbered from 0: {wanted}"
+    ))
 }

@@ -1,0 +1,136 @@
+"""The tool beside NumPy: files of all types and orders, gathers and scatters against plain loops. usage: with_numpy.py TOOL [SEED] [COUNT]"""
+
+import itertools
+import random
+import sys
+
+import numpy as np
+
+from harness import check, content, done, finish, path, put, run
+from reference import gather, job_text, random_gather, random_scatter, scatter
+
+SHAPES = [(), (0,), (5,), (3, 4), (2, 3, 4), (2, 0, 3), (1, 7)]
+
+
+def same(left, right):
+    """The same elements bit for bit, a NaN for any NaN."""
+    return left.dtype == right.dtype and left.shape == right.shape and all(
+        a == b or (np.asarray(a != a).all() and np.asarray(b != b).all())
+        for a, b in zip(left.ravel().tolist(), right.ravel().tolist()))
+
+
+def sample(kind, shape, seed):
+    bits = np.random.default_rng(seed).integers(0, 256, size=max(8, int(np.prod(shape)) * 8), dtype=np.uint8)
+    flat = np.frombuffer(bits.tobytes(), dtype="<" + kind)[:int(np.prod(shape))]
+    return flat.reshape(shape)
+
+
+def whole_copy(element, count):
+    """A gather that reads the whole of a slice into another, in memory order."""
+    extents = f"operand.extents = {count}\nindex.extents = 1\ndest.extents = {count}\n"
+    return (f"kind = gather\nelement = {element}\n{extents}offset_dims = 0\ncollapsed_slice_dims =\n"
+            f"start_index_map = 0\nindex_vector_dim = 0\nslice_sizes = {count}\n")
+
+
+def files():
+    np.save(path("zero.npy"), np.zeros(1, dtype="<i8"))
+    orders = itertools.product(["i4", "f8"], "<>=", "CF", SHAPES, [(1, 0), (2, 0), (3, 0)])
+    for number, (kind, endian, order, shape, version) in enumerate(orders):
+        array = np.array(sample(kind, shape, number).astype(endian + kind), order=order)
+        with open(path("in.npy"), "wb") as file:
+            np.lib.format.write_array(file, array, version=version)
+        blank = np.array(np.zeros(shape, dtype=kind), order=order)
+        np.save(path("blank.npy"), blank)
+        put("copy.txt", whole_copy({"i4": "i32", "f8": "f64"}[kind], array.size))
+        done("job", "make", "copy.txt", "copy.job")
+        done("gather", "--job", "copy.job", "--operand", "in.npy", "--starts", "zero.npy", "--dest", "blank.npy",
+             "--out", "out.npy")
+        result = np.load(path("out.npy"))
+        what = f"{kind} {endian} {order} {shape} {version}"
+        check(same(result, array.astype("<" + kind)) and result.flags.f_contiguous == blank.flags.f_contiguous, what)
+        check(content("out.npy")[6:8] == b"\x01\x00", f"{what}: version 1.0 is written")
+        check(content("out.npy").index(b"\n") % 64 == 63, f"{what}: the elements are aligned")
+        out = done("compare", "in.npy", "out.npy")
+        check(out.startswith("0 of "), f"{what}: {out}")
+
+
+def other_type_forms():
+    for endian in "|=":
+        header = f"{{'descr': '{endian}i4', 'fortran_order': False, 'shape': (2,), }}".ljust(117) + "\n"
+        put("odd.npy", b"\x93NUMPY\x01\x00" + len(header).to_bytes(2, "little") + header.encode()
+            + np.array([7, -7], dtype="=i4").tobytes())
+        check(done("print", "odd.npy") == "7 -7\n", f"type {endian}i4")
+
+
+def printed():
+    for endian, order in itertools.product("<>", "CF"):
+        array = np.array([[1, -2, 3], [2**62, -2**63, 0]], dtype=endian + "i8", order=order)
+        np.save(path("p.npy"), array)
+        check(done("print", "p.npy") == "1 -2 3\n4611686018427387904 -9223372036854775808 0\n", f"print {endian}{order}")
+    np.save(path("p.npy"), np.array([0.1, -0.0, np.inf, np.nan, 1e300]))
+    numbers = done("print", "p.npy").split()
+    check([str(float(n)) for n in numbers] == ["0.1", "-0.0", "inf", "nan", "1e+300"], f"floats: {numbers}")
+
+
+def compared():
+    before = np.zeros((4, 5), dtype="<i4")
+    after = np.array(before, order="F")
+    after[1, 2], after[3, 4] = 2**31 - 1, -2**31
+    np.save(path("b.npy"), before)
+    np.save(path("c.npy"), after)
+    out = done("compare", "b.npy", "c.npy")
+    for words in ["2 of 20 elements differ", "from [1, 2] to [3, 4]", "sum of changes -1\n",
+                  "lowest change -2147483648 at [3, 4]", "highest change 2147483647 at [1, 2]"]:
+        check(words in out, f"compare: {words}: {out}")
+
+
+def calls(seed, count):
+    rng = random.Random(seed)
+    for number in range(count):
+        element = rng.choice(["i32", "f64"])
+        kind = rng.choice(["gather", "scatter"])
+        case = (random_gather if kind == "gather" else random_scatter)(rng, element)
+        one_call(f"seed {seed} case {number}, {kind} of {element}", kind, element, *case)
+
+
+def one_call(what, kind, element, spec, first, second, third):
+    names = ["operand", "index", "dest"] if kind == "gather" else ["index", "updates", "dest"]
+    text = job_text(kind, element, names, [first, second, third], spec)
+    put("case.txt", text)
+    done("job", "make", "case.txt", "case.job")
+    put("again.txt", done("job", "show", "case.job"))
+    done("job", "make", "again.txt", "again.job")
+    check(content("case.job") == content("again.job"), f"{what}: the job shown and made again")
+    done("job", "check", "case.job")
+    for name, view in zip(["one", "two", "three"], [first, second, third]):
+        np.save(path(name + ".npy"), view.file())
+    options = ["--operand", "--starts", "--dest"] if kind == "gather" else ["--starts", "--updates", "--grid"]
+    arguments = sum(([option, name] for option, name in zip(options, ["one.npy", "two.npy", "three.npy"])), [])
+    status, _, err = run(kind, "--job", "case.job", *arguments, "--out", "three.npy")
+    if not check(status == 0 and "note:" not in err, f"{what}: {err}\n{text}"):
+        return
+    if kind == "gather":
+        gather(first.array, second.array, third.array, spec)
+    else:
+        scatter(first.array, second.array, third.array, spec)
+    result = np.load(path("three.npy"))
+    wanted = third.file()
+    check(same(result, wanted), f"{what}: {result} and not {wanted}\n{text}")
+    if kind == "gather" and third.form != "strides":
+        done("gather", "--job", "case.job", *arguments[:4], "--out", "fresh.npy")
+        fresh = np.load(path("fresh.npy"))
+        check(same(fresh, wanted), f"{what}: without --dest {fresh} and not {wanted}")
+
+
+def main():
+    seed = int(sys.argv[2]) if len(sys.argv) > 2 else 1
+    count = int(sys.argv[3]) if len(sys.argv) > 3 else 300
+    files()
+    other_type_forms()
+    printed()
+    compared()
+    calls(seed, count)
+    finish("the tool beside NumPy")
+
+
+main()
