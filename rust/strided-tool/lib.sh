@@ -1,3 +1,4 @@
+# shellcheck shell=sh disable=SC2034,SC2154
 # Shared by the commands that build and check the tool: where its crates come from. Sourced, with $root set.
 
 registry=/usr/share/cargo/registry
@@ -64,7 +65,7 @@ find_crates() {
 # Runs cargo in the tool's folder, its results in target/rust.
 tool_cargo() {
     (
-        cd "$root/rust/strided-tool"
+        cd "$root/rust/strided-tool" || exit
         command=$1
         shift
         if [ "$from_debian" = yes ]; then

@@ -13,12 +13,13 @@ use crate::window::{Scale, Window};
 #[derive(Parser)]
 #[command(
     name = "strided",
+    max_term_width = 110,
     version,
-    after_help = "Example:\n  strided job make cut.txt cut.job\n  strided scatter --job cut.job --starts starts.npy --updates cuts.npy --grid bed.npy --out bed.npy\n  strided show bed.npy bed.png"
+    after_help = "Example:\n  strided job make cut.txt cut.job\n  strided scatter --job cut.job --starts at.npy --updates cuts.npy --grid bed.npy --out bed.npy\n  strided show bed.npy bed.png"
 )]
 pub struct Cli {
     /// Say nothing of what was done; failures are told
-    #[arg(short, long, global = true)]
+    #[arg(short, long, global = true, display_order = 900)]
     pub quiet: bool,
 
     /// What to do.
@@ -30,7 +31,10 @@ pub struct Cli {
 #[derive(Subcommand)]
 pub enum Command {
     /// Make, print or check a stored job
-    #[command(subcommand)]
+    #[command(
+        subcommand,
+        after_help = "Example:\n  strided job make cut.txt cut.job"
+    )]
     Job(JobCommand),
     /// Read windows of a grid at given starts
     Gather(GatherArgs),
@@ -128,7 +132,7 @@ A file lends its elements in memory order; the job names the layouts, whatever t
 The output is written beside and takes its name at the end, so that a failure leaves an old file as it was.
 
 Example:
-  strided scatter --job cut.job --starts starts.npy --updates cuts.npy --grid bed.npy --out bed.npy")]
+  strided scatter --job cut.job --starts at.npy --updates cuts.npy --grid bed.npy --out bed.npy")]
 pub struct ScatterArgs {
     /// The stored job
     #[arg(long, value_name = "JOB")]
