@@ -1,4 +1,4 @@
-//! The command line.
+//! The command line. What stands in three strokes over a field or a command is its help.
 
 use std::path::PathBuf;
 
@@ -99,7 +99,7 @@ Example: cells of a row of five are raised at given starts
 
   strided job make cut.txt cut.job";
 
-/// Files of a gather.
+// Files of a gather.
 #[derive(Args)]
 #[command(after_help = "\
 A file lends its elements in memory order; the job names the layouts, whatever the shape and order of the file.
@@ -125,7 +125,7 @@ pub struct GatherArgs {
     pub out: PathBuf,
 }
 
-/// Files of a scatter.
+// Files of a scatter.
 #[derive(Args)]
 #[command(after_help = "\
 A file lends its elements in memory order; the job names the layouts, whatever the shape and order of the file.
@@ -151,7 +151,7 @@ pub struct ScatterArgs {
     pub out: PathBuf,
 }
 
-/// What is drawn, and how.
+// What is drawn, and how.
 #[derive(Args)]
 #[command(after_help = "\
 The first axis goes down, the second to the right. Low values are light, high ones dark, and NaN is orange.
@@ -174,7 +174,7 @@ pub struct ShowArgs {
     pub cell: Option<usize>,
 }
 
-/// The two files.
+// The two files.
 #[derive(Args)]
 #[command(after_help = "\
 The files have the same element and shape; the order in memory may differ.
@@ -188,7 +188,7 @@ pub struct CompareArgs {
     pub after: PathBuf,
 }
 
-/// The file.
+// The file.
 #[derive(Args)]
 #[command(after_help = "\
 A line for each run along the last axis, the elements with spaces between them.
