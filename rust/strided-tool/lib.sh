@@ -58,7 +58,8 @@ find_crates() {
         return 0
     fi
     from_debian=no
-    (cd "$root/rust/strided-tool" && cargo fetch --quiet) >&2 ||
+    mkdir -p "$root/target/rust"
+    (cd "$root/rust/strided-tool" && cargo fetch) >"$root/target/rust/fetch.log" 2>&1 ||
         fail "clap, png and indicatif could not be had: neither as Debian's packages ($packages) nor from the usual registry"
 }
 
