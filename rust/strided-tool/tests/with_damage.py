@@ -207,6 +207,15 @@ def compiled_refusals():
            ("scatter_dims_to_operand_dims = 0", "scatter_dims_to_operand_dims = 7"))
     refuse(["7 ShapeMismatch", "the extents [4] outside update_window_dims, and the index has [3]"], SCATTER,
            ("updates.extents = 3", "updates.extents = 4"))
+    windowed = [("updates.extents = 3", "updates.extents = 3, 2"), ("inserted_window_dims = 0", "inserted_window_dims ="),
+                ("update_window_dims =\n", "update_window_dims = 1\n")]
+    refuse(["6 InvalidAxis (a = 4, b = 2)", "update_window_dims names axis 4"], SCATTER, *windowed,
+           ("update_window_dims = 1", "update_window_dims = 4"))
+    refuse(["6 InvalidAxis (a = 0, b = 1)", "the window has 6 cells along axis 0 of dest, which has 5"], SCATTER, *windowed,
+           ("updates.extents = 3, 2", "updates.extents = 3, 6"))
+    refuse(["5 RankMismatch (a = 2, b = 1)", "update_window_dims has 2 entries, and the updates have 1 axes"], SCATTER,
+           ("dest.extents = 5", "dest.extents = 5, 5"), ("inserted_window_dims = 0", "inserted_window_dims ="),
+           ("update_window_dims =\n", "update_window_dims = 0, 1\n"))
 
 
 def short_files():

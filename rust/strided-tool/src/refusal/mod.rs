@@ -24,7 +24,11 @@ pub struct Known<'a> {
 /// The failure that tells a refusal: `about` names what was refused.
 pub fn refused(about: &str, error: StridedError, known: &Known<'_>) -> Failure {
     let (number, a, b) = (error.number(), error.a(), error.b());
-    let name = name(&error);
+    let Some(name) = name(&error) else {
+        return Failure::Refused(format!(
+            "{about}: refused by {number} (a = {a}, b = {b}), for which this version of the tool has no words"
+        ));
+    };
     let mut text = format!("{about}: refused by {number} {name} (a = {a}, b = {b}): {error}");
     if let Some(more) = explanation(error, known) {
         text.push('\n');
@@ -33,8 +37,9 @@ pub fn refused(about: &str, error: StridedError, known: &Known<'_>) -> Failure {
     Failure::Refused(text)
 }
 
-fn name(error: &StridedError) -> &'static str {
-    match error {
+/// The name of a refusal; none for one that came after this tool.
+fn name(error: &StridedError) -> Option<&'static str> {
+    Some(match error {
         StridedError::StrideLengthMismatch => "StrideLengthMismatch",
         StridedError::RankTooLarge { .. } => "RankTooLarge",
         StridedError::OffsetOverflow => "OffsetOverflow",
@@ -45,8 +50,8 @@ fn name(error: &StridedError) -> &'static str {
         StridedError::PlanLayoutMismatch => "PlanLayoutMismatch",
         StridedError::BufferBounds { .. } => "BufferBounds",
         StridedError::JobBytes { .. } => "JobBytes",
-        _ => "(a refusal that this tool does not know by name)",
-    }
+        _ => return None,
+    })
 }
 
 fn explanation(error: StridedError, known: &Known<'_>) -> Option<String> {
@@ -132,4 +137,36 @@ fn outside(job: &Job, view: u64, known: &Known<'_>) -> Option<String> {
     Some(format!(
         "{cells}; {file} lends {count} elements, numbered from 0: {wanted}"
     ))
+}
+
+#[cfg(test)]
+mod tests {
+    use super::*;
+
+    #[test]
+    fn a_later_refusal_is_told_by_its_number() {
+        let error = StridedError::Unknown {
+            number: 11,
+            a: 5,
+            b: 0,
+        };
+        let told = refused("x.job", error, &Known::default()).to_string();
+        assert!(
+            told.starts_with("x.job: refused by 11 (a = 5, b = 0)"),
+            "{told}"
+        );
+    }
+
+    #[test]
+    fn a_refusal_is_told_without_a_job() {
+        let error = StridedError::BufferBounds {
+            view: 9,
+            bytes_needed: 0,
+        };
+        let told = refused("x.job", error, &Known::default()).to_string();
+        assert!(
+            told.starts_with("x.job: refused by 9 BufferBounds (a = 9, b = 0)"),
+            "{told}"
+        );
+    }
 }
