@@ -5,7 +5,6 @@ root=$(dirname -- "$here")
 original=$(dirname -- "$root")/shared/docs/src/strided-basic/src/gather_plan.rs
 bin=$root/target/differential/release
 work=$root/target/differential/work
-archive=$root/target/staticlib/libstrided.a
 packed=$root/crates/stored_cases/data/cases.bin
 
 say() { printf '%s\n' "$*" >&2; }
@@ -48,17 +47,9 @@ build_oracle() {
     (cd "$here/rust/oracle" && cargo build --release --quiet --offline) >&2
 }
 
-# Whether the archive is missing, or older than a source, a definition or crates.txt. A folder counts, for what was removed from it.
-archive_is_stale() {
-    [ ! -e "$archive" ] && return
-    [ -n "$(find "$root/crates.txt" "$root"/crates/*/src "$root"/crates/*/specs -newer "$archive" | head -n 1)" ]
-}
-
-# The static library is made, where its crate exists, before the driver that links it.
+# The static library is made before the driver that links it.
 build_port() {
     need_cargo
-    if [ -d "$root/crates/strided" ] && archive_is_stale; then
-        (cd "$root" && rt staticlib strided) >&2
-    fi
+    "$root/library"
     (cd "$here/rust" && cargo build --release --quiet --offline --locked -p port) >&2
 }

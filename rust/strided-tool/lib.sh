@@ -4,7 +4,6 @@
 registry=/usr/share/cargo/registry
 packages='librust-clap-dev librust-png-dev librust-indicatif-dev'
 tool=$root/target/rust/release/strided
-archive=$root/target/staticlib/libstrided.a
 
 say() { printf '%s\n' "$*" >&2; }
 
@@ -35,17 +34,6 @@ install_packages() {
 have_crates() {
     set -- "$registry"/clap-4.* "$registry"/png-0.17.* "$registry"/indicatif-0.17.*
     [ -e "$1" ] && [ -e "$2" ] && [ -e "$3" ]
-}
-
-# The archive is made where it is missing or older than what it is made from.
-need_archive() {
-    if [ -e "$archive" ]; then
-        newer=$(find "$root/crates.txt" "$root"/crates/*/src "$root"/crates/*/specs -newer "$archive" | head -n 1)
-        [ -n "$newer" ] || return 0
-    fi
-    command -v rt >/dev/null 2>&1 || fail "libstrided.a is missing or old, and the Rattle toolchain's command rt is not on the PATH"
-    say "making libstrided.a"
-    (cd "$root" && rt staticlib strided) >&2
 }
 
 # Finds the crates: Debian's where they are or can be installed, or else those of the usual registry.

@@ -1,6 +1,7 @@
 // Gather: the calls. A call takes a plan by value, made by compile or by anyone, the three views and their slices. It answers 8 where
 // the plan or a layout does not fit, then 9 for each view in turn; otherwise it is done.
 ghost use mathlib.Core.Path.{_≡_};
+ghost use mathlib.Core.Bool.{true};
 ghost use Prim.Native.Nat.{_-_};
 ghost use lib.Ieee.{nan};
 ghost use lib.IntN.{pos};
@@ -11,6 +12,7 @@ ghost use Rattle.layout.specs.Layouts.{rankLimit, extentsOf};
 ghost use Rattle.axis_lists.specs.Held.{numbersOf};
 ghost use Rattle.runs.specs.Runs.{ruleI32, ruleF64};
 ghost use Rattle.runs.specs.declared.Rule.the-variants as R;
+ghost use Rattle.gather_plan.specs.Same.{isCompiled};
 ghost use Rattle.gather_windows.specs.Gathering.{gatheredBy, Gathering};
 ghost use Rattle.gather.specs.Calls.{planFits, planRefusal, callAnswer, Called};
 ghost use Rattle.gather.specs.Walks.{windowStepsOf, batchStepsOf, limitAt, unlessNone, walkOf, gatherAt, Reached};
@@ -137,8 +139,9 @@ pub fn walk_of(plan: GatherPlan) -> GatherWalk
     }
 }
 
-// Whether the plan is what compile gives, and the views have its layouts.
-fn plan_fits(plan: GatherPlan, operand: View, index: View, dest: View) -> bool
+// Whether the views have the plan's layouts, and the plan is what compile gives; that is not tried where it is known.
+fn plan_fits(plan: GatherPlan, operand: View, index: View, dest: View, known: bool) -> bool
+    requires { ⌜ (known ≡ true → isCompiled plan ≡ true) ⌝ }
     ensures { λ r. ⌜ r ≡ planFits plan operand index dest ⌝ }
 {
     let a = operand.layout;
@@ -155,6 +158,9 @@ fn plan_fits(plan: GatherPlan, operand: View, index: View, dest: View) -> bool
     }
     if !gather_plan::same_layout(c, z) {
         return false;
+    }
+    if known {
+        return true;
     }
     gather_plan::is_compiled(plan)
 }
@@ -175,13 +181,15 @@ pub fn check_call(
     operand: View,
     index: View,
     dest: View,
+    known: bool,
     operand_len: usize,
     starts_len: usize,
     dest_len: usize,
 ) -> Answer
+    requires { ⌜ (known ≡ true → isCompiled plan ≡ true) ⌝ }
     ensures { λ r. ⌜ r ≡ callAnswer plan operand index dest «operand_len» «starts_len» «dest_len» ⌝ }
 {
-    let fits = plan_fits(plan, operand, index, dest);
+    let fits = plan_fits(plan, operand, index, dest, known);
     let eight = check_plan(fits);
     let x = layout::view_reach(operand, operand_len);
     let y = layout::view_reach(index, starts_len);
@@ -255,16 +263,18 @@ fn cells_i32(
     run_i32(walk, source, starts, &mut into[low..end], s, base, at);
 }
 
-// The gather of a plan on these views.
-pub fn gather_i32(
+// A gather of i32 with a plan that is known to be what compile gives, or with any plan.
+pub fn call_i32(
     plan: GatherPlan,
     operand: View,
     index: View,
     dest: View,
+    known: bool,
     source: &[i32],
     starts: &[i64],
     into: &mut [i32],
 ) -> Answer
+    requires { ⌜ (known ≡ true → isCompiled plan ≡ true) ⌝ }
     ensures { λ r. ⌜ Called (pos 0) plan operand index dest (now (source .entry)) (now (starts .entry)) (now (into .entry)) (now (into .exit)) r ⌝ }
 {
     let answer = check_call(
@@ -272,6 +282,7 @@ pub fn gather_i32(
         operand,
         index,
         dest,
+        known,
         source.len(),
         starts.len(),
         into.len(),
@@ -298,6 +309,21 @@ pub fn gather_i32(
         Reach::NoCells => answer,
         Reach::Outside => answer,
     }
+}
+
+// The gather of a plan on these views.
+pub fn gather_i32(
+    plan: GatherPlan,
+    operand: View,
+    index: View,
+    dest: View,
+    source: &[i32],
+    starts: &[i64],
+    into: &mut [i32],
+) -> Answer
+    ensures { λ r. ⌜ Called (pos 0) plan operand index dest (now (source .entry)) (now (starts .entry)) (now (into .entry)) (now (into .exit)) r ⌝ }
+{
+    call_i32(plan, operand, index, dest, false, source, starts, into)
 }
 
 // The cells of a walk from the places s, t and d.
@@ -362,16 +388,18 @@ fn cells_f64(
     run_f64(walk, source, starts, &mut into[low..end], s, base, at);
 }
 
-// The gather of a plan on these views.
-pub fn gather_f64(
+// A gather of f64 with a plan that is known to be what compile gives, or with any plan.
+pub fn call_f64(
     plan: GatherPlan,
     operand: View,
     index: View,
     dest: View,
+    known: bool,
     source: &[f64],
     starts: &[i64],
     into: &mut [f64],
 ) -> Answer
+    requires { ⌜ (known ≡ true → isCompiled plan ≡ true) ⌝ }
     ensures { λ r. ⌜ Called nan plan operand index dest (now (source .entry)) (now (starts .entry)) (now (into .entry)) (now (into .exit)) r ⌝ }
 {
     let answer = check_call(
@@ -379,6 +407,7 @@ pub fn gather_f64(
         operand,
         index,
         dest,
+        known,
         source.len(),
         starts.len(),
         into.len(),
@@ -405,4 +434,19 @@ pub fn gather_f64(
         Reach::NoCells => answer,
         Reach::Outside => answer,
     }
+}
+
+// The gather of a plan on these views.
+pub fn gather_f64(
+    plan: GatherPlan,
+    operand: View,
+    index: View,
+    dest: View,
+    source: &[f64],
+    starts: &[i64],
+    into: &mut [f64],
+) -> Answer
+    ensures { λ r. ⌜ Called nan plan operand index dest (now (source .entry)) (now (starts .entry)) (now (into .entry)) (now (into .exit)) r ⌝ }
+{
+    call_f64(plan, operand, index, dest, false, source, starts, into)
 }

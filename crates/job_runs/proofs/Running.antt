@@ -18,10 +18,14 @@ use Rattle.job_reader.specs.declared.ReadJob.{ReadJob}
 use Rattle.job_reader.specs.Held.{readJob}
 use Rattle.gather_plan.specs.declared.CompiledGather.{CompiledGather}
 use Rattle.gather_plan.specs.Plan.{compiledGather}
+use Rattle.gather_plan.specs.Same.{isCompiled}
+use Rattle.gather_plan.proofs.Compiled.{compile-is-compiled as gather-is-compiled}
 use Rattle.gather.specs.Calls as gathers
 use Rattle.replay.specs.Replays.{rowsOf}
 use Rattle.scatter_plan.specs.declared.CompiledScatter.{CompiledScatter}
 use Rattle.scatter_plan.specs.Plan.{compiledScatter}
+use Rattle.scatter_plan.specs.Same.{isCompiled as scatter-compiled}
+use Rattle.scatter_plan.proofs.Compiled.{compile-is-compiled as scatter-is-compiled}
 use Rattle.scatter.specs.Calls as scatters
 use Rattle.job_runs.specs.declared.RunAnswer.{RunAnswer}
 use Rattle.job_runs.specs.declared.Step.{Step}
@@ -152,3 +156,40 @@ scatter-went leaves o p batch window starts updates before after called r e f eb
     let c = subst (λ (y : List (List ℤ)). scatters.Called leaves (o .compiled .plan) (rowsOf (o .compiled .plan .batch .axes)) y (o .views .first) (o .views .second) (o .views .third) starts updates before after called) ew
     (subst (λ (x : List (List ℤ)). scatters.Called leaves (o .compiled .plan) x window (o .views .first) (o .views .second) (o .views .third) starts updates before after called) eb g) in
     subst (λ (q : OpenedScatter). ScatterRun leaves q starts updates before after r) e (went (o .refusal) _ _ before after called r f (c .answered) (c .left) h)
+
+-- ---- where no step before the call refuses, compile has not refused, and its plan is compiled
+step-done : (s : Step) (x : Answer) (next : RunAnswer) → isDone (stepped s x next .answer) ≡ true → isDone (next .answer) ≡ true
+step-done s x next = go (isDone x) refl
+  where
+    go : (t : Bool) → isDone x ≡ t → isDone (cond t next (record { step = s; answer = x }) .answer) ≡ true → isDone (next .answer) ≡ true
+    go true q e = e
+    go false q e = absurd (true≢false (sym e ∙ q))
+
+last-done : (s : Step) (x : Answer) → isDone (stepped s x done .answer) ≡ true → isDone x ≡ true
+last-done s x = go (isDone x) refl
+  where
+    go : (t : Bool) → isDone x ≡ t → isDone (cond t done (record { step = s; answer = x }) .answer) ≡ true → isDone x ≡ true
+    go true q e = q
+    go false q e = e
+
+compile-done : (read kind compile : Answer) → isDone (refusals read kind compile .answer) ≡ true → isDone compile ≡ true
+unfolding refusals
+compile-done read kind compile e = last-done S.Compile compile (step-done S.Kind kind _ (step-done S.Read read _ e))
+
+pub known-gather : (o : OpenedGather) (e : Element) (bs : List ℕ) → o ≡ openedGather e bs → isDone (o .refusal .answer) ≡ true → isCompiled (o .compiled .plan) ≡ true
+unfolding openedGather
+known-gather o e bs q =
+    subst (λ (x : OpenedGather). isDone (x .refusal .answer) ≡ true → isCompiled (x .compiled .plan) ≡ true) (sym q)
+    (λ d. gather-is-compiled _ _ _ _ _ _ _ _ _ _ _ true (compile-done _ _ _ d))
+
+by-rows : (o : OpenedScatter) (e : Element) (bs : List ℕ) → o ≡ openedScatter e bs → isDone (o .refusal .answer) ≡ true → scatter-compiled (o .compiled .plan) (rowsOf (o .compiled .plan .batch .axes)) (rowsOf (o .compiled .plan .window .axes)) ≡ true
+unfolding openedScatter
+by-rows o e bs q =
+    subst (λ (x : OpenedScatter). isDone (x .refusal .answer) ≡ true → scatter-compiled (x .compiled .plan) (rowsOf (x .compiled .plan .batch .axes)) (rowsOf (x .compiled .plan .window .axes)) ≡ true) (sym q)
+    (λ d. scatter-is-compiled _ _ _ _ _ _ _ _ _ _ true (compile-done _ _ _ d))
+
+pub known-scatter : (o : OpenedScatter) (e : Element) (bs : List ℕ) (batch window : List (List ℤ)) → o ≡ openedScatter e bs → batch ≡ rowsOf (o .compiled .plan .batch .axes) → window ≡ rowsOf (o .compiled .plan .window .axes)
+    → isDone (o .refusal .answer) ≡ true → scatter-compiled (o .compiled .plan) batch window ≡ true
+known-scatter o e bs batch window q eb ew d =
+    subst (λ (x : List (List ℤ)). scatter-compiled (o .compiled .plan) x window ≡ true) (sym eb)
+    (subst (λ (x : List (List ℤ)). scatter-compiled (o .compiled .plan) (rowsOf (o .compiled .plan .batch .axes)) x ≡ true) (sym ew) (by-rows o e bs q d))

@@ -287,7 +287,7 @@ pub fn run_gather_i32(bytes: &[u8], operand: &[i32], starts: &[i64], dest: &mut 
     let x = views.first;
     let y = views.second;
     let z = views.third;
-    let called = gather::gather_i32(plan, x, y, z, operand, starts, dest);
+    let called = gather::call_i32(plan, x, y, z, true, operand, starts, dest);
     after_call(called)
 }
 
@@ -307,7 +307,7 @@ pub fn run_gather_f64(bytes: &[u8], operand: &[f64], starts: &[i64], dest: &mut 
     let x = views.first;
     let y = views.second;
     let z = views.third;
-    let called = gather::gather_f64(plan, x, y, z, operand, starts, dest);
+    let called = gather::call_f64(plan, x, y, z, true, operand, starts, dest);
     after_call(called)
 }
 
@@ -333,13 +333,14 @@ pub fn run_scatter_i32(bytes: &[u8], starts: &[i64], updates: &[i32], dest: &mut
     let x = views.first;
     let y = views.second;
     let z = views.third;
-    let called = scatter::scatter_i32(
+    let called = scatter::call_i32(
         plan,
         batch_rows,
         window_rows,
         x,
         y,
         z,
+        true,
         starts,
         updates,
         dest,
@@ -369,13 +370,14 @@ pub fn run_scatter_f64(bytes: &[u8], starts: &[i64], updates: &[f64], dest: &mut
     let x = views.first;
     let y = views.second;
     let z = views.third;
-    let called = scatter::scatter_f64(
+    let called = scatter::call_f64(
         plan,
         batch_rows,
         window_rows,
         x,
         y,
         z,
+        true,
         starts,
         updates,
         dest,

@@ -1,12 +1,14 @@
 // Scatter: the calls. A call takes a plan by value with the rows of its two walks, made by compile or by anyone, the three views and
 // their slices. It answers 8 where the plan, its rows or a layout does not fit, then 9 for each view in turn; otherwise it is done.
 ghost use mathlib.Core.Path.{_≡_};
+ghost use mathlib.Core.Bool.{true};
 ghost use lib.Ieee.{nan};
 ghost use lib.IntN.{pos};
 ghost use lib.ListN.{length};
 ghost use Rattle.indexing.specs.Scatter.{cuts, combined, scatteredI32, scatteredF64};
 ghost use Rattle.runs.specs.Runs.{ruleI32, ruleF64};
 ghost use Rattle.runs.specs.declared.Rule.the-variants as R;
+ghost use Rattle.scatter_plan.specs.Same.{isCompiled};
 ghost use Rattle.scatter_windows.specs.Scattering.{scatteredBy, Scattering};
 ghost use Rattle.scatter.specs.Calls.{planFits, callAnswer, Called};
 ghost use Rattle.scatter.specs.Walks.{stepsAt, walkOf, scatterAt, Reached};
@@ -104,7 +106,7 @@ pub fn walk_of(
     }
 }
 
-// Whether the plan with its rows is what compile gives, and the views have its layouts.
+// Whether the views have the plan's layouts, and plan and rows are what compile gives; that is not tried where it is known.
 fn plan_fits(
     plan: ScatterPlan,
     batch_rows: [[i64; 4]; RAW_FUSED_RANK_LIMIT],
@@ -112,7 +114,9 @@ fn plan_fits(
     index: View,
     updates: View,
     dest: View,
+    known: bool,
 ) -> bool
+    requires { ⌜ (known ≡ true → isCompiled plan «batch_rows» «window_rows» ≡ true) ⌝ }
     ensures { λ r. ⌜ r ≡ planFits plan «batch_rows» «window_rows» index updates dest ⌝ }
 {
     let a = index.layout;
@@ -130,6 +134,9 @@ fn plan_fits(
     if !gather_plan::same_layout(c, z) {
         return false;
     }
+    if known {
+        return true;
+    }
     scatter_plan::is_compiled(plan, batch_rows, window_rows)
 }
 
@@ -141,13 +148,15 @@ pub fn check_call(
     index: View,
     updates: View,
     dest: View,
+    known: bool,
     starts_len: usize,
     updates_len: usize,
     dest_len: usize,
 ) -> Answer
+    requires { ⌜ (known ≡ true → isCompiled plan «batch_rows» «window_rows» ≡ true) ⌝ }
     ensures { λ r. ⌜ r ≡ callAnswer plan «batch_rows» «window_rows» index updates dest «starts_len» «updates_len» «dest_len» ⌝ }
 {
-    let fits = plan_fits(plan, batch_rows, window_rows, index, updates, dest);
+    let fits = plan_fits(plan, batch_rows, window_rows, index, updates, dest, known);
     let eight = gather::check_plan(fits);
     let x = layout::view_reach(index, starts_len);
     let y = layout::view_reach(updates, updates_len);
@@ -228,18 +237,20 @@ fn cells_i32(
     run_i32(walk, starts, source, &mut into[low..end], base, u, at);
 }
 
-// The scatter of a plan on these views.
-pub fn scatter_i32(
+// A scatter of i32 with a plan and rows that are known to be what compile gives, or with any.
+pub fn call_i32(
     plan: ScatterPlan,
     batch_rows: [[i64; 4]; RAW_FUSED_RANK_LIMIT],
     window_rows: [[i64; 4]; RAW_FUSED_RANK_LIMIT],
     index: View,
     updates: View,
     dest: View,
+    known: bool,
     starts: &[i64],
     source: &[i32],
     into: &mut [i32],
 ) -> Answer
+    requires { ⌜ (known ≡ true → isCompiled plan «batch_rows» «window_rows» ≡ true) ⌝ }
     ensures { λ r. ⌜ Called scatteredI32 plan «batch_rows» «window_rows» index updates dest (now (starts .entry)) (now (source .entry)) (now (into .entry)) (now (into .exit)) r ⌝ }
 {
     let answer = check_call(
@@ -249,6 +260,7 @@ pub fn scatter_i32(
         index,
         updates,
         dest,
+        known,
         starts.len(),
         source.len(),
         into.len(),
@@ -277,6 +289,34 @@ pub fn scatter_i32(
         Reach::NoCells => answer,
         Reach::Outside => answer,
     }
+}
+
+// The scatter of a plan on these views.
+pub fn scatter_i32(
+    plan: ScatterPlan,
+    batch_rows: [[i64; 4]; RAW_FUSED_RANK_LIMIT],
+    window_rows: [[i64; 4]; RAW_FUSED_RANK_LIMIT],
+    index: View,
+    updates: View,
+    dest: View,
+    starts: &[i64],
+    source: &[i32],
+    into: &mut [i32],
+) -> Answer
+    ensures { λ r. ⌜ Called scatteredI32 plan «batch_rows» «window_rows» index updates dest (now (starts .entry)) (now (source .entry)) (now (into .entry)) (now (into .exit)) r ⌝ }
+{
+    call_i32(
+        plan,
+        batch_rows,
+        window_rows,
+        index,
+        updates,
+        dest,
+        false,
+        starts,
+        source,
+        into,
+    )
 }
 
 // The batches of a walk from the places t, u and d.
@@ -348,18 +388,20 @@ fn cells_f64(
     run_f64(walk, starts, source, &mut into[low..end], base, u, at);
 }
 
-// The scatter of a plan on these views.
-pub fn scatter_f64(
+// A scatter of f64 with a plan and rows that are known to be what compile gives, or with any.
+pub fn call_f64(
     plan: ScatterPlan,
     batch_rows: [[i64; 4]; RAW_FUSED_RANK_LIMIT],
     window_rows: [[i64; 4]; RAW_FUSED_RANK_LIMIT],
     index: View,
     updates: View,
     dest: View,
+    known: bool,
     starts: &[i64],
     source: &[f64],
     into: &mut [f64],
 ) -> Answer
+    requires { ⌜ (known ≡ true → isCompiled plan «batch_rows» «window_rows» ≡ true) ⌝ }
     ensures { λ r. ⌜ Called scatteredF64 plan «batch_rows» «window_rows» index updates dest (now (starts .entry)) (now (source .entry)) (now (into .entry)) (now (into .exit)) r ⌝ }
 {
     let answer = check_call(
@@ -369,6 +411,7 @@ pub fn scatter_f64(
         index,
         updates,
         dest,
+        known,
         starts.len(),
         source.len(),
         into.len(),
@@ -397,4 +440,32 @@ pub fn scatter_f64(
         Reach::NoCells => answer,
         Reach::Outside => answer,
     }
+}
+
+// The scatter of a plan on these views.
+pub fn scatter_f64(
+    plan: ScatterPlan,
+    batch_rows: [[i64; 4]; RAW_FUSED_RANK_LIMIT],
+    window_rows: [[i64; 4]; RAW_FUSED_RANK_LIMIT],
+    index: View,
+    updates: View,
+    dest: View,
+    starts: &[i64],
+    source: &[f64],
+    into: &mut [f64],
+) -> Answer
+    ensures { λ r. ⌜ Called scatteredF64 plan «batch_rows» «window_rows» index updates dest (now (starts .entry)) (now (source .entry)) (now (into .entry)) (now (into .exit)) r ⌝ }
+{
+    call_f64(
+        plan,
+        batch_rows,
+        window_rows,
+        index,
+        updates,
+        dest,
+        false,
+        starts,
+        source,
+        into,
+    )
 }

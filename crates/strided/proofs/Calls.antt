@@ -10,7 +10,11 @@ use Rattle.layout.specs.declared.Answer.{Answer}
 use Rattle.layout.specs.declared.MadeLayout.{MadeLayout}
 use Rattle.layout.specs.Answers.{isDone, orElse}
 use Rattle.layout.specs.Layouts.{layoutFrom}
+use Rattle.gather_checks.specs.Refusals.{gatherFrom}
 use Rattle.gather_plan.specs.declared.CompiledGather.{CompiledGather}
+use Rattle.gather_plan.specs.Plan.{compiledGather}
+use Rattle.gather_plan.specs.Same.{isCompiled}
+use Rattle.gather_plan.proofs.Compiled.{compile-is-compiled}
 use Rattle.gather.specs.Calls.{gatherOf, callAnswer, Called}
 use Rattle.strided.specs.declared.CallViews.{CallViews}
 use Rattle.strided.specs.Words.{words}
@@ -22,6 +26,13 @@ stops x y e = ap (λ (t : Bool). cond t y x) e
 
 pub goes : (x y : Answer) → isDone x ≡ true → orElse x y ≡ y
 goes x y e = ap (λ (t : Bool). cond t y x) e
+
+pub first-done : (x y z : Answer) → z ≡ orElse x y → isDone z ≡ true → isDone x ≡ true
+first-done x y z e d = go (isDone x) refl
+  where
+    go : (t : Bool) → isDone x ≡ t → isDone x ≡ true
+    go true q = q
+    go false q = sym (ap isDone (e ∙ stops x y q)) ∙ d
 
 pub in-turn : (x y z : Answer) → orElse x (orElse y z) ≡ orElse (orElse x y) z
 in-turn x y z = go (isDone x) refl
@@ -55,6 +66,12 @@ module _ {A : Type 0} (z : A) (k : CompiledGather) (v : CallViews) (operand : Li
 
   pub went : (after : List A) (answer : Answer) → isDone refusal ≡ true → Called z (k .plan) (v .first) (v .second) (v .third) operand starts before after answer → Ran z k v operand starts before after answer
   went after answer f c = let r = raw ∙ goes refusal called f in record { answered = c .answered ∙ sym r; left = c .left ∙ sym (ap leaves (ap isDone r)) }
+
+-- ---- what compile gives is compiled
+pub known-gather : (oe : List ℕ) (os : List ℤ) (ie : List ℕ) (is : List ℤ) (de : List ℕ) (ds : List ℤ) (offsets collapsed map : List ℕ) (vector : ℕ) (sizes : List ℕ) (k : CompiledGather)
+    → k ≡ compiledGather true (gatherFrom oe os ie is de ds offsets collapsed map vector sizes) → isDone (k .answer) ≡ true → isCompiled (k .plan) ≡ true
+known-gather oe os ie is de ds offsets collapsed map vector sizes k e =
+    subst (λ (x : CompiledGather). isDone (x .answer) ≡ true → isCompiled (x .plan) ≡ true) (sym e) (compile-is-compiled oe os ie is de ds offsets collapsed map vector sizes true)
 
 -- ---- its words
 pub handed : {A : Type 0} (z : A) (k l : CompiledGather) (v u : CallViews) (operand : List A) (starts : List ℤ) (before after : List A) (answer : Answer) (w : List ℕ)

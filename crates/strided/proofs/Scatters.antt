@@ -9,12 +9,27 @@ use Rattle.indexing.specs.Scatter.{Scatter}
 use Rattle.layout.specs.declared.Answer.{Answer}
 use Rattle.layout.specs.Answers.{isDone, orElse}
 use Rattle.replay.specs.Replays.{rowsOf}
+use Rattle.scatter_checks.specs.Refusals.{scatterFrom}
 use Rattle.scatter_plan.specs.declared.CompiledScatter.{CompiledScatter}
+use Rattle.scatter_plan.specs.Plan.{compiledScatter}
+use Rattle.scatter_plan.specs.Same.{isCompiled}
+use Rattle.scatter_plan.proofs.Compiled.{compile-is-compiled}
 use Rattle.scatter.specs.Calls.{scatterOf, callAnswer, Called}
 use Rattle.strided.specs.declared.CallViews.{CallViews}
 use Rattle.strided.specs.Words.{words}
 use Rattle.strided.specs.Scatters.{scatterAnswer, ScatterRan, ScatterHandedBack}
 use Rattle.strided.proofs.Calls.{stops, goes, in-turn}
+
+-- ---- what compile gives is compiled, with the rows of its walks
+pub known-scatter : (ie : List ℕ) (is : List ℤ) (ue : List ℕ) (us : List ℤ) (de : List ℕ) (ds : List ℤ) (window inserted map : List ℕ) (vector : ℕ) (k : CompiledScatter)
+    → k ≡ compiledScatter true (scatterFrom ie is ue us de ds window inserted map vector) → isDone (k .answer) ≡ true → isCompiled (k .plan) (rowsOf (k .plan .batch .axes)) (rowsOf (k .plan .window .axes)) ≡ true
+known-scatter ie is ue us de ds window inserted map vector k e =
+    subst (λ (x : CompiledScatter). isDone (x .answer) ≡ true → isCompiled (x .plan) (rowsOf (x .plan .batch .axes)) (rowsOf (x .plan .window .axes)) ≡ true) (sym e) (compile-is-compiled ie is ue us de ds window inserted map vector true)
+
+pub by-rows-known : (k : CompiledScatter) (batch window : List (List ℤ)) → batch ≡ rowsOf (k .plan .batch .axes) → window ≡ rowsOf (k .plan .window .axes)
+    → isCompiled (k .plan) (rowsOf (k .plan .batch .axes)) (rowsOf (k .plan .window .axes)) ≡ true → isCompiled (k .plan) batch window ≡ true
+by-rows-known k batch window e f = subst (λ (x : List (List ℤ)). isCompiled (k .plan) (rowsOf (k .plan .batch .axes)) (rowsOf (k .plan .window .axes)) ≡ true → isCompiled (k .plan) x window ≡ true) (sym e)
+    (subst (λ (x : List (List ℤ)). isCompiled (k .plan) (rowsOf (k .plan .batch .axes)) (rowsOf (k .plan .window .axes)) ≡ true → isCompiled (k .plan) (rowsOf (k .plan .batch .axes)) x ≡ true) (sym f) (λ h. h))
 
 -- ---- the call after compile and the views
 module _ {A : Type 0} (leaves : Scatter → List ℤ → List A → List A → List A) (k : CompiledScatter) (v : CallViews) (starts : List ℤ) (updates before : List A) (refusal : Answer) (e : refusal ≡ orElse (k .answer) (v .answer)) where

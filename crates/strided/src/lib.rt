@@ -6,9 +6,13 @@ ghost use lib.Ieee.{nan};
 ghost use lib.IntN.{pos};
 ghost use Rattle.gather_checks.specs.Refusals as gathers;
 ghost use Rattle.gather_plan.specs.Plan.{compiledGather};
+ghost use Rattle.gather_plan.specs.Same.{isCompiled};
 ghost use Rattle.indexing.specs.Scatter.{scatteredI32, scatteredF64};
 ghost use Rattle.scatter_checks.specs.Refusals as scatters;
 ghost use Rattle.scatter_plan.specs.Plan.{compiledScatter};
+ghost use Rattle.scatter_plan.specs.Same as S;
+ghost use Rattle.replay.specs.Replays.{rowsOf};
+ghost use Rattle.layout.specs.Answers.{isDone};
 ghost use Rattle.strided.specs.Words.{words};
 ghost use Rattle.strided.specs.Calls.{layoutsAnswer, viewsFrom, Ran, HandedBack};
 ghost use Rattle.strided.specs.Scatters.{ScatterRan, ScatterHandedBack};
@@ -171,7 +175,7 @@ fn call_views(
     }
 }
 
-// Compile's refusal, then the views', then the call.
+// Compile's refusal, then the views', then the call, with a plan that compile gave.
 fn run_i32(
     compiled: CompiledGather,
     views: CallViews,
@@ -179,6 +183,7 @@ fn run_i32(
     starts: &[i64],
     dest: &mut [i32],
 ) -> Answer
+    requires { ⌜ (isDone (compiled .answer) ≡ true → isCompiled (compiled .plan) ≡ true) ⌝ }
     ensures { λ r. ⌜ Ran (pos 0) compiled views (now (operand .entry)) (now (starts .entry)) (now (dest .entry)) (now (dest .exit)) r ⌝ }
 {
     let a = compiled.answer;
@@ -191,10 +196,10 @@ fn run_i32(
     let x = views.first;
     let y = views.second;
     let z = views.third;
-    gather::gather_i32(plan, x, y, z, operand, starts, dest)
+    gather::call_i32(plan, x, y, z, true, operand, starts, dest)
 }
 
-// Compile's refusal, then the views', then the call.
+// Compile's refusal, then the views', then the call, with a plan that compile gave.
 fn run_f64(
     compiled: CompiledGather,
     views: CallViews,
@@ -202,6 +207,7 @@ fn run_f64(
     starts: &[i64],
     dest: &mut [f64],
 ) -> Answer
+    requires { ⌜ (isDone (compiled .answer) ≡ true → isCompiled (compiled .plan) ≡ true) ⌝ }
     ensures { λ r. ⌜ Ran nan compiled views (now (operand .entry)) (now (starts .entry)) (now (dest .entry)) (now (dest .exit)) r ⌝ }
 {
     let a = compiled.answer;
@@ -214,7 +220,7 @@ fn run_f64(
     let x = views.first;
     let y = views.second;
     let z = views.third;
-    gather::gather_f64(plan, x, y, z, operand, starts, dest)
+    gather::call_f64(plan, x, y, z, true, operand, starts, dest)
 }
 
 // A gather of i32: compile by the first eleven arguments, and the call on the three views and their slices. The answer as number, a, b.
@@ -335,7 +341,7 @@ pub extern "C" fn strided_raw_gather_f64(
     *answer = words_of(r);
 }
 
-// Compile's refusal, then the views', then the call with the rows of the plan's two walks.
+// Compile's refusal, then the views', then the call with the rows of the plan's two walks, a plan that compile gave.
 fn run_scatter_i32(
     compiled: CompiledScatter,
     views: CallViews,
@@ -343,6 +349,7 @@ fn run_scatter_i32(
     updates: &[i32],
     dest: &mut [i32],
 ) -> Answer
+    requires { ⌜ (isDone (compiled .answer) ≡ true → S.isCompiled (compiled .plan) (rowsOf (compiled .plan .batch .axes)) (rowsOf (compiled .plan .window .axes)) ≡ true) ⌝ }
     ensures { λ r. ⌜ ScatterRan scatteredI32 compiled views (now (starts .entry)) (now (updates .entry)) (now (dest .entry)) (now (dest .exit)) r ⌝ }
 {
     let a = compiled.answer;
@@ -361,20 +368,21 @@ fn run_scatter_i32(
     let x = views.first;
     let y = views.second;
     let z = views.third;
-    scatter::scatter_i32(
+    scatter::call_i32(
         plan,
         batch_rows,
         window_rows,
         x,
         y,
         z,
+        true,
         starts,
         updates,
         dest,
     )
 }
 
-// Compile's refusal, then the views', then the call with the rows of the plan's two walks.
+// Compile's refusal, then the views', then the call with the rows of the plan's two walks, a plan that compile gave.
 fn run_scatter_f64(
     compiled: CompiledScatter,
     views: CallViews,
@@ -382,6 +390,7 @@ fn run_scatter_f64(
     updates: &[f64],
     dest: &mut [f64],
 ) -> Answer
+    requires { ⌜ (isDone (compiled .answer) ≡ true → S.isCompiled (compiled .plan) (rowsOf (compiled .plan .batch .axes)) (rowsOf (compiled .plan .window .axes)) ≡ true) ⌝ }
     ensures { λ r. ⌜ ScatterRan scatteredF64 compiled views (now (starts .entry)) (now (updates .entry)) (now (dest .entry)) (now (dest .exit)) r ⌝ }
 {
     let a = compiled.answer;
@@ -400,13 +409,14 @@ fn run_scatter_f64(
     let x = views.first;
     let y = views.second;
     let z = views.third;
-    scatter::scatter_f64(
+    scatter::call_f64(
         plan,
         batch_rows,
         window_rows,
         x,
         y,
         z,
+        true,
         starts,
         updates,
         dest,

@@ -8,7 +8,7 @@ use Rattle.gather.proofs.check_call.Tie as tie
 
 -- src/lib.rt:184:9
 plan-fits-requires : tie.Need-plan-fits-requires
-plan-fits-requires c κs = search needs
+plan-fits-requires c κs = c .pre
 
 -- src/lib.rt:185:9
 check-plan-requires : tie.Need-check-plan-requires

@@ -30,12 +30,14 @@ returns-3 : tie.Need-returns-3
 returns-3 c = first-yes _ _ _ (sym (c .before .before .before .before .before .same-layout .ensures) ∙ not-false _ (c .before .before .before .before .if1 .left)) (first-yes _ _ _ (sym (c .before .before .before .same-layout2 .ensures) ∙ not-false _ (c .before .before .if2 .left)) (first-no _ _ (sym (c .before .same-layout3 .ensures) ∙ not-true _ (c .if3 .taken))))
 
 -- src/lib.rt:159:5
+returns-4 : tie.Need-returns-4
+returns-4 c = first-yes _ _ _ (sym (c .before .before .before .before .before .before .same-layout .ensures) ∙ not-false _ (c .before .before .before .before .before .if1 .left)) (first-yes _ _ _ (sym (c .before .before .before .before .same-layout2 .ensures) ∙ not-false _ (c .before .before .before .if2 .left)) (first-yes _ _ _ (sym (c .before .before .same-layout3 .ensures) ∙ not-false _ (c .before .if3 .left)) (sym (c .before .before .before .before .before .before .before .before .before .before .before .before .before .pre (c .if4 .taken)))))
+
 is-compiled-requires : tie.Need-is-compiled-requires
 is-compiled-requires c κs = search needs
 
--- src/lib.rt:141:1
-returns-4 : tie.Need-returns-4
-returns-4 c = first-yes _ _ _ (sym (c .before .before .before .before .before .before .same-layout .ensures) ∙ not-false _ (c .before .before .before .before .before .if1 .left)) (first-yes _ _ _ (sym (c .before .before .before .before .same-layout2 .ensures) ∙ not-false _ (c .before .before .before .if2 .left)) (first-yes _ _ _ (sym (c .before .before .same-layout3 .ensures) ∙ not-false _ (c .before .if3 .left)) (c .is-compiled .ensures)))
+returns-5 : tie.Need-returns-5
+returns-5 c = first-yes _ _ _ (sym (c .before .before .before .before .before .before .before .same-layout .ensures) ∙ not-false _ (c .before .before .before .before .before .before .if1 .left)) (first-yes _ _ _ (sym (c .before .before .before .before .before .same-layout2 .ensures) ∙ not-false _ (c .before .before .before .before .if2 .left)) (first-yes _ _ _ (sym (c .before .before .before .same-layout3 .ensures) ∙ not-false _ (c .before .before .if3 .left)) (c .is-compiled .ensures)))
 
 pub plan-fits-spec : {M : Type 1} → statement M
 plan-fits-spec =
@@ -47,5 +49,6 @@ plan-fits-spec =
     returns-2
     same-layout-requires-3
     returns-3
+    returns-4
     is-compiled-requires
-    returns-4)
+    returns-5)

@@ -1,7 +1,7 @@
 use mathlib.Core.Path.{sym, _∙_}
 use borrow.Author.Tests.{not-true, not-false}
 use lib.Ieee.{nan}
-use Rattle.job_runs.proofs.Running.{gather-stopped, gather-went}
+use Rattle.job_runs.proofs.Running.{known-gather, gather-stopped, gather-went}
 use borrow.Author.Needs.{needs}
 use Rattle.job_runs.proofs.run_gather_f64.Statement.{statement}
 use Rattle.job_runs.proofs.run_gather_f64.Tie as tie
@@ -19,8 +19,8 @@ returns : tie.Need-returns
 returns c = let s = c .before .before .before .before .before .before .before in gather-stopped nan (c .before .before .before .open-gather .result) _ (s .args .operand .now) (s .args .starts .now) (s .args .dest .now) (c .before .before .before .open-gather .ensures) (sym (c .before .is-done .ensures) ∙ not-true _ (c .if1 .taken))
 
 -- src/lib.rt:310:9
-gather-f64-requires : tie.Need-gather-f64-requires
-gather-f64-requires c κs = search needs
+call-f64-requires : tie.Need-call-f64-requires
+call-f64-requires c κs = λ _. known-gather _ _ _ (c .before .before .before .before .before .before .before .before .before .before .open-gather .ensures) (sym (c .before .before .before .before .before .before .before .before .is-done .ensures) ∙ not-false _ (c .before .before .before .before .before .before .before .if1 .left))
 
 -- src/lib.rt:311:5
 after-call-requires : tie.Need-after-call-requires
@@ -32,7 +32,7 @@ same-length c = search needs
 
 -- src/lib.rt:295:1
 returns-2 : tie.Need-returns-2
-returns-2 c = let s = c .before .before .before .before .before .before .before .before .before .before .before .before .before .before .before .before .before .before in gather-went nan (c .before .before .before .before .before .before .before .before .before .before .before .before .before .before .open-gather .result) _ (s .args .operand .now) (s .args .starts .now) (s .args .dest .now) _ (c .before .before .before .gather-f64 .result) (c .after-call .result) (c .before .before .before .before .before .before .before .before .before .before .before .before .before .before .open-gather .ensures) (sym (c .before .before .before .before .before .before .before .before .before .before .before .before .is-done .ensures) ∙ not-false _ (c .before .before .before .before .before .before .before .before .before .before .before .if1 .left)) (c .before .before .before .gather-f64 .ensures) (c .after-call .ensures)
+returns-2 c = let s = c .before .before .before .before .before .before .before .before .before .before .before .before .before .before .before .before .before .before in gather-went nan (c .before .before .before .before .before .before .before .before .before .before .before .before .before .before .open-gather .result) _ (s .args .operand .now) (s .args .starts .now) (s .args .dest .now) _ (c .before .before .before .call-f64 .result) (c .after-call .result) (c .before .before .before .before .before .before .before .before .before .before .before .before .before .before .open-gather .ensures) (sym (c .before .before .before .before .before .before .before .before .before .before .before .before .is-done .ensures) ∙ not-false _ (c .before .before .before .before .before .before .before .before .before .before .before .if1 .left)) (c .before .before .before .call-f64 .ensures) (c .after-call .ensures)
 
 pub run-gather-f64-spec : {M : Type 1} → statement M
 run-gather-f64-spec =
@@ -41,7 +41,7 @@ run-gather-f64-spec =
     open-gather-requires
     is-done-requires
     returns
-    gather-f64-requires
+    call-f64-requires
     after-call-requires
     same-length
     returns-2)

@@ -1,7 +1,7 @@
 use mathlib.Core.Path.{sym, _∙_}
 use borrow.Author.Tests.{not-true, not-false}
 use lib.IntN.{pos}
-use Rattle.job_runs.proofs.Running.{gather-stopped, gather-went}
+use Rattle.job_runs.proofs.Running.{known-gather, gather-stopped, gather-went}
 use borrow.Author.Needs.{needs}
 use Rattle.job_runs.proofs.run_gather_i32.Statement.{statement}
 use Rattle.job_runs.proofs.run_gather_i32.Tie as tie
@@ -19,8 +19,8 @@ returns : tie.Need-returns
 returns c = let s = c .before .before .before .before .before in gather-stopped (pos 0) (c .before .before .before .open-gather .result) _ (s .args .operand .now) (s .args .starts .now) (s .args .dest .now) (c .before .before .before .open-gather .ensures) (sym (c .before .is-done .ensures) ∙ not-true _ (c .if1 .taken))
 
 -- src/lib.rt:290:9
-gather-i32-requires : tie.Need-gather-i32-requires
-gather-i32-requires c κs = search needs
+call-i32-requires : tie.Need-call-i32-requires
+call-i32-requires c κs = λ _. known-gather _ _ _ (c .before .before .before .before .before .before .before .before .before .before .open-gather .ensures) (sym (c .before .before .before .before .before .before .before .before .is-done .ensures) ∙ not-false _ (c .before .before .before .before .before .before .before .if1 .left))
 
 -- src/lib.rt:291:5
 after-call-requires : tie.Need-after-call-requires
@@ -32,7 +32,7 @@ same-length c = search needs
 
 -- src/lib.rt:275:1
 returns-2 : tie.Need-returns-2
-returns-2 c = let s = c .before .before .before .before .before .before .before .before .before .before .before .before .before .before .before in gather-went (pos 0) (c .before .before .before .before .before .before .before .before .before .before .before .before .before .open-gather .result) _ (s .args .operand .now) (s .args .starts .now) (s .args .dest .now) _ (c .before .before .gather-i32 .result) (c .after-call .result) (c .before .before .before .before .before .before .before .before .before .before .before .before .before .open-gather .ensures) (sym (c .before .before .before .before .before .before .before .before .before .before .before .is-done .ensures) ∙ not-false _ (c .before .before .before .before .before .before .before .before .before .before .if1 .left)) (c .before .before .gather-i32 .ensures) (c .after-call .ensures)
+returns-2 c = let s = c .before .before .before .before .before .before .before .before .before .before .before .before .before .before .before in gather-went (pos 0) (c .before .before .before .before .before .before .before .before .before .before .before .before .before .open-gather .result) _ (s .args .operand .now) (s .args .starts .now) (s .args .dest .now) _ (c .before .before .call-i32 .result) (c .after-call .result) (c .before .before .before .before .before .before .before .before .before .before .before .before .before .open-gather .ensures) (sym (c .before .before .before .before .before .before .before .before .before .before .before .is-done .ensures) ∙ not-false _ (c .before .before .before .before .before .before .before .before .before .before .if1 .left)) (c .before .before .call-i32 .ensures) (c .after-call .ensures)
 
 pub run-gather-i32-spec : {M : Type 1} → statement M
 run-gather-i32-spec =
@@ -41,7 +41,7 @@ run-gather-i32-spec =
     open-gather-requires
     is-done-requires
     returns
-    gather-i32-requires
+    call-i32-requires
     after-call-requires
     same-length
     returns-2)

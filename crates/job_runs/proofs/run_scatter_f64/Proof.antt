@@ -1,7 +1,7 @@
 use mathlib.Core.Path.{sym, _∙_}
 use borrow.Author.Tests.{not-true, not-false}
 use Rattle.indexing.specs.Scatter.{scatteredF64}
-use Rattle.job_runs.proofs.Running.{scatter-stopped, scatter-went}
+use Rattle.job_runs.proofs.Running.{known-scatter, scatter-stopped, scatter-went}
 use borrow.Author.Needs.{needs}
 use Rattle.job_runs.proofs.run_scatter_f64.Statement.{statement}
 use Rattle.job_runs.proofs.run_scatter_f64.Tie as tie
@@ -27,8 +27,8 @@ rows-of-requires-2 : tie.Need-rows-of-requires-2
 rows-of-requires-2 c κs = search needs
 
 -- src/lib.rt:372:9
-scatter-f64-requires : tie.Need-scatter-f64-requires
-scatter-f64-requires c κs = search needs
+call-f64-requires : tie.Need-call-f64-requires
+call-f64-requires c κs = λ _. known-scatter _ _ _ _ _ (c .before .before .before .before .before .before .before .before .before .before .before .before .before .before .before .before .open-scatter .ensures) (c .before .before .before .before .before .rows-of .ensures) (c .before .before .before .before .rows-of2 .ensures) (sym (c .before .before .before .before .before .before .before .before .before .before .before .before .before .before .is-done .ensures) ∙ not-false _ (c .before .before .before .before .before .before .before .before .before .before .before .before .before .if1 .left))
 
 -- src/lib.rt:383:5
 after-call-requires : tie.Need-after-call-requires
@@ -40,7 +40,7 @@ same-length c = search needs
 
 -- src/lib.rt:351:1
 returns-2 : tie.Need-returns-2
-returns-2 c = let s = c .before .before .before .before .before .before .before .before .before .before .before .before .before .before .before .before .before .before .before .before .before .before .before .before in scatter-went scatteredF64 (c .before .before .before .before .before .before .before .before .before .before .before .before .before .before .before .before .before .before .before .before .open-scatter .result) _ (c .before .before .before .before .before .before .before .before .before .rows-of .result) (c .before .before .before .before .before .before .before .before .rows-of2 .result) (s .args .starts .now) (s .args .updates .now) (s .args .dest .now) _ (c .before .before .before .scatter-f64 .result) (c .after-call .result) (c .before .before .before .before .before .before .before .before .before .before .before .before .before .before .before .before .before .before .before .before .open-scatter .ensures) (sym (c .before .before .before .before .before .before .before .before .before .before .before .before .before .before .before .before .before .before .is-done .ensures) ∙ not-false _ (c .before .before .before .before .before .before .before .before .before .before .before .before .before .before .before .before .before .if1 .left)) (c .before .before .before .before .before .before .before .before .before .rows-of .ensures) (c .before .before .before .before .before .before .before .before .rows-of2 .ensures) (c .before .before .before .scatter-f64 .ensures) (c .after-call .ensures)
+returns-2 c = let s = c .before .before .before .before .before .before .before .before .before .before .before .before .before .before .before .before .before .before .before .before .before .before .before .before in scatter-went scatteredF64 (c .before .before .before .before .before .before .before .before .before .before .before .before .before .before .before .before .before .before .before .before .open-scatter .result) _ (c .before .before .before .before .before .before .before .before .before .rows-of .result) (c .before .before .before .before .before .before .before .before .rows-of2 .result) (s .args .starts .now) (s .args .updates .now) (s .args .dest .now) _ (c .before .before .before .call-f64 .result) (c .after-call .result) (c .before .before .before .before .before .before .before .before .before .before .before .before .before .before .before .before .before .before .before .before .open-scatter .ensures) (sym (c .before .before .before .before .before .before .before .before .before .before .before .before .before .before .before .before .before .before .is-done .ensures) ∙ not-false _ (c .before .before .before .before .before .before .before .before .before .before .before .before .before .before .before .before .before .if1 .left)) (c .before .before .before .before .before .before .before .before .before .rows-of .ensures) (c .before .before .before .before .before .before .before .before .rows-of2 .ensures) (c .before .before .before .call-f64 .ensures) (c .after-call .ensures)
 
 pub run-scatter-f64-spec : {M : Type 1} → statement M
 run-scatter-f64-spec =
@@ -51,7 +51,7 @@ run-scatter-f64-spec =
     returns
     rows-of-requires
     rows-of-requires-2
-    scatter-f64-requires
+    call-f64-requires
     after-call-requires
     same-length
     returns-2)

@@ -1,7 +1,7 @@
 use mathlib.Core.Path.{sym, _∙_}
 use borrow.Author.Tests.{not-true, not-false}
 use Rattle.indexing.specs.Scatter.{scatteredI32}
-use Rattle.job_runs.proofs.Running.{scatter-stopped, scatter-went}
+use Rattle.job_runs.proofs.Running.{known-scatter, scatter-stopped, scatter-went}
 use borrow.Author.Needs.{needs}
 use Rattle.job_runs.proofs.run_scatter_i32.Statement.{statement}
 use Rattle.job_runs.proofs.run_scatter_i32.Tie as tie
@@ -27,8 +27,8 @@ rows-of-requires-2 : tie.Need-rows-of-requires-2
 rows-of-requires-2 c κs = search needs
 
 -- src/lib.rt:336:9
-scatter-i32-requires : tie.Need-scatter-i32-requires
-scatter-i32-requires c κs = search needs
+call-i32-requires : tie.Need-call-i32-requires
+call-i32-requires c κs = λ _. known-scatter _ _ _ _ _ (c .before .before .before .before .before .before .before .before .before .before .before .before .before .before .before .before .open-scatter .ensures) (c .before .before .before .before .before .rows-of .ensures) (c .before .before .before .before .rows-of2 .ensures) (sym (c .before .before .before .before .before .before .before .before .before .before .before .before .before .before .is-done .ensures) ∙ not-false _ (c .before .before .before .before .before .before .before .before .before .before .before .before .before .if1 .left))
 
 -- src/lib.rt:347:5
 after-call-requires : tie.Need-after-call-requires
@@ -40,7 +40,7 @@ same-length c = search needs
 
 -- src/lib.rt:315:1
 returns-2 : tie.Need-returns-2
-returns-2 c = let s = c .before .before .before .before .before .before .before .before .before .before .before .before .before .before .before .before .before .before .before .before .before in scatter-went scatteredI32 (c .before .before .before .before .before .before .before .before .before .before .before .before .before .before .before .before .before .before .before .open-scatter .result) _ (c .before .before .before .before .before .before .before .before .rows-of .result) (c .before .before .before .before .before .before .before .rows-of2 .result) (s .args .starts .now) (s .args .updates .now) (s .args .dest .now) _ (c .before .before .scatter-i32 .result) (c .after-call .result) (c .before .before .before .before .before .before .before .before .before .before .before .before .before .before .before .before .before .before .before .open-scatter .ensures) (sym (c .before .before .before .before .before .before .before .before .before .before .before .before .before .before .before .before .before .is-done .ensures) ∙ not-false _ (c .before .before .before .before .before .before .before .before .before .before .before .before .before .before .before .before .if1 .left)) (c .before .before .before .before .before .before .before .before .rows-of .ensures) (c .before .before .before .before .before .before .before .rows-of2 .ensures) (c .before .before .scatter-i32 .ensures) (c .after-call .ensures)
+returns-2 c = let s = c .before .before .before .before .before .before .before .before .before .before .before .before .before .before .before .before .before .before .before .before .before in scatter-went scatteredI32 (c .before .before .before .before .before .before .before .before .before .before .before .before .before .before .before .before .before .before .before .open-scatter .result) _ (c .before .before .before .before .before .before .before .before .rows-of .result) (c .before .before .before .before .before .before .before .rows-of2 .result) (s .args .starts .now) (s .args .updates .now) (s .args .dest .now) _ (c .before .before .call-i32 .result) (c .after-call .result) (c .before .before .before .before .before .before .before .before .before .before .before .before .before .before .before .before .before .before .before .open-scatter .ensures) (sym (c .before .before .before .before .before .before .before .before .before .before .before .before .before .before .before .before .before .is-done .ensures) ∙ not-false _ (c .before .before .before .before .before .before .before .before .before .before .before .before .before .before .before .before .if1 .left)) (c .before .before .before .before .before .before .before .before .rows-of .ensures) (c .before .before .before .before .before .before .before .rows-of2 .ensures) (c .before .before .call-i32 .ensures) (c .after-call .ensures)
 
 pub run-scatter-i32-spec : {M : Type 1} → statement M
 run-scatter-i32-spec =
@@ -51,7 +51,7 @@ run-scatter-i32-spec =
     returns
     rows-of-requires
     rows-of-requires-2
-    scatter-i32-requires
+    call-i32-requires
     after-call-requires
     same-length
     returns-2)

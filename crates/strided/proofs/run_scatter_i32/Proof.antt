@@ -1,7 +1,8 @@
 use mathlib.Core.Path.{sym, _∙_}
 use borrow.Author.Tests.{not-true, not-false}
 use Rattle.indexing.specs.Scatter.{scatteredI32}
-use Rattle.strided.proofs.Scatters.{scatter-stopped, scatter-went}
+use Rattle.strided.proofs.Calls.{first-done}
+use Rattle.strided.proofs.Scatters.{by-rows-known, scatter-stopped, scatter-went}
 use borrow.Author.Needs.{needs}
 use Rattle.strided.proofs.run_scatter_i32.Statement.{statement}
 use Rattle.strided.proofs.run_scatter_i32.Tie as tie
@@ -29,8 +30,10 @@ rows-of-requires-2 : tie.Need-rows-of-requires-2
 rows-of-requires-2 c κs = search needs
 
 -- src/lib.rt:354:5
-scatter-i32-requires : tie.Need-scatter-i32-requires
-scatter-i32-requires c κs = search needs
+call-i32-requires : tie.Need-call-i32-requires
+call-i32-requires c κs =
+    let s = c .before .before .before .before .before .before .before .before .before .before .before .before .before .before in
+    λ _. by-rows-known (s .args .compiled) _ _ (c .before .before .before .before .before .rows-of .ensures) (c .before .before .before .before .rows-of2 .ensures) (s .pre (first-done (s .args .compiled .answer) (s .args .views .answer) _ (c .before .before .before .before .before .before .before .before .before .before .before .before .before .or-else .ensures) (sym (c .before .before .before .before .before .before .before .before .before .before .before .before .is-done .ensures) ∙ not-false _ (c .before .before .before .before .before .before .before .before .before .before .before .if1 .left))))
 
 -- src/lib.rt:329:1
 same-length : tie.Need-same-length
@@ -43,7 +46,7 @@ returns-2 c =
     let o = c .before .before .before .before .before .before .before .before .before .before .before .before .before .before .before .or-else in
     let rows = c .before .before .before .before .before .before .before .rows-of in
     let wanted = c .before .before .before .before .before .before .rows-of2 in
-    let done = c .before .scatter-i32 in
+    let done = c .before .call-i32 in
     scatter-went scatteredI32 (s .args .compiled) (s .args .views) (s .args .starts .now) (s .args .updates .now) (s .args .dest .now) (o .result) (o .ensures) (rows .result) (wanted .result) (rows .ensures) (wanted .ensures) _ (done .result) (sym (c .before .before .before .before .before .before .before .before .before .before .before .before .before .before .is-done .ensures) ∙ not-false _ (c .before .before .before .before .before .before .before .before .before .before .before .before .before .if1 .left)) (done .ensures)
 
 pub run-scatter-i32-spec : {M : Type 1} → statement M
@@ -55,6 +58,6 @@ run-scatter-i32-spec =
     returns
     rows-of-requires
     rows-of-requires-2
-    scatter-i32-requires
+    call-i32-requires
     same-length
     returns-2)

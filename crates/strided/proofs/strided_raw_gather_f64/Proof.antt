@@ -2,7 +2,7 @@ use mir.Syntax.{w64}
 use mir.Val.{SFits}
 use lib.Ieee.{nan}
 use Rattle.integer.specs.Z.{back}
-use Rattle.strided.proofs.Calls.{handed}
+use Rattle.strided.proofs.Calls.{known-gather, handed}
 use borrow.Author.Needs.{needs}
 use Rattle.strided.proofs.strided_raw_gather_f64.Statement.{statement}
 use Rattle.strided.proofs.strided_raw_gather_f64.Tie as tie
@@ -20,7 +20,7 @@ call-views-requires c κs = search needs
 
 -- src/lib.rt:319:9
 run-f64-requires : tie.Need-run-f64-requires
-run-f64-requires c κs = search needs
+run-f64-requires c κs = known-gather _ _ _ _ _ _ _ _ _ _ _ (c .before .before .compile .result) (c .before .before .compile .ensures)
 
 -- src/lib.rt:320:15
 words-of-requires : tie.Need-words-of-requires

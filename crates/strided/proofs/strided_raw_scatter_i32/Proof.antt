@@ -2,7 +2,7 @@ use mir.Syntax.{w64}
 use mir.Val.{SFits}
 use Rattle.indexing.specs.Scatter.{scatteredI32}
 use Rattle.integer.specs.Z.{back}
-use Rattle.strided.proofs.Scatters.{scatter-handed}
+use Rattle.strided.proofs.Scatters.{known-scatter, scatter-handed}
 use borrow.Author.Needs.{needs}
 use Rattle.strided.proofs.strided_raw_scatter_i32.Statement.{statement}
 use Rattle.strided.proofs.strided_raw_scatter_i32.Tie as tie
@@ -20,7 +20,7 @@ call-views-requires c κs = search needs
 
 -- src/lib.rt:439:9
 run-scatter-i32-requires : tie.Need-run-scatter-i32-requires
-run-scatter-i32-requires c κs = search needs
+run-scatter-i32-requires c κs = known-scatter _ _ _ _ _ _ _ _ _ _ (c .before .before .compile .result) (c .before .before .compile .ensures)
 
 -- src/lib.rt:440:15
 words-of-requires : tie.Need-words-of-requires
