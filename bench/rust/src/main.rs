@@ -48,20 +48,24 @@ fn main() {
     scatters(rounds, &some);
 }
 
-fn gathers(rounds: usize, some: &str) {
+/// The windows that are measured for gathers and for scatters.
+fn windows() -> Vec<(&'static str, Job)> {
     let square = [1000, 1000];
     let narrow = [500, 2000];
     let rank_four = [20, 20, 20, 20];
-    for (name, job) in [
+    vec![
         ("64×64, 256 starts", Job::windows(&square, &[64, 64], 256)),
         (
             "64×64, 256 starts, batch axis first",
             Job::windows(&square, &[64, 64], 256).batch_first(),
         ),
+        (
+            "64×64, 16 starts, in the cache",
+            Job::windows(&[200, 200], &[64, 64], 16),
+        ),
         ("4×4, 65536 starts", Job::windows(&square, &[4, 4], 65536)),
         ("256×256, 16 starts", Job::windows(&square, &[256, 256], 16)),
         ("4×1024, 256 starts", Job::windows(&narrow, &[4, 1024], 256)),
-        ("take, rank one", Job::takes(1_000_000, 1_000_000)),
         (
             "8×8×8×8, 256 starts, strides of 2",
             Job::windows(&rank_four, &[8, 8, 8, 8], 256).apart(2),
@@ -69,7 +73,13 @@ fn gathers(rounds: usize, some: &str) {
         ("1×1, 1 start", Job::windows(&[100, 100], &[1, 1], 1)),
         ("5×2, 1 start", Job::windows(&[100, 100], &[5, 2], 1)),
         ("10×10, 1 start", Job::windows(&[100, 100], &[10, 10], 1)),
-    ] {
+    ]
+}
+
+fn gathers(rounds: usize, some: &str) {
+    let mut jobs = windows();
+    jobs.push(("take, rank one", Job::takes(1_000_000, 1_000_000)));
+    for (name, job) in jobs {
         let name = format!("gather {name}");
         if name.contains(some) {
             measure::<i32, Gather>(&name, &job, rounds);
@@ -81,23 +91,9 @@ fn gathers(rounds: usize, some: &str) {
 #[cfg(feature = "scatter")]
 fn scatters(rounds: usize, some: &str) {
     use original::Scatter;
-    let square = [1000, 1000];
-    let narrow = [500, 2000];
-    let rank_four = [20, 20, 20, 20];
-    for (name, job) in [
-        ("64×64, 256 starts", Job::windows(&square, &[64, 64], 256)),
-        ("4×4, 65536 starts", Job::windows(&square, &[4, 4], 65536)),
-        ("256×256, 16 starts", Job::windows(&square, &[256, 256], 16)),
-        ("4×1024, 256 starts", Job::windows(&narrow, &[4, 1024], 256)),
-        ("scalars, rank one", Job::puts(1_000_000, 1_000_000)),
-        (
-            "8×8×8×8, 256 starts, strides of 2",
-            Job::windows(&rank_four, &[8, 8, 8, 8], 256).apart(2),
-        ),
-        ("1×1, 1 start", Job::windows(&[100, 100], &[1, 1], 1)),
-        ("5×2, 1 start", Job::windows(&[100, 100], &[5, 2], 1)),
-        ("10×10, 1 start", Job::windows(&[100, 100], &[10, 10], 1)),
-    ] {
+    let mut jobs = windows();
+    jobs.push(("scalars, rank one", Job::puts(1_000_000, 1_000_000)));
+    for (name, job) in jobs {
         let name = format!("scatter {name}");
         if name.contains(some) {
             measure::<i32, Scatter>(&name, &job, rounds);
