@@ -67,6 +67,12 @@ fn windows() -> Vec<(&'static str, Job)> {
         ("256×256, 16 starts", Job::windows(&square, &[256, 256], 16)),
         ("4×1024, 256 starts", Job::windows(&narrow, &[4, 1024], 256)),
         (
+            "1×1, 1000000 starts",
+            Job::windows(&square, &[1, 1], 1_000_000),
+        ),
+        ("16×1, 65536 starts", Job::windows(&square, &[16, 1], 65536)),
+        ("1×16, 65536 starts", Job::windows(&square, &[1, 16], 65536)),
+        (
             "8×8×8×8, 256 starts, strides of 2",
             Job::windows(&rank_four, &[8, 8, 8, 8], 256).apart(2),
         ),
