@@ -80,7 +80,7 @@ void strided_write_scatter_job(
     uint64_t index_vector_dim,
     uint8_t *out, size_t out_count, uint64_t answer[3]);
 
-/* Read a job, compile it and call it. A job of another kind or element is refused by 10, at byte 5 or 6. */
+/* Read a job, compile it and call it. A job of another kind or element is refused by 10, at byte 5 or 6; none is refused by 8. */
 void strided_gather_i32(
     const uint8_t *job, size_t job_count, const int32_t *operand, size_t operand_count,
     const int64_t *starts, size_t starts_count, int32_t *destination, size_t destination_count, uint64_t answer[3]);

@@ -172,7 +172,7 @@ last-done s x = go (isDone x) refl
     go true q e = q
     go false q e = e
 
-compile-done : (read kind compile : Answer) → isDone (refusals read kind compile .answer) ≡ true → isDone compile ≡ true
+pub compile-done : (read kind compile : Answer) → isDone (refusals read kind compile .answer) ≡ true → isDone compile ≡ true
 unfolding refusals
 compile-done read kind compile e = last-done S.Compile compile (step-done S.Kind kind _ (step-done S.Read read _ e))
 
