@@ -121,7 +121,6 @@ impl Job {
     }
 
     /// The same for the Rust's scatter.
-    #[cfg(feature = "scatter")]
     pub fn puts(cells: u64, batch: u64) -> Job {
         Job {
             index: Layout::new(&[batch, 1], 1),

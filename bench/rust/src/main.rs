@@ -3,9 +3,9 @@
 //! beside the repository, with the differential run's stand-ins for what they
 //! name from outside, and with two of `lean` in their place.
 
+mod element;
 mod job;
 mod lean;
-mod library;
 mod measure;
 mod original;
 mod plain;
@@ -32,7 +32,7 @@ pub use stubs::{INLINE_RANK, RAW_FUSED_RANK_LIMIT};
 
 use job::Job;
 use measure::measure;
-use original::Gather;
+use original::{Gather, Scatter};
 
 fn main() {
     let rounds = std::env::var("BENCH_ROUNDS")
@@ -44,7 +44,6 @@ fn main() {
     println!("| call | element | cells | Rust, compile and execute | Rust, execute alone | memcpy | plain loop |");
     println!("|---|---|---|---|---|---|---|");
     gathers(rounds, &some);
-    #[cfg(feature = "scatter")]
     scatters(rounds, &some);
 }
 
@@ -94,9 +93,7 @@ fn gathers(rounds: usize, some: &str) {
     }
 }
 
-#[cfg(feature = "scatter")]
 fn scatters(rounds: usize, some: &str) {
-    use original::Scatter;
     let mut jobs = windows();
     jobs.push(("scalars, rank one", Job::puts(1_000_000, 1_000_000)));
     for (name, job) in jobs {

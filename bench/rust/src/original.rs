@@ -1,22 +1,34 @@
 //! Gather and scatter by the Rust, in the two steps that it has, and by the
-//! library in one.
+//! library in one: its crate's plan keeps layouts and lists alone, and each
+//! call compiles them.
 
-use crate::gather_plan::{GatherPlan, GatherSpec};
+use crate::element::Element;
+use crate::gather_plan::{GatherPlan, GatherSpec, ScatterPlan, ScatterSpec};
 use crate::job::{usizes, Job, Layout};
-use crate::library::Element;
 use crate::stubs::{Exec, RawStridedMut, RawStridedRef};
+use strided::{StridedMut, StridedRef};
 
 pub trait Kind {
     /// Whether the windows are added to the grid.
     const ADD: bool;
     type Spec: Clone;
     type Plan;
+    type Library;
     fn spec(job: &Job) -> Self::Spec;
     /// The Rust takes the lists by value, so each compile needs its own.
     fn compile(job: &Job, spec: Self::Spec) -> Self::Plan;
     /// Never inlined: one machine code for both columns of the Rust.
     fn execute<T: Element>(plan: &Self::Plan, job: &Job, source: &[T], dest: &mut [T]);
-    fn library<T: Element>(job: &Job, source: &[T], dest: &mut [T]) -> [u64; 3];
+    fn prepare(job: &Job) -> Self::Library;
+    fn library<T: Element>(plan: &Self::Library, job: &Job, source: &[T], dest: &mut [T]);
+}
+
+fn lend<'a, T>(layout: &'a Layout, data: &'a [T]) -> StridedRef<'a, T> {
+    StridedRef::new(data, &layout.dims, &layout.steps, 0)
+}
+
+fn lend_mut<'a, T>(layout: &'a Layout, data: &'a mut [T]) -> StridedMut<'a, T> {
+    StridedMut::new(data, &layout.dims, &layout.steps, 0)
 }
 
 fn read<'a, T>(layout: &'a Layout, data: &'a [T]) -> RawStridedRef<'a, T> {
@@ -43,6 +55,7 @@ impl Kind for Gather {
     const ADD: bool = false;
     type Spec = GatherSpec;
     type Plan = GatherPlan;
+    type Library = strided::GatherPlan;
 
     fn spec(job: &Job) -> GatherSpec {
         GatherSpec {
@@ -79,66 +92,105 @@ impl Kind for Gather {
         .expect("the Rust refuses");
     }
 
-    fn library<T: Element>(job: &Job, source: &[T], dest: &mut [T]) -> [u64; 3] {
-        T::gather(job, source, dest)
+    fn prepare(job: &Job) -> strided::GatherPlan {
+        strided::GatherPlan::compile(
+            &job.grid.dims,
+            &job.grid.steps,
+            &job.index.dims,
+            &job.index.steps,
+            &job.windows.dims,
+            &job.windows.steps,
+            strided::GatherSpec {
+                offset_dims: usizes(&job.window_dims),
+                collapsed_slice_dims: usizes(&job.dropped_dims),
+                start_index_map: usizes(&job.map),
+                index_vector_dim: job.index_vector_dim as usize,
+                slice_sizes: usizes(&job.slice_sizes),
+            },
+        )
+        .expect("the library refuses")
+    }
+
+    fn library<T: Element>(plan: &strided::GatherPlan, job: &Job, source: &[T], dest: &mut [T]) {
+        plan.execute(
+            &mut lend_mut(&job.windows, dest),
+            &lend(&job.grid, source),
+            &lend(&job.index, &job.starts),
+        )
+        .expect("the library refuses");
     }
 }
 
-#[cfg(feature = "scatter")]
-pub use scatter::Scatter;
+pub struct Scatter;
 
-#[cfg(feature = "scatter")]
-mod scatter {
-    use super::{read, usizes, write, Element, Exec, Job, Kind};
-    use crate::gather_plan::{ScatterPlan, ScatterSpec};
+impl Kind for Scatter {
+    const ADD: bool = true;
+    type Spec = ScatterSpec;
+    type Plan = ScatterPlan;
+    type Library = strided::ScatterPlan;
 
-    pub struct Scatter;
+    fn spec(job: &Job) -> ScatterSpec {
+        ScatterSpec {
+            update_window_dims: usizes(&job.window_dims),
+            inserted_window_dims: usizes(&job.dropped_dims),
+            scatter_dims_to_operand_dims: usizes(&job.map),
+            index_vector_dim: job.index_vector_dim as usize,
+        }
+    }
 
-    impl Kind for Scatter {
-        const ADD: bool = true;
-        type Spec = ScatterSpec;
-        type Plan = ScatterPlan;
+    #[inline(never)]
+    fn compile(job: &Job, spec: ScatterSpec) -> ScatterPlan {
+        ScatterPlan::compile(
+            &job.grid.dims,
+            &job.grid.steps,
+            &job.index.dims,
+            &job.index.steps,
+            &job.windows.dims,
+            &job.windows.steps,
+            &job.grid.dims,
+            &job.grid.steps,
+            spec,
+        )
+        .expect("the Rust refuses")
+    }
 
-        fn spec(job: &Job) -> ScatterSpec {
-            ScatterSpec {
+    /// The operand's elements are never read: its copy does nothing here.
+    #[inline(never)]
+    fn execute<T: Element>(plan: &ScatterPlan, job: &Job, source: &[T], dest: &mut [T]) {
+        plan.execute(
+            &mut write(&job.grid, dest),
+            &read(&job.grid, &[]),
+            &read(&job.index, &job.starts),
+            &read(&job.windows, source),
+            Exec::serial(),
+        )
+        .expect("the Rust refuses");
+    }
+
+    fn prepare(job: &Job) -> strided::ScatterPlan {
+        strided::ScatterPlan::compile(
+            &job.index.dims,
+            &job.index.steps,
+            &job.windows.dims,
+            &job.windows.steps,
+            &job.grid.dims,
+            &job.grid.steps,
+            strided::ScatterSpec {
                 update_window_dims: usizes(&job.window_dims),
                 inserted_window_dims: usizes(&job.dropped_dims),
                 scatter_dims_to_operand_dims: usizes(&job.map),
                 index_vector_dim: job.index_vector_dim as usize,
-            }
-        }
+            },
+        )
+        .expect("the library refuses")
+    }
 
-        #[inline(never)]
-        fn compile(job: &Job, spec: ScatterSpec) -> ScatterPlan {
-            ScatterPlan::compile(
-                &job.grid.dims,
-                &job.grid.steps,
-                &job.index.dims,
-                &job.index.steps,
-                &job.windows.dims,
-                &job.windows.steps,
-                &job.grid.dims,
-                &job.grid.steps,
-                spec,
-            )
-            .expect("the Rust refuses")
-        }
-
-        /// The operand's elements are never read: its copy does nothing here.
-        #[inline(never)]
-        fn execute<T: Element>(plan: &ScatterPlan, job: &Job, source: &[T], dest: &mut [T]) {
-            plan.execute(
-                &mut write(&job.grid, dest),
-                &read(&job.grid, &[]),
-                &read(&job.index, &job.starts),
-                &read(&job.windows, source),
-                Exec::serial(),
-            )
-            .expect("the Rust refuses");
-        }
-
-        fn library<T: Element>(job: &Job, source: &[T], dest: &mut [T]) -> [u64; 3] {
-            T::scatter(job, source, dest)
-        }
+    fn library<T: Element>(plan: &strided::ScatterPlan, job: &Job, source: &[T], dest: &mut [T]) {
+        plan.execute(
+            &mut lend_mut(&job.grid, dest),
+            &lend(&job.index, &job.starts),
+            &lend(&job.windows, source),
+        )
+        .expect("the library refuses");
     }
 }

@@ -1,8 +1,8 @@
 //! The loops that one would write for a job, with raw pointers: in the order
 //! in which the windows lie, each start clamped once where it can be.
 
+use crate::element::Element;
 use crate::job::{Job, Order};
-use crate::library::Element;
 
 /// A window's extents, and its steps in the grid and in the windows; axes
 /// that it lacks have one cell.
