@@ -1,9 +1,9 @@
 """Makes the harbour's input files: a basin and what two dredgers logged. usage: make_inputs.py [FOLDER]
 
-The files beside this program were made by it once, and are kept; harbour/check makes them again and compares. Nothing was
+The files beside this program were made by it once, and are kept; check.py makes them again and compares. Nothing was
 measured: the bottom is a few waves and a shoal, and the cuts come from Python's random numbers with a fixed seed.
 
-Depths are in mm below the water, i32; the quay and the pier stand 3500 mm above it. A log has a start for each cut, row and
+Depths are in mm below the water, i32; the pier stands 3500 mm above it. A log has a start for each cut, row and
 column of the footprint's first cell, i64, and the mm that each cell of the footprint was deepened by, i32.
 """
 
