@@ -36,11 +36,11 @@ pub fn gather_run_f64(
     if count == 1 {
         if ss == 0 {
             let at = t + offsets[0];
-            takes::take_run_f64(src, starts, dst, n, at, ts, s, strides[0], limits[0], d, ds);
+            takes_f64::take_run_f64(src, starts, dst, n, at, ts, s, strides[0], limits[0], d, ds);
             return;
         }
     }
-    takes::take_cells_f64(
+    takes_f64::take_cells_f64(
         src,
         starts,
         dst,

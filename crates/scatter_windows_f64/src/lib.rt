@@ -34,10 +34,10 @@ pub fn scatter_run_f64(
     }
     if count == 1 {
         let at = t + offsets[0];
-        takes::put_run_f64(src, starts, dst, n, at, ts, d, strides[0], limits[0], u, us);
+        takes_f64::put_run_f64(src, starts, dst, n, at, ts, d, strides[0], limits[0], u, us);
         return;
     }
-    takes::put_cells_f64(
+    takes_f64::put_cells_f64(
         src,
         starts,
         dst,

@@ -4,10 +4,10 @@ use lib.Ieee.{nan}
 use Rattle.runs.specs.Runs.{ruleF64}
 use Rattle.runs.specs.declared.Rule.the-variants as R
 use Rattle.runs.proofs.Turns.{none}
 use Rattle.takes.proofs.Places.{take-end}
 use Rattle.takes.proofs.Ones.{strided-asks, row-asks, take-row-end}
-use Rattle.takes.proofs.take_run_f64.Statement.{statement}
-use Rattle.takes.proofs.take_run_f64.Tie as tie
+use Rattle.takes_f64.proofs.take_run_f64.Statement.{statement}
+use Rattle.takes_f64.proofs.take_run_f64.Tie as tie
 
 returns : tie.Need-returns
 returns c = let a = c .before .before .before in none _ (a .args .n) (a .args .dst .now) (c .if1 .taken)

@@ -11,10 +11,10 @@ use Rattle.runs.specs.Runs.{ruleF64, line}
 use Rattle.runs.specs.declared.Rule.the-variants as R
 use Rattle.runs.proofs.Place.{read, Index, index}
 use Rattle.runs.proofs.Runs.{Part, part-of}
 use Rattle.takes.specs.Takes.{clampedAt, oneAt}
 use Rattle.takes.proofs.Ones.{part-read, ones-ask, part-take}
-use Rattle.takes.proofs.take_row_f64.Statement.{statement}
-use Rattle.takes.proofs.take_row_f64.Tie as tie
+use Rattle.takes_f64.proofs.take_row_f64.Statement.{statement}
+use Rattle.takes_f64.proofs.take_row_f64.Tie as tie
 
 starts-room : (a : tie.Start) → length (a .args .starts .now) * 8 < 2 ^ 63
 starts-room a = a .good .1 .0 .1

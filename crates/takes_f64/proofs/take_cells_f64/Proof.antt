@@ -13,10 +13,10 @@ use Rattle.runs.specs.Runs.{ruleF64, cellAt, line}
 use Rattle.runs.specs.declared.Rule.the-variants as R
 use Rattle.runs.proofs.Turns.{none, cell-more}
 use Rattle.runs.proofs.Place.{read, Step, Index}
 use Rattle.takes.specs.Takes.{movedAt}
 use Rattle.takes.proofs.Cells.{source-step, index-step, dest-step, started-asks, place-index, place-is, cells-end}
-use Rattle.takes.proofs.take_cells_f64.Statement.{statement}
-use Rattle.takes.proofs.take_cells_f64.Tie as tie
+use Rattle.takes_f64.proofs.take_cells_f64.Statement.{statement}
+use Rattle.takes_f64.proofs.take_cells_f64.Tie as tie
 
 abbrev Inv-loop : tie.InvT-loop
 Inv-loop src starts dst₀ n s t d ss ts ds count offsets strides limits i₀ dst i = (i ≤ n) × (length dst ≡ length dst₀) × (dst ≡ inOrder (cellAt nan (ruleF64 R.Copy) src (movedAt starts offsets strides limits count (line (toZ w64 s) (toZ w64 ss)) (line (toZ w64 t) (toZ w64 ts))) (line (toZ w64 d) (toZ w64 ds))) i dst₀)

@@ -11,10 +11,10 @@ use Rattle.indexing.specs.Loops.{inOrder}
 use Rattle.runs.specs.Runs.{ruleF64, cellAt}
 use Rattle.runs.specs.declared.Rule.the-variants as R
 use Rattle.runs.proofs.Place.{read}
 use Rattle.takes.specs.Takes.{oneAt}
 use Rattle.takes.proofs.Ones.{ones-left, turn-length, cells-length, four-turns, take-ones-end}
-use Rattle.takes.proofs.take_ones_f64.Statement.{statement}
-use Rattle.takes.proofs.take_ones_f64.Tie as tie
+use Rattle.takes_f64.proofs.take_ones_f64.Statement.{statement}
+use Rattle.takes_f64.proofs.take_ones_f64.Tie as tie
 
 abbrev Inv-loop : tie.InvT-loop
 Inv-loop src starts dst₀ limit n fours₀ i₀ dst fours i =

@@ -11,10 +11,10 @@ use Rattle.runs.specs.Runs.{ruleF64, cellAt, line}
 use Rattle.runs.specs.declared.Rule.the-variants as R
 use Rattle.runs.proofs.Turns.{none, cell-more}
 use Rattle.runs.proofs.Place.{read, machine, Step, Index}
 use Rattle.takes.specs.Takes.{movedAt}
 use Rattle.takes.proofs.Puts.{source-step, index-step, started-asks, place-index, place-is, puts-end}
-use Rattle.takes.proofs.put_cells_f64.Statement.{statement}
-use Rattle.takes.proofs.put_cells_f64.Tie as tie
+use Rattle.takes_f64.proofs.put_cells_f64.Statement.{statement}
+use Rattle.takes_f64.proofs.put_cells_f64.Tie as tie
 
 abbrev Inv-loop : tie.InvT-loop
 Inv-loop src starts dst₀ n s t d ss ts count offsets strides limits i₀ dst i =

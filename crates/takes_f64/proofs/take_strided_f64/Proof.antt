@@ -12,10 +12,10 @@ use Rattle.runs.specs.Runs.{ruleF64, cellAt, line}
 use Rattle.runs.specs.declared.Rule.the-variants as R
 use Rattle.runs.proofs.Turns.{none, cell-more}
 use Rattle.runs.proofs.Place.{read, machine, Step}
 use Rattle.takes.specs.Takes.{clampedAt}
 use Rattle.takes.proofs.Places.{start-step, plain-step, clamped-step, clamped-is, take-end}
-use Rattle.takes.proofs.take_strided_f64.Statement.{statement}
-use Rattle.takes.proofs.take_strided_f64.Tie as tie
+use Rattle.takes_f64.proofs.take_strided_f64.Statement.{statement}
+use Rattle.takes_f64.proofs.take_strided_f64.Tie as tie
 
 abbrev Inv-loop : tie.InvT-loop
 Inv-loop src starts dst₀ n t ts base stride limit d ds i₀ dst i = (i ≤ n) × (length dst ≡ length dst₀) × (dst ≡ inOrder (cellAt nan (ruleF64 R.Copy) src (clampedAt starts (line (toZ w64 t) (toZ w64 ts)) (toZ w64 base) (toZ w64 stride) limit) (line (toZ w64 d) (toZ w64 ds))) i dst₀)

@@ -8,10 +8,10 @@ use lib.IntN.{pos, natAbs}
 use Rattle.runs.specs.Runs.{ruleF64}
 use Rattle.runs.specs.declared.Rule.the-variants as R
 use Rattle.runs.proofs.Place.{read, Index}
 use Rattle.takes.specs.Takes.{oneAt}
 use Rattle.takes.proofs.Ones.{ones-index, ones-is, one-turn}
-use Rattle.takes.proofs.take_one_f64.Statement.{statement}
-use Rattle.takes.proofs.take_one_f64.Tie as tie
+use Rattle.takes_f64.proofs.take_one_f64.Statement.{statement}
+use Rattle.takes_f64.proofs.take_one_f64.Tie as tie
 
 -- the place of the source
 module _ (c : tie.After-clamped) where

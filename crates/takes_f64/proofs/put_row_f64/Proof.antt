@@ -9,9 +9,9 @@ use Rattle.runs.specs.Runs.{ruleF64}
 use Rattle.runs.specs.declared.Rule.the-variants as R
 use Rattle.runs.proofs.Place.{read, Index, index}
 use Rattle.runs.proofs.Runs.{Part, part-of}
 use Rattle.takes.proofs.Ones.{part-place, place-in, ones-ask, part-put}
-use Rattle.takes.proofs.put_row_f64.Statement.{statement}
-use Rattle.takes.proofs.put_row_f64.Tie as tie
+use Rattle.takes_f64.proofs.put_row_f64.Statement.{statement}
+use Rattle.takes_f64.proofs.put_row_f64.Tie as tie
 
 starts-room : (a : tie.Start) → length (a .args .starts .now) * 8 < 2 ^ 63
 starts-room a = a .good .1 .0 .1

@@ -11,13 +11,13 @@ use Rattle.runs.specs.Runs.{ruleF64, cellAt}
 use Rattle.runs.specs.declared.Rule.the-variants as R
 use Rattle.runs.proofs.Turns.{none, more}
 use Rattle.runs.proofs.Place.{read}
 use Rattle.takes.specs.Takes.{oneAt}
-use Rattle.takes.proofs.Ones.{ones-left, turn-length, take-ones-end}
-use Rattle.takes.proofs.take_few_f64.Statement.{statement}
-use Rattle.takes.proofs.take_few_f64.Tie as tie
+use Rattle.takes.proofs.Ones.{ones-left, turn-length, put-ones-end}
+use Rattle.takes_f64.proofs.put_few_f64.Statement.{statement}
+use Rattle.takes_f64.proofs.put_few_f64.Tie as tie
 
 abbrev Inv-loop : tie.InvT-loop
-Inv-loop src starts dst₀ limit n i₀ dst i = (i ≤ n) × (length dst ≡ length dst₀) × (dst ≡ inOrder (cellAt nan (ruleF64 R.Copy) src (oneAt starts (toZ w64 limit)) pos) i dst₀)
+Inv-loop src starts dst₀ limit n i₀ dst i = (i ≤ n) × (length dst ≡ length dst₀) × (dst ≡ inOrder (cellAt nan (ruleF64 R.Add) src pos (oneAt starts (toZ w64 limit))) i dst₀)
 
 abbrev μ-loop : tie.MeasureT-loop
 μ-loop src starts dst₀ limit n i₀ dst i = n - i
@@ -25,9 +25,9 @@ abbrev μ-loop : tie.MeasureT-loop
 loop-holds : tie.Need-loop-holds Inv-loop μ-loop
 loop-holds c = (omega arith, refl, none _ 0 (c .before .before .args .dst .now) refl)
 
-take-one-f64-requires : tie.Need-take-one-f64-requires Inv-loop μ-loop
-take-one-f64-requires c κs = let h = c .before .before in
-    let a = h .before .before .before in (omega (arith, c .before .loop-test .taken, a .pre .0, h .loop .inv .1), ones-left _ _ _ _ _ _ (a .fits .limit) (a .pre .1) (h .loop .inv .1) refl)
+put-one-f64-requires : tie.Need-put-one-f64-requires Inv-loop μ-loop
+put-one-f64-requires c κs = let h = c .before .before in
+    let a = h .before .before .before in (omega (arith, c .before .loop-test .taken, a .pre .0), ones-left _ _ _ _ _ _ (a .fits .limit) (a .pre .1) refl (h .loop .inv .1))
 
 add-i : tie.Need-add-i Inv-loop μ-loop
 add-i c = omega (arith, c .before .before .before .before .loop-test .taken)
@@ -38,9 +38,9 @@ loop-less c = omega (arith, c .before .before .before .before .loop-test .taken)
 loop-again : tie.Need-loop-again Inv-loop μ-loop
 loop-again c = let h = c .before .before .before .before .before in
     let a = h .before .before .before in
-    let e = c .before .before .take-one-f64 .ensures in (
+    let e = c .before .before .put-one-f64 .ensures in (
       omega (arith, c .before .before .before .before .loop-test .taken),
-      turn-length nan (ruleF64 R.Copy) (a .args .src .now) (oneAt (a .args .starts .now) (read (a .args .limit))) pos (h .loop .i) (h .loop .dst) _ e ∙ h .loop .inv .1,
+      turn-length nan (ruleF64 R.Add) (a .args .src .now) pos (oneAt (a .args .starts .now) (read (a .args .limit))) (h .loop .i) (h .loop .dst) _ e ∙ h .loop .inv .1,
       more _ (h .loop .i) _ _ _ (h .loop .inv .2) e,
     )
 
@@ -50,16 +50,16 @@ same-length c = c .before .loop .inv .1
 returns : tie.Need-returns Inv-loop μ-loop
 returns c = let h = c .before in
     let a = h .before .before .before in
-    take-ones-end nan (ruleF64 R.Copy) (a .args .src .now) (a .args .starts .now) (a .args .limit) (h .loop .i) _ (a .args .dst .now) (h .loop .dst) (a .fits .limit) (omega arith) (h .loop .inv .2)
+    put-ones-end nan (ruleF64 R.Add) (a .args .src .now) (a .args .starts .now) (a .args .limit) (h .loop .i) _ (a .args .dst .now) (h .loop .dst) (a .fits .limit) (omega arith) (h .loop .inv .2)
 
-pub take-few-f64-spec : {M : Type 1} → statement M
-take-few-f64-spec =
+pub put-few-f64-spec : {M : Type 1} → statement M
+put-few-f64-spec =
     tie.close
     (tie.spec
     Inv-loop
     μ-loop
     loop-holds
-    take-one-f64-requires
+    put-one-f64-requires
     add-i
     loop-less
     loop-again
