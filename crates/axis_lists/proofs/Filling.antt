@@ -15,15 +15,8 @@ use Rattle.indexing.specs.Start.{without}
 use Rattle.indexing.specs.Axes.{length-pick, getD-pick, length-spread}
 use Rattle.layout.specs.Layouts.{rankLimit, padded}
 use Rattle.layout.proofs.Fill.{fill-one, fill-short}
+use Rattle.spans.proofs.Parts.{take-count}
 use Rattle.axis_lists.specs.Held.{heldNumbers, heldSteps, sameList, Decides}
-
--- the count as the code bounds it
-pub take-count : {A : Type 0} (n k : ℕ) (xs : List A) → n ≡ min k (length xs) → take n xs ≡ take k xs
-take-count n k xs e = go (ltb k (length xs)) refl
-  where
-    go : (t : Bool) → ltb k (length xs) ≡ t → take n xs ≡ take k xs
-    go true h = let l : k < length xs = ltb-true k (length xs) h in let f : n ≡ k = omega arith in ap (λ (m : ℕ). take m xs) f
-    go false h = let l : length xs ≤ k = ltb-false k (length xs) h in take-all n xs (omega arith) ∙ sym (take-all k xs l)
 
 pub numbers-are : (n : ℕ) (out l : List ℕ) → n ≡ length l → out ≡ padded rankLimit 0 l → record { count = n; entries = out } ≡ heldNumbers l
 numbers-are n out l e f = ap₂ (λ (c : ℕ) (xs : List ℕ). record { count = c; entries = xs }) e f

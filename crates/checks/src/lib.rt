@@ -24,7 +24,7 @@ pub fn check_total(layout: Layout) -> Answer
     ensures { λ r. ⌜ r ≡ totalFits (totalOf (extentsOf layout)) ⌝ }
 {
     let extents = layout.extents;
-    let total = layout::checked_total_len(extents, layout.rank);
+    let total = spans::checked_total_len(extents, layout.rank);
     match total {
         CheckedU::Fits(_) => Answer::Done,
         CheckedU::Overflow => Answer::OffsetOverflow,
@@ -37,7 +37,7 @@ pub fn check_span(layout: Layout) -> Answer
 {
     let extents = layout.extents;
     let strides = layout.strides;
-    let span = layout::validate_layout_span(extents, strides, layout.rank);
+    let span = spans::validate_layout_span(extents, strides, layout.rank);
     match span {
         OffsetSpan::Fits(_, _) => Answer::Done,
         OffsetSpan::Overflow => Answer::OffsetOverflow,
@@ -51,7 +51,7 @@ pub fn check_nested(layout: Layout, asked: bool) -> Answer
     let extents = layout.extents;
     let strides = layout.strides;
     if asked {
-        if layout::is_nested(extents, strides, layout.rank) {
+        if spans::is_nested(extents, strides, layout.rank) {
             Answer::Done
         } else {
             Answer::NonInjectiveOutputLayout

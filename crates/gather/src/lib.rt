@@ -191,9 +191,9 @@ pub fn check_call(
 {
     let fits = plan_fits(plan, operand, index, dest, known);
     let eight = check_plan(fits);
-    let x = layout::view_reach(operand, operand_len);
-    let y = layout::view_reach(index, starts_len);
-    let z = layout::view_reach(dest, dest_len);
+    let x = spans::view_reach(operand, operand_len);
+    let y = spans::view_reach(index, starts_len);
+    let z = spans::view_reach(dest, dest_len);
     let a = layout::check_reach(x, 1);
     let b = layout::check_reach(y, 2);
     let c = layout::check_reach(z, 3);
@@ -290,7 +290,7 @@ pub fn call_i32(
     if !layout::is_done(answer) {
         return answer;
     }
-    let reach = layout::view_reach(dest, into.len());
+    let reach = spans::view_reach(dest, into.len());
     match reach {
         Reach::Cells(low, high) => {
             cells_i32(
@@ -415,7 +415,7 @@ pub fn call_f64(
     if !layout::is_done(answer) {
         return answer;
     }
-    let reach = layout::view_reach(dest, into.len());
+    let reach = spans::view_reach(dest, into.len());
     match reach {
         Reach::Cells(low, high) => {
             cells_f64(

@@ -10,7 +10,7 @@ use lib.ListN.{length, take, drop}
 use lib.Seq.{append-snoc}
 use Rattle.indexing.specs.Coordinates.{has, tabulate}
 use Rattle.indexing.specs.Axes.{Axes, or-left, or-right, or-none, axes-append}
-use Rattle.axis_lists.proofs.Filling.{take-count}
+use Rattle.spans.proofs.Parts as P
 use Rattle.layout.specs.declared.Answer.the-variants as A
 use Rattle.layout.specs.Answers.{isDone}
 use Rattle.layout.specs.Lists.{uniqueAxes}
@@ -90,10 +90,10 @@ axes-few (suc n) xs p = omega (arith, length-cut n xs, axes-few n (cut n xs) (cu
 
 -- ---- a part of an array of eight
 pub part-fits : {A : Type 0} (n k : ℕ) (xs : List A) → n ≡ min k 8 → length xs ≡ 8 → n ≤ length xs
-part-fits n k xs e f = omega arith
+part-fits n k xs e f = P.part-fits n k 8 xs e f
 
 pub part-read : {A : Type 0} (n k : ℕ) (xs : List A) → n ≡ min k 8 → length xs ≡ 8 → take (n - 0) (drop 0 xs) ≡ take k xs
-part-read n k xs e f = let z : n - 0 ≡ n = omega arith in ap (λ (m : ℕ). take m xs) z ∙ take-count n k xs (omega arith)
+part-read n k xs e f = P.part-read n k 8 xs e f
 
 -- ---- entries one by one
 pub tabulate-same : {A : Type 0} (n : ℕ) (f g : ℕ → A) → ((k : ℕ) → k < n → f k ≡ g k) → tabulate n f ≡ tabulate n g

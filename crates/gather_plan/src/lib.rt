@@ -142,7 +142,7 @@ fn total_value(layout: Layout) -> u64
     ensures { λ r. ⌜ r ≡ totalOr (extentsOf layout) ⌝ }
 {
     let extents = layout.extents;
-    let total = layout::checked_total_len(extents, layout.rank);
+    let total = spans::checked_total_len(extents, layout.rank);
     match total {
         CheckedU::Fits(n) => n,
         CheckedU::Overflow => 0,

@@ -180,7 +180,7 @@ pub fn gather_window_f64(
         );
         return;
     }
-    if layout::has_zero(*extents, rank) {
+    if spans::has_zero(*extents, rank) {
         return;
     }
     let low = windows::run_axis(extents, rank);

@@ -18,7 +18,7 @@ fn product(extents: &[u64]) {
     printing::put_extents(extents);
     printing::put(b": ");
     let held = layout::padded_extents(extents);
-    match layout::checked_total_len(held, extents.len()) {
+    match spans::checked_total_len(held, extents.len()) {
         CheckedU::Fits(n) => {
             printing::put_u64(n);
             printing::end_line();
@@ -62,7 +62,7 @@ fn nested(extents: &[u64], strides: &[i64]) {
     printing::put(b": ");
     let e = layout::padded_extents(extents);
     let s = layout::padded_strides(strides);
-    if layout::is_nested(e, s, extents.len()) {
+    if spans::is_nested(e, s, extents.len()) {
         printing::put(b"nested\n");
     } else {
         printing::put(b"not nested\n");

@@ -6,7 +6,7 @@ use Prim.Native.Nat.{ℕ, _-_, _≤_, min}
 use native.Mathlib.Omega.{arith}
 use lib.ListN.{length, take, drop}
 use lib.IntN.{ℤ}
-use Rattle.axis_lists.proofs.Filling.{take-count}
+use Rattle.spans.proofs.Parts as P
 use Rattle.layout.specs.declared.Answer.{Answer}
 use Rattle.layout.specs.declared.Answer.the-variants as A
 use Rattle.layout.specs.Answers.{isDone, orElse}
@@ -36,10 +36,10 @@ use Rattle.job_runs.specs.Runs.{gatherWith, scatterWith, kindAnswer, ele
 
 -- ---- a part of an array of sixteen
 pub part-fits-16 : {A : Type 0} (n k : ℕ) (xs : List A) → n ≡ min k 16 → length xs ≡ 16 → n ≤ length xs
-part-fits-16 n k xs e f = omega arith
+part-fits-16 n k xs e f = P.part-fits n k 16 xs e f
 
 pub part-read-16 : {A : Type 0} (n k : ℕ) (xs : List A) → n ≡ min k 16 → length xs ≡ 16 → take (n - 0) (drop 0 xs) ≡ take k xs
-part-read-16 n k xs e f = let z : n - 0 ≡ n = omega arith in ap (λ (m : ℕ). take m xs) z ∙ take-count n k xs (omega arith)
+part-read-16 n k xs e f = P.part-read n k 16 xs e f
 
 -- ---- a step that refuses, and one that goes on
 halts : (s : Step) (x : Answer) (next : RunAnswer) → isDone x ≡ false → record { step = s; answer = x } ≡ stepped s x next

@@ -14,7 +14,7 @@ use Rattle.layout.specs.declared.Answer.the-variants as A
 use Rattle.layout.specs.declared.View.{View}
 use Rattle.layout.specs.Layouts.{rankLimit, extentsOf, stridesOf}
 use Rattle.layout.proofs.Fill.{fill-one}
-use Rattle.axis_lists.proofs.Filling.{take-count}
+use Rattle.spans.proofs.Parts.{take-count}
 use Rattle.job_bytes.specs.Fields.{bytesOf, wordsOf, wordOf}
 use Rattle.job_bytes.proofs.Putting.{sets-append, length-bytes, length-words}
 use Rattle.job.specs.declared.Kind.{Kind}

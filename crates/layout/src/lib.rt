@@ -8,12 +8,11 @@ ghost use lib.IntN.{pos, negℤ, _+ℤ_, _*ℤ_};
 ghost use Rattle.integer.specs.Defs.{checked, checkedU};
 ghost use Rattle.indexing.specs.Start.{clamp};
 ghost use Rattle.layout.specs.Answers.{numberOf, aOf, bOf, isDone};
-ghost use Rattle.layout.specs.Layouts.{rankLimit, padded, strideLength, rankAtMost, refusedLayout, layoutFrom, extentsOf, stridesOf};
-ghost use Rattle.layout.specs.Spans.{andThen, andThenU, spanOf, totalOf, reachOf, widened, spanned, resetOf, offsetAdd, stridedOffset};
+ghost use Rattle.layout.specs.Layouts.{rankLimit, padded, strideLength, rankAtMost, refusedLayout, layoutFrom};
+ghost use Rattle.layout.specs.Spans.{andThen, andThenU, spanOf, reachOf, widened, resetOf, offsetAdd, stridedOffset};
 ghost use Rattle.layout.specs.Lists.{uniqueAxes};
-ghost use Rattle.layout.specs.Nested.{hasZero, nested};
-ghost use Rattle.layout.specs.Sums.{weight, otherWeight, othersWeight, axisExceeds, sideWeight, sideReach, cellsWithin};
-ghost use Rattle.layout.specs.Reach.{viewReach, bufferBounds};
+ghost use Rattle.layout.specs.Sums.{weight, otherWeight, sideWeight, cellsWithin};
+ghost use Rattle.layout.specs.Reach.{bufferBounds};
 ghost use Rattle.layout.specs.declared.OffsetSpan.the-variants as S;
 use integer::Checked;
 use integer::CheckedU;
@@ -229,28 +228,6 @@ pub fn axis_count(rank: usize) -> usize
     }
 }
 
-// The product of the extents, left to right.
-pub fn checked_total_len(extents: [u64; RAW_FUSED_RANK_LIMIT], rank: usize) -> CheckedU
-    ensures { λ r. ⌜ r ≡ totalOf (take rank extents) ⌝ }
-{
-    let n = axis_count(rank);
-    let mut acc: u64 = 1;
-    let mut i: usize = 0;
-    while i < n {
-        let p = integer::checked_mul_u64(acc, extents[i]);
-        match p {
-            CheckedU::Fits(m) => {
-                acc = m;
-            }
-            CheckedU::Overflow => {
-                return CheckedU::Overflow;
-            }
-        }
-        i += 1;
-    }
-    CheckedU::Fits(acc)
-}
-
 // The stride times what `x` holds.
 pub fn scaled(x: Checked, stride: i64) -> Checked
     ensures { λ r. ⌜ r ≡ andThen x (λ m. checked (stride *ℤ m)) ⌝ }
@@ -319,7 +296,7 @@ fn axis_reach(extent: u64, stride: i64) -> Checked
 }
 
 // The span with one axis more.
-fn widen(low: i64, high: i64, extent: u64, stride: i64) -> OffsetSpan
+pub fn widen(low: i64, high: i64, extent: u64, stride: i64) -> OffsetSpan
     ensures { λ r. ⌜ r ≡ widened low high extent stride ⌝ }
 {
     let far = axis_reach(extent, stride);
@@ -335,34 +312,6 @@ fn widen(low: i64, high: i64, extent: u64, stride: i64) -> OffsetSpan
         }
         Checked::Overflow => OffsetSpan::Overflow,
     }
-}
-
-// The span of a layout.
-pub fn validate_layout_span(
-    extents: [u64; RAW_FUSED_RANK_LIMIT],
-    strides: [i64; RAW_FUSED_RANK_LIMIT],
-    rank: usize,
-) -> OffsetSpan
-    ensures { λ r. ⌜ r ≡ spanned (take rank extents) (take rank strides) ⌝ }
-{
-    let n = axis_count(rank);
-    let mut low: i64 = 0;
-    let mut high: i64 = 0;
-    let mut i: usize = 0;
-    while i < n {
-        let s = widen(low, high, extents[i], strides[i]);
-        match s {
-            OffsetSpan::Fits(l, h) => {
-                low = l;
-                high = h;
-            }
-            OffsetSpan::Overflow => {
-                return OffsetSpan::Overflow;
-            }
-        }
-        i += 1;
-    }
-    OffsetSpan::Fits(low, high)
 }
 
 // What takes an axis from its last coordinate back to its first.
@@ -456,21 +405,6 @@ pub fn clamp_window_start(start: i64, extent: u64, window: u64) -> u64
     }
 }
 
-// Whether some extent is 0.
-pub fn has_zero(extents: [u64; RAW_FUSED_RANK_LIMIT], rank: usize) -> bool
-    ensures { λ r. ⌜ r ≡ hasZero (take rank extents) ⌝ }
-{
-    let n = axis_count(rank);
-    let mut i: usize = 0;
-    while i < n {
-        if extents[i] == 0 {
-            return true;
-        }
-        i += 1;
-    }
-    false
-}
-
 // The magnitude of the stride times the last coordinate.
 fn axis_weight(extent: u64, stride: i64) -> CheckedU
     ensures { λ r. ⌜ r ≡ checkedU (weight extent stride) ⌝ }
@@ -481,7 +415,7 @@ fn axis_weight(extent: u64, stride: i64) -> CheckedU
 }
 
 // The weight of an axis whose stride's magnitude is at most `limit`; 0 of another, and of the axis itself.
-fn other_weight(extent: u64, stride: i64, limit: u64, own: bool) -> CheckedU
+pub fn other_weight(extent: u64, stride: i64, limit: u64, own: bool) -> CheckedU
     ensures { λ r. ⌜ r ≡ checkedU (otherWeight limit own extent stride) ⌝ }
 {
     if own {
@@ -496,85 +430,13 @@ fn other_weight(extent: u64, stride: i64, limit: u64, own: bool) -> CheckedU
     }
 }
 
-fn sum_with(sum: u64, x: CheckedU) -> CheckedU
+pub fn sum_with(sum: u64, x: CheckedU) -> CheckedU
     ensures { λ r. ⌜ r ≡ andThenU x (λ e. checkedU (sum + e)) ⌝ }
 {
     match x {
         CheckedU::Fits(e) => integer::checked_add_u64(sum, e),
         CheckedU::Overflow => CheckedU::Overflow,
     }
-}
-
-// The weights of the axes other than `axis` whose strides' magnitudes are at most `limit`.
-fn others_weight(
-    extents: [u64; RAW_FUSED_RANK_LIMIT],
-    strides: [i64; RAW_FUSED_RANK_LIMIT],
-    rank: usize,
-    axis: usize,
-    limit: u64,
-) -> CheckedU
-    ensures { λ r. ⌜ r ≡ checkedU (othersWeight limit axis (take rank extents) (take rank strides)) ⌝ }
-{
-    let n = axis_count(rank);
-    let mut sum: u64 = 0;
-    let mut i: usize = 0;
-    while i < n {
-        let w = other_weight(extents[i], strides[i], limit, i == axis);
-        let s = sum_with(sum, w);
-        match s {
-            CheckedU::Fits(t) => {
-                sum = t;
-            }
-            CheckedU::Overflow => {
-                return CheckedU::Overflow;
-            }
-        }
-        i += 1;
-    }
-    CheckedU::Fits(sum)
-}
-
-// Whether the axis has one coordinate, or its stride's magnitude exceeds the weights of the others up to it.
-fn axis_exceeds(
-    extents: [u64; RAW_FUSED_RANK_LIMIT],
-    strides: [i64; RAW_FUSED_RANK_LIMIT],
-    rank: usize,
-    axis: usize,
-) -> bool
-    requires { ⌜ axis < min rank rankLimit ⌝ }
-    ensures { λ r. ⌜ r ≡ axisExceeds axis (take rank extents) (take rank strides) ⌝ }
-{
-    if extents[axis] == 1 {
-        return true;
-    }
-    let m = integer::magnitude_i64(strides[axis]);
-    let others = others_weight(extents, strides, rank, axis, m);
-    match others {
-        CheckedU::Fits(w) => w < m,
-        CheckedU::Overflow => false,
-    }
-}
-
-// Whether the layout is nested.
-pub fn is_nested(
-    extents: [u64; RAW_FUSED_RANK_LIMIT],
-    strides: [i64; RAW_FUSED_RANK_LIMIT],
-    rank: usize,
-) -> bool
-    ensures { λ r. ⌜ r ≡ nested (take rank extents) (take rank strides) ⌝ }
-{
-    if has_zero(extents, rank) {
-        return true;
-    }
-    let n = axis_count(rank);
-    let mut i: usize = 0;
-    while i < n {
-        if !axis_exceeds(extents, strides, rank, i) {
-            return false;
-        }
-        i += 1;
-    }
-    true
 }
 
 // Where the cells of a view lie in its slice: from the lowest index to the highest; or that it has none; or that it fails the test of 9.
@@ -585,7 +447,7 @@ pub enum Reach {
 }
 
 // The weight of an axis whose stride is on this side: below 0, or not; 0 of another.
-fn side_weight(extent: u64, stride: i64, below: bool) -> CheckedU
+pub fn side_weight(extent: u64, stride: i64, below: bool) -> CheckedU
     ensures { λ r. ⌜ r ≡ checkedU (sideWeight below extent stride) ⌝ }
 {
     if stride < 0 {
@@ -603,36 +465,8 @@ fn side_weight(extent: u64, stride: i64, below: bool) -> CheckedU
     }
 }
 
-// How far the cells reach from the offset, to one side.
-fn side_reach(
-    extents: [u64; RAW_FUSED_RANK_LIMIT],
-    strides: [i64; RAW_FUSED_RANK_LIMIT],
-    rank: usize,
-    below: bool,
-) -> CheckedU
-    ensures { λ r. ⌜ r ≡ checkedU (sideReach below (take rank extents) (take rank strides)) ⌝ }
-{
-    let n = axis_count(rank);
-    let mut sum: u64 = 0;
-    let mut i: usize = 0;
-    while i < n {
-        let w = side_weight(extents[i], strides[i], below);
-        let s = sum_with(sum, w);
-        match s {
-            CheckedU::Fits(t) => {
-                sum = t;
-            }
-            CheckedU::Overflow => {
-                return CheckedU::Overflow;
-            }
-        }
-        i += 1;
-    }
-    CheckedU::Fits(sum)
-}
-
 // The part from `at − down` to `at + up`, if it lies below `len`.
-fn cells_within(at: u64, down: CheckedU, up: CheckedU, len: usize) -> Reach
+pub fn cells_within(at: u64, down: CheckedU, up: CheckedU, len: usize) -> Reach
     ensures { λ r. ⌜ r ≡ cellsWithin at down up len ⌝ }
 {
     match down {
@@ -654,30 +488,6 @@ fn cells_within(at: u64, down: CheckedU, up: CheckedU, len: usize) -> Reach
         }
         CheckedU::Overflow => Reach::Outside,
     }
-}
-
-// Where the cells of a view lie in a slice of `len` elements.
-pub fn view_reach(view: View, len: usize) -> Reach
-    ensures { λ r. ⌜ r ≡ viewReach (extentsOf (view .layout)) (stridesOf (view .layout)) (view .offset) len ⌝ }
-{
-    let layout = view.layout;
-    let extents = layout.extents;
-    let strides = layout.strides;
-    let rank = layout.rank;
-    let offset = view.offset;
-    if offset < 0 {
-        return Reach::Outside;
-    }
-    let at = offset as u64;
-    if has_zero(extents, rank) {
-        if at <= len as u64 {
-            return Reach::NoCells;
-        }
-        return Reach::Outside;
-    }
-    let down = side_reach(extents, strides, rank, true);
-    let up = side_reach(extents, strides, rank, false);
-    cells_within(at, down, up, len)
 }
 
 // The test of 9 for the view of this number.

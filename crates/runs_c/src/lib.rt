@@ -46,7 +46,7 @@ fn inside(
         strides,
     };
     let view = View { layout, offset };
-    let reach = layout::view_reach(view, len);
+    let reach = spans::view_reach(view, len);
     let answer = layout::check_reach(reach, 0);
     layout::is_done(answer)
 }

@@ -158,9 +158,9 @@ pub fn check_call(
 {
     let fits = plan_fits(plan, batch_rows, window_rows, index, updates, dest, known);
     let eight = gather::check_plan(fits);
-    let x = layout::view_reach(index, starts_len);
-    let y = layout::view_reach(updates, updates_len);
-    let z = layout::view_reach(dest, dest_len);
+    let x = spans::view_reach(index, starts_len);
+    let y = spans::view_reach(updates, updates_len);
+    let z = spans::view_reach(dest, dest_len);
     let a = layout::check_reach(x, 1);
     let b = layout::check_reach(y, 2);
     let c = layout::check_reach(z, 3);
@@ -268,7 +268,7 @@ pub fn call_i32(
     if !layout::is_done(answer) {
         return answer;
     }
-    let reach = layout::view_reach(dest, into.len());
+    let reach = spans::view_reach(dest, into.len());
     match reach {
         Reach::Cells(low, high) => {
             cells_i32(
@@ -419,7 +419,7 @@ pub fn call_f64(
     if !layout::is_done(answer) {
         return answer;
     }
-    let reach = layout::view_reach(dest, into.len());
+    let reach = spans::view_reach(dest, into.len());
     match reach {
         Reach::Cells(low, high) => {
             cells_f64(

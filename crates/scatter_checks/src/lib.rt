@@ -192,7 +192,7 @@ fn check_product(list: Numbers) -> Answer
     ensures { λ r. ⌜ r ≡ totalFits (totalOf (numbersOf list)) ⌝ }
 {
     let entries = list.entries;
-    let total = layout::checked_total_len(entries, list.count);
+    let total = spans::checked_total_len(entries, list.count);
     match total {
         CheckedU::Fits(_) => Answer::Done,
         CheckedU::Overflow => Answer::OffsetOverflow,

@@ -95,7 +95,7 @@ fn product_value(list: Numbers) -> u64
     ensures { λ r. ⌜ r ≡ totalOr (numbersOf list) ⌝ }
 {
     let entries = list.entries;
-    let total = layout::checked_total_len(entries, list.count);
+    let total = spans::checked_total_len(entries, list.count);
     match total {
         CheckedU::Fits(n) => n,
         CheckedU::Overflow => 0,

@@ -288,10 +288,10 @@ pub fn scatter_window(
     requires { ⌜ Scattering (now starts) (now offsets) (now strides) (now limits) count t u d (now bextents) (now ts) (now us) brank (now wextents) (now ws) (now ds) wrank (length (now src)) (length (now dst)) ⌝ }
     ensures { λ _. ⌜ now (dst .exit) ≡ scatteredBy (pos 0) (ruleI32 R.Add) (now (src .entry)) (now (starts .entry)) (now (offsets .entry)) (now (strides .entry)) (now (limits .entry)) count t u d (now (bextents .entry)) (now (ts .entry)) (now (us .entry)) brank (now (wextents .entry)) (now (ws .entry)) (now (ds .entry)) wrank (now (dst .entry)) ⌝ }
 {
-    if layout::has_zero(*bextents, brank) {
+    if spans::has_zero(*bextents, brank) {
         return;
     }
-    if layout::has_zero(*wextents, wrank) {
+    if spans::has_zero(*wextents, wrank) {
         return;
     }
     if one_cell(wextents, wrank) {

@@ -1,6 +1,6 @@
 // The state of a walk over a window, its first place, and its step. Users do not call these: what a function asks is a
 // record that an accepted walk gives (`specs/Walking.antt`), where the window has cells and its reach from the bases fits.
-// A window without cells is compiled and never walked, and nothing of it is read: `layout::has_zero` of its extents tells.
+// A window without cells is compiled and never walked, and nothing of it is read: `spans::has_zero` of its extents tells.
 // A side of which nothing is read is walked from base 0, from which its reach fits.
 ghost use mathlib.Core.Path.{_≡_};
 ghost use lib.IntN.{pos, _+ℤ_, _*ℤ_};

@@ -87,7 +87,7 @@ pub fn window(
         runs::run(rule, src, dst, 1, s, d, 0, 0);
         return;
     }
-    if layout::has_zero(*extents, rank) {
+    if spans::has_zero(*extents, rank) {
         return;
     }
     let low = run_axis(extents, rank);

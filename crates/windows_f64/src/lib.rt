@@ -68,7 +68,7 @@ pub fn window_f64(
         runs_f64::run_f64(rule, src, dst, 1, s, d, 0, 0);
         return;
     }
-    if layout::has_zero(*extents, rank) {
+    if spans::has_zero(*extents, rank) {
         return;
     }
     let low = windows::run_axis(extents, rank);

@@ -4,7 +4,8 @@ use native.Mathlib.Omega.{arith}
 use borrow.Author.Needs.{needs}
 use lib.ListN.{length, take, length-take}
 use Rattle.layout.specs.Layouts.{rankLimit, padded}
-use Rattle.axis_lists.proofs.Filling.{take-count, numbers-are, written, one-written, all-written, entry-below}
+use Rattle.spans.proofs.Parts.{take-count}
+use Rattle.axis_lists.proofs.Filling.{numbers-are, written, one-written, all-written, entry-below}
 use Rattle.axis_lists.proofs.extents_of.Statement.{statement}
 use Rattle.axis_lists.proofs.extents_of.Tie as tie
 

@@ -7,7 +7,8 @@ use lib.ListN.{length, take}
 use Rattle.indexing.specs.Coordinates.{pick}
 use Rattle.layout.specs.Layouts.{rankLimit, padded}
 use Rattle.axis_lists.specs.Held.{numbersOf}
-use Rattle.axis_lists.proofs.Filling.{take-count, numbers-are, written, one-written, all-written, picked, length-picked}
+use Rattle.spans.proofs.Parts.{take-count}
+use Rattle.axis_lists.proofs.Filling.{numbers-are, written, one-written, all-written, picked, length-picked}
 use Rattle.axis_lists.proofs.pick_entries.Statement.{statement}
 use Rattle.axis_lists.proofs.pick_entries.Tie as tie
 

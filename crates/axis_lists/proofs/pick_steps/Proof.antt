@@ -11,7 +11,8 @@ use Rattle.integer.specs.Z.{back}
 use Rattle.indexing.specs.Coordinates.{pick}
 use Rattle.layout.specs.Layouts.{rankLimit, padded}
 use Rattle.axis_lists.specs.Held.{numbersOf, stepsOf}
-use Rattle.axis_lists.proofs.Filling.{take-count, steps-are, written, one-written, all-written, picked, length-picked}
+use Rattle.spans.proofs.Parts.{take-count}
+use Rattle.axis_lists.proofs.Filling.{steps-are, written, one-written, all-written, picked, length-picked}
 use Rattle.axis_lists.proofs.pick_steps.Statement.{statement}
 use Rattle.axis_lists.proofs.pick_steps.Tie as tie
 

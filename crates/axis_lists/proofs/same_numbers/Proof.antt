@@ -6,7 +6,8 @@ use native.Mathlib.Omega.{arith}
 use borrow.Author.Needs.{needs}
 use lib.ListN.{length, take, getD, length-take}
 use lib.Seq.{take-suc}
-use Rattle.axis_lists.proofs.Filling.{take-count, entry-below}
+use Rattle.spans.proofs.Parts.{take-count}
+use Rattle.axis_lists.proofs.Filling.{entry-below}
 use Rattle.axis_lists.proofs.same_numbers.Statement.{statement}
 use Rattle.axis_lists.proofs.same_numbers.Tie as tie
 

@@ -8,7 +8,8 @@ use mir.Syntax.{w64}
 use mir.Val.{SFits, toZ, ofZ}
 use Rattle.integer.specs.Z.{back}
 use Rattle.layout.specs.Layouts.{rankLimit, padded}
-use Rattle.axis_lists.proofs.Filling.{take-count, steps-are, written, one-written, all-written, entry-below}
+use Rattle.spans.proofs.Parts.{take-count}
+use Rattle.axis_lists.proofs.Filling.{steps-are, written, one-written, all-written, entry-below}
 use Rattle.axis_lists.proofs.strides_of.Statement.{statement}
 use Rattle.axis_lists.proofs.strides_of.Tie as tie
 

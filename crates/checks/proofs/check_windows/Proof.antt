@@ -5,7 +5,7 @@ use native.Mathlib.Omega.{arith}
 use borrow.Author.Needs.{needs}
 use borrow.Author.Tests.{ltb-true, ltb-false}
 use lib.ListN.{length, take, length-take}
-use Rattle.axis_lists.proofs.Filling.{take-count}
+use Rattle.spans.proofs.Parts.{take-count}
 use Rattle.checks.proofs.Windows.{left, windows-no, windows-next, windows-end, windows-short}
 use Rattle.checks.specs.Checks.{windowsFrom, windowsFit}
 use Rattle.checks.proofs.check_windows.Statement.{statement}

@@ -5,7 +5,7 @@ use Prim.Native.Nat.{ℕ, _-_, _≤_, min}
 use native.Mathlib.Omega.{arith}
 use borrow.Author.Tests.{ltb-true, ltb-false}
 use lib.ListN.{length, take}
-use Rattle.axis_lists.proofs.Filling.{take-count}
+use Rattle.spans.proofs.Parts.{take-count}
 use Rattle.gather_plan.specs.Plan.{roleOf}
 use Rattle.gather_plan.proofs.Roles.{left, role-here, role-next, role-short, role-past}
 use Rattle.gather_plan.proofs.role_at.Statement.{statement}

@@ -16,7 +16,7 @@ use Rattle.replay.proofs.compile_window_replay.Statement.{statement}
 use Rattle.replay.proofs.compile_window_replay.Tie as tie
 use Rattle.replay.proofs.compile_window_replay.Reads as reads
 use Rattle.replay.proofs.compile_window_replay.Lts as lts
-use Rattle.layout.proofs.validate_layout_span.Reads as validate-layout-span-reads
+use Rattle.spans.proofs.validate_layout_span.Reads as validate-layout-span-reads
 use Rattle.replay.proofs.fuse.Reads as fuse-reads
 use Rattle.replay.proofs.refused_replay.Reads as refused-replay-reads
 

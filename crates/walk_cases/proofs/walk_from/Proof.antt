@@ -21,7 +21,7 @@ use Rattle.walk_cases.proofs.walk_from.Statement.{statement}
 use Rattle.walk_cases.proofs.walk_from.Tie as tie
 use Rattle.walk_cases.proofs.walk_from.Reads as reads
 use Rattle.walk_cases.proofs.walk_from.Lts as lts
-use Rattle.layout.proofs.has_zero.Reads as has-zero-reads
+use Rattle.spans.proofs.has_zero.Reads as has-zero-reads
 use Rattle.layout.proofs.is_done.Reads as is-done-reads
 use Rattle.replay.proofs.compile_window_replay.Reads as compile-window-replay-reads
 use Rattle.replay.proofs.rows_of.Reads as rows-of-reads

@@ -14,13 +14,13 @@ use Rattle.integer.specs.Machine.{checkedU-yes, checkedU-fits, checkedU-over}
 use Rattle.integer.specs.declared.CheckedU.{CheckedU}
 use Rattle.integer.specs.declared.CheckedU.the-variants as U
 use Rattle.indexing.specs.Reach.{belowZero, aboveZero, lowest, highest}
 use Rattle.layout.specs.declared.Reach.{Reach}
 use Rattle.layout.specs.declared.Reach.the-variants as R
 use Rattle.layout.specs.Spans.{andThenU}
 use Rattle.layout.specs.Nested.{hasZero}
 use Rattle.layout.specs.Sums.{sumAxes, sideAt, sideReach, highBy, lowBy, cellsWithin}
 use Rattle.layout.specs.Reach.{viewReach}
-use Rattle.layout.proofs.Turns.{sum-checked}
+use Rattle.spans.proofs.Turns.{sum-checked}
 
 below-neg : (n : ℕ) → belowZero (negℤ (pos n)) ≡ negℤ (pos n)
 below-neg zero = refl

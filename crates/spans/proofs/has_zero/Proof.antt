@@ -1,0 +1,35 @@
+use mathlib.Core.Path.{ap, _∙_}
+use Rattle.layout.specs.Nested.{hasZero}
+use Rattle.spans.proofs.Parts.{part-read}
+use borrow.Author.Needs.{needs}
+use Rattle.spans.proofs.has_zero.Statement.{statement}
+use Rattle.spans.proofs.has_zero.Tie as tie
+
+axis-count-requires : tie.Need-axis-count-requires
+axis-count-requires c κs = search needs
+
+sub-zero-in : tie.Need-sub-zero-in
+sub-zero-in c = search needs
+
+part-zero-in-start : tie.Need-part-zero-in-start
+part-zero-in-start c = search needs
+
+part-zero-in-end : tie.Need-part-zero-in-end
+part-zero-in-end c = search needs
+
+zero-in-requires : tie.Need-zero-in-requires
+zero-in-requires c κs = search needs
+
+returns : tie.Need-returns
+returns c = c .zero-in .ensures ∙ ap hasZero (part-read _ _ 8 _ (c .before .before .before .axis-count .ensures) (search needs))
+
+pub has-zero-spec : {M : Type 1} → statement M
+has-zero-spec =
+    tie.close
+    (tie.spec
+    axis-count-requires
+    sub-zero-in
+    part-zero-in-start
+    part-zero-in-end
+    zero-in-requires
+    returns)
