@@ -8,8 +8,8 @@ ghost use lib.IntN.{pos};
 ghost use lib.ListN.{getD, replicate};
 ghost use Rattle.indexing.specs.Coordinates.{has, pick, spread, others};
 ghost use Rattle.indexing.specs.Start.{without};
-ghost use Rattle.layout.specs.Layouts.{rankLimit, extentsOf, stridesOf};
-ghost use Rattle.axis_lists.specs.Held.{numbersOf, stepsOf, heldNumbers, heldSteps, putNumber, putStep, Decides};
+ghost use Rattle.layout.specs.Layouts.{rankLimit, padded, extentsOf, stridesOf};
+ghost use Rattle.axis_lists.specs.Held.{numbersOf, stepsOf, heldNumbers, heldSteps, putNumber, putStep, sameList, Decides};
 use layout::Layout;
 use layout::RAW_FUSED_RANK_LIMIT;
 
@@ -368,4 +368,66 @@ pub fn pick_entries(axes: Numbers, list: &[u64]) -> Numbers
         count: n,
         entries: out,
     }
+}
+
+// Entry `axis` of lent strides, and 0 past their end.
+pub fn stride_at(list: &[i64], axis: u64) -> i64
+    ensures { λ r. ⌜ r ≡ getD (now (list .entry)) axis (pos 0) ⌝ }
+{
+    if axis < list.len() as u64 {
+        let i = axis as usize;
+        list[i]
+    } else {
+        0
+    }
+}
+
+// Whether the entries of `list` on the axes are those of `sizes` on the others.
+pub fn picked_same(axes: &[u64], list: &[u64], others: &[u64], sizes: &[u64]) -> bool
+    ensures { λ r. ⌜ r ≡ sameList (pick 0 (now (axes .entry)) (now (list .entry))) (pick 0 (now (others .entry)) (now (sizes .entry))) ⌝ }
+{
+    if axes.len() != others.len() {
+        return false;
+    }
+    let mut i: usize = 0;
+    while i < axes.len() {
+        let a = entry_at(list, axes[i]);
+        let b = entry_at(sizes, others[i]);
+        if a != b {
+            return false;
+        }
+        i += 1;
+    }
+    true
+}
+
+// The lesser of two counts.
+fn fewer(a: usize, b: usize) -> usize
+    ensures { λ r. ⌜ r ≡ min a b ⌝ }
+{
+    if a < b { a } else { b }
+}
+
+// n steps (at most eight): at each place the stride on the axis that stands with it, and 0 at every other.
+pub fn spread_picked(
+    n: usize,
+    places: &[u64],
+    axes: &[u64],
+    list: &[i64],
+) -> [i64; RAW_FUSED_RANK_LIMIT]
+    ensures { λ r. ⌜ r ≡ padded rankLimit (pos 0) (spread (pos 0) (min n rankLimit) (now (places .entry)) (pick (pos 0) (now (axes .entry)) (now (list .entry)))) ⌝ }
+{
+    let m = layout::axis_count(n) as u64;
+    let mut out = [0i64; RAW_FUSED_RANK_LIMIT];
+    let mut i = fewer(places.len(), axes.len());
+    while i > 0 {
+        i -= 1;
+        let place = places[i];
+        let step = stride_at(list, axes[i]);
+        if place < m {
+            let k = place as usize;
+            out[k] = step;
+        }
+    }
+    out
 }
