@@ -27,7 +27,7 @@ module _ {C : Type 0} (turn : ℕ → C → C) where
   more n x y z e f = f ∙ ap (turn n) e ∙ ap (λ (m : ℕ). inOrder turn m x) (sym (add-one n))
 
   -- a turns, then b
-  split : (a b : ℕ) (x : C) → inOrder turn (a + b) x ≡ inOrder (λ i. turn (i + a)) b (inOrder turn a x)
+  pub split : (a b : ℕ) (x : C) → inOrder turn (a + b) x ≡ inOrder (λ i. turn (i + a)) b (inOrder turn a x)
   unfolding inOrder
   split a zero x = let e : a + zero ≡ a = omega arith in ap (λ (m : ℕ). inOrder turn m x) e
   split a (suc b) x =
@@ -67,7 +67,7 @@ module _ {A : Type 0} (z : A) (rule : A → A → A) where
       more (cellAt z rule src f g) i x y _ e
       (ap (store y (pos b)) w ∙ ap₂ (λ (s d : ℤ). store y d (rule (elementAt z y d) (elementAt z src s))) p q)
 
-  length-cells : (src : List A) (f g : ℕ → ℤ) (n : ℕ) (x : List A) → length (inOrder (cellAt z rule src f g) n x) ≡ length x
+  pub length-cells : (src : List A) (f g : ℕ → ℤ) (n : ℕ) (x : List A) → length (inOrder (cellAt z rule src f g) n x) ≡ length x
   unfolding inOrder
   length-cells src f g zero x = refl
   length-cells src f g (suc n) x = length-store (inOrder (cellAt z rule src f g) n x) (g n) _ ∙ length-cells src f g n x

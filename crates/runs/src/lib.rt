@@ -1,11 +1,14 @@
 // Runs along one axis of two strided slices. What each leaves is the plain loop, cell by cell: `inOrder` of `cellAt`.
 ghost use mathlib.Core.Path.{_≡_};
-ghost use Prim.Native.Nat.{_<_};
+ghost use Prim.Native.Nat.{_<_, _≤_};
 ghost use lib.IntN.{pos};
 ghost use lib.ListN.{length};
 ghost use Rattle.indexing.specs.Loops.{inOrder};
 ghost use Rattle.runs.specs.Runs.{ruleI32, cellAt, line, Run, Plane, runAt};
 ghost use Rattle.runs.specs.declared.Rule.the-variants as R;
+
+// The most cells that are copied at a time.
+pub const BLOCK: usize = 4096;
 
 // What is done at a cell: the source's element replaces what is there, or is added to it.
 pub enum Rule {
@@ -23,7 +26,7 @@ pub fn apply(rule: Rule, x: i32, u: i32) -> i32
 }
 
 // Two slices of one length, element by element.
-pub fn ones(rule: Rule, src: &[i32], dst: &mut [i32])
+fn each(rule: Rule, src: &[i32], dst: &mut [i32])
     requires { ⌜ length (now src) ≡ length (now dst) ⌝ }
     ensures { λ _. ⌜ now (dst .exit) ≡ inOrder (cellAt (pos 0) (ruleI32 rule) (now (src .entry)) pos pos) (length (now (dst .entry))) (now (dst .entry)) ⌝ }
 {
@@ -32,6 +35,51 @@ pub fn ones(rule: Rule, src: &[i32], dst: &mut [i32])
         let v = apply(rule, dst[at], src[at]);
         dst[at] = v;
         at += 1;
+    }
+}
+
+// A copy of at most BLOCK cells, by way of an array: the compiler makes one move of memory of it.
+fn block(src: &[i32], dst: &mut [i32])
+    requires { ⌜ (length (now src) ≡ length (now dst)) × (length (now dst) ≤ 4096) ⌝ }
+    ensures { λ _. ⌜ now (dst .exit) ≡ inOrder (cellAt (pos 0) (ruleI32 R.Copy) (now (src .entry)) pos pos) (length (now (dst .entry))) (now (dst .entry)) ⌝ }
+{
+    let n = dst.len();
+    let mut held = [0i32; BLOCK];
+    each(Rule::Copy, src, &mut held[0..n]);
+    each(Rule::Copy, &held[0..n], dst);
+}
+
+// A copy, a block at a time.
+fn copies(src: &[i32], dst: &mut [i32])
+    requires { ⌜ length (now src) ≡ length (now dst) ⌝ }
+    ensures { λ _. ⌜ now (dst .exit) ≡ inOrder (cellAt (pos 0) (ruleI32 R.Copy) (now (src .entry)) pos pos) (length (now (dst .entry))) (now (dst .entry)) ⌝ }
+{
+    let n = dst.len();
+    let mut at: usize = 0;
+    while BLOCK < n - at {
+        let e = at + BLOCK;
+        block(&src[at..e], &mut dst[at..e]);
+        at = e;
+    }
+    block(&src[at..n], &mut dst[at..n]);
+}
+
+// Two slices of one length: a copy of more than a few cells by blocks, all else element by element.
+pub fn ones(rule: Rule, src: &[i32], dst: &mut [i32])
+    requires { ⌜ length (now src) ≡ length (now dst) ⌝ }
+    ensures { λ _. ⌜ now (dst .exit) ≡ inOrder (cellAt (pos 0) (ruleI32 rule) (now (src .entry)) pos pos) (length (now (dst .entry))) (now (dst .entry)) ⌝ }
+{
+    match rule {
+        Rule::Copy => {
+            if dst.len() < 8 {
+                each(rule, src, dst);
+            } else {
+                copies(src, dst);
+            }
+        }
+        Rule::Add => {
+            each(rule, src, dst);
+        }
     }
 }
 

@@ -1,12 +1,13 @@
 // Runs over f64: those of `runs`, for another element.
 ghost use mathlib.Core.Path.{_≡_};
-ghost use Prim.Native.Nat.{_<_};
+ghost use Prim.Native.Nat.{_<_, _≤_};
 ghost use lib.Ieee.{nan};
 ghost use lib.IntN.{pos};
 ghost use lib.ListN.{length};
 ghost use Rattle.indexing.specs.Loops.{inOrder};
 ghost use Rattle.runs.specs.Runs.{ruleF64, cellAt, line, Run, Plane, runAt};
 ghost use Rattle.runs.specs.declared.Rule.the-variants as R;
+use runs::BLOCK;
 use runs::Rule;
 
 pub fn apply_f64(rule: Rule, x: f64, u: f64) -> f64
@@ -19,7 +20,7 @@ pub fn apply_f64(rule: Rule, x: f64, u: f64) -> f64
 }
 
 // Two slices of one length, element by element.
-pub fn ones_f64(rule: Rule, src: &[f64], dst: &mut [f64])
+fn each_f64(rule: Rule, src: &[f64], dst: &mut [f64])
     requires { ⌜ length (now src) ≡ length (now dst) ⌝ }
     ensures { λ _. ⌜ now (dst .exit) ≡ inOrder (cellAt nan (ruleF64 rule) (now (src .entry)) pos pos) (length (now (dst .entry))) (now (dst .entry)) ⌝ }
 {
@@ -28,6 +29,51 @@ pub fn ones_f64(rule: Rule, src: &[f64], dst: &mut [f64])
         let v = apply_f64(rule, dst[at], src[at]);
         dst[at] = v;
         at += 1;
+    }
+}
+
+// A copy of at most BLOCK cells, by way of an array: the compiler makes one move of memory of it.
+fn block_f64(src: &[f64], dst: &mut [f64])
+    requires { ⌜ (length (now src) ≡ length (now dst)) × (length (now dst) ≤ 4096) ⌝ }
+    ensures { λ _. ⌜ now (dst .exit) ≡ inOrder (cellAt nan (ruleF64 R.Copy) (now (src .entry)) pos pos) (length (now (dst .entry))) (now (dst .entry)) ⌝ }
+{
+    let n = dst.len();
+    let mut held = [0.0f64; BLOCK];
+    each_f64(Rule::Copy, src, &mut held[0..n]);
+    each_f64(Rule::Copy, &held[0..n], dst);
+}
+
+// A copy, a block at a time.
+fn copies_f64(src: &[f64], dst: &mut [f64])
+    requires { ⌜ length (now src) ≡ length (now dst) ⌝ }
+    ensures { λ _. ⌜ now (dst .exit) ≡ inOrder (cellAt nan (ruleF64 R.Copy) (now (src .entry)) pos pos) (length (now (dst .entry))) (now (dst .entry)) ⌝ }
+{
+    let n = dst.len();
+    let mut at: usize = 0;
+    while BLOCK < n - at {
+        let e = at + BLOCK;
+        block_f64(&src[at..e], &mut dst[at..e]);
+        at = e;
+    }
+    block_f64(&src[at..n], &mut dst[at..n]);
+}
+
+// Two slices of one length: a copy of more than a few cells by blocks, all else element by element.
+pub fn ones_f64(rule: Rule, src: &[f64], dst: &mut [f64])
+    requires { ⌜ length (now src) ≡ length (now dst) ⌝ }
+    ensures { λ _. ⌜ now (dst .exit) ≡ inOrder (cellAt nan (ruleF64 rule) (now (src .entry)) pos pos) (length (now (dst .entry))) (now (dst .entry)) ⌝ }
+{
+    match rule {
+        Rule::Copy => {
+            if dst.len() < 8 {
+                each_f64(rule, src, dst);
+            } else {
+                copies_f64(src, dst);
+            }
+        }
+        Rule::Add => {
+            each_f64(rule, src, dst);
+        }
     }
 }
 

@@ -1,0 +1,136 @@
+use mathlib.Core.Path.{_≡_, refl, ap, _∙_}
+use Prim.Native.Nat.{ℕ, _+_, _-_, _≤_}
+use native.Mathlib.Omega.{arith}
+use borrow.Author.Needs.{needs}
+use lib.ListN.{length}
+use lib.IntN.{pos}
+use Rattle.indexing.specs.Loops.{inOrder}
+use Rattle.runs.specs.Runs.{ruleI32, cellAt}
+use Rattle.runs.specs.declared.Rule.the-variants as R
+use Rattle.runs.proofs.Turns.{none, length-cells}
+use Rattle.runs.proofs.Blocks.{block-more}
+use Rattle.runs.proofs.copies.Statement.{statement}
+use Rattle.runs.proofs.copies.Tie as tie
+
+abbrev Inv-loop : tie.InvT-loop
+Inv-loop src dst₀ n at₀ dst at = (at ≤ length dst₀) × (length dst ≡ length dst₀) × (dst ≡ inOrder (cellAt (pos 0) (ruleI32 R.Copy) src pos pos) at dst₀)
+
+abbrev μ-loop : tie.MeasureT-loop
+μ-loop src dst₀ n at₀ dst at = length dst₀ - at
+
+loop-holds : tie.Need-loop-holds Inv-loop μ-loop
+loop-holds c = (omega arith, refl, none _ 0 (c .args .dst .now) refl)
+
+sub-loop : tie.Need-sub-loop Inv-loop μ-loop
+sub-loop c = omega arith
+
+add-e : tie.Need-add-e Inv-loop μ-loop
+add-e c = omega arith
+
+mul-block : tie.Need-mul-block Inv-loop μ-loop
+mul-block c = search needs
+
+sub-block : tie.Need-sub-block Inv-loop μ-loop
+sub-block c = omega arith
+
+part-block-start : tie.Need-part-block-start Inv-loop μ-loop
+part-block-start c = search needs
+
+part-block-end : tie.Need-part-block-end Inv-loop μ-loop
+part-block-end c = search needs
+
+mul-block-2 : tie.Need-mul-block-2 Inv-loop μ-loop
+mul-block-2 c = search needs
+
+sub-block-2 : tie.Need-sub-block-2 Inv-loop μ-loop
+sub-block-2 c = omega arith
+
+part-block-start-2 : tie.Need-part-block-start-2 Inv-loop μ-loop
+part-block-start-2 c = search needs
+
+part-block-end-2 : tie.Need-part-block-end-2 Inv-loop μ-loop
+part-block-end-2 c = search needs
+
+block-requires : tie.Need-block-requires Inv-loop μ-loop
+block-requires c κs = search needs
+
+loop-less : tie.Need-loop-less Inv-loop μ-loop
+loop-less c = omega arith
+
+loop-again : tie.Need-loop-again Inv-loop μ-loop
+loop-again c = let h = c .before .before .before .before .before in
+    let a = h .before in
+    let at = h .loop .at in
+    let e = block-more (pos 0) (ruleI32 R.Copy) (a .args .src .now) (a .args .dst .now) (h .loop .dst) (c .before .block .last .1 .0) at 4096 (at + 4096 - at) (omega arith) (omega arith) (h .loop .inv .2) (c .before .block .ensures) in
+    (omega arith, ap length e ∙ length-cells (pos 0) (ruleI32 R.Copy) (a .args .src .now) pos pos (at + 4096) (a .args .dst .now), e)
+
+mul-block-3 : tie.Need-mul-block-3 Inv-loop μ-loop
+mul-block-3 c = search needs
+
+sub-block-3 : tie.Need-sub-block-3 Inv-loop μ-loop
+sub-block-3 c = omega arith
+
+part-block-start-3 : tie.Need-part-block-start-3 Inv-loop μ-loop
+part-block-start-3 c = search needs
+
+part-block-end-3 : tie.Need-part-block-end-3 Inv-loop μ-loop
+part-block-end-3 c = search needs
+
+mul-block-4 : tie.Need-mul-block-4 Inv-loop μ-loop
+mul-block-4 c = search needs
+
+sub-block-4 : tie.Need-sub-block-4 Inv-loop μ-loop
+sub-block-4 c = omega arith
+
+part-block-start-4 : tie.Need-part-block-start-4 Inv-loop μ-loop
+part-block-start-4 c = search needs
+
+part-block-end-4 : tie.Need-part-block-end-4 Inv-loop μ-loop
+part-block-end-4 c = search needs
+
+block-requires-2 : tie.Need-block-requires-2 Inv-loop μ-loop
+block-requires-2 c κs = search needs
+
+same-length : tie.Need-same-length Inv-loop μ-loop
+same-length c = search needs
+
+returns : tie.Need-returns Inv-loop μ-loop
+returns c = let h = c .before .before .before .before .before in
+    let a = h .before in
+    let at = h .loop .at in
+    let n = length (a .args .dst .now) in
+    let e : at + (n - at) ≡ n = omega arith in
+    block-more (pos 0) (ruleI32 R.Copy) (a .args .src .now) (a .args .dst .now) (h .loop .dst) (c .before .block2 .last .1 .0) at (n - at) (n - at) refl (omega arith) (h .loop .inv .2) (c .before .block2 .ensures)
+    ∙ ap (λ (m : ℕ). inOrder (cellAt (pos 0) (ruleI32 R.Copy) (a .args .src .now) pos pos) m (a .args .dst .now)) e
+
+pub copies-spec : {M : Type 1} → statement M
+copies-spec =
+    tie.close
+    (tie.spec
+    Inv-loop
+    μ-loop
+    loop-holds
+    sub-loop
+    add-e
+    mul-block
+    sub-block
+    part-block-start
+    part-block-end
+    mul-block-2
+    sub-block-2
+    part-block-start-2
+    part-block-end-2
+    block-requires
+    loop-less
+    loop-again
+    mul-block-3
+    sub-block-3
+    part-block-start-3
+    part-block-end-3
+    mul-block-4
+    sub-block-4
+    part-block-start-4
+    part-block-end-4
+    block-requires-2
+    same-length
+    returns)
