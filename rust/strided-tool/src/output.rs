@@ -6,6 +6,7 @@ use std::path::{Path, PathBuf};
 use std::process;
 
 use crate::failure::{Failure, Outcome};
+use crate::progress;
 
 /// How many names are tried for a new file beside the old one.
 const NAMES: u32 = 100;
@@ -68,7 +69,7 @@ fn replace(
     let mut output = BufWriter::new(file);
     fill(&mut output)?;
     output.flush()?;
-    output.get_ref().sync_all()?;
+    progress::timed("waiting for the disk", || output.get_ref().sync_all())?;
     drop(output);
     beside.take_name_of(path)?;
     sync_folder(path);

@@ -8,6 +8,7 @@ use crate::cli::CompareArgs;
 use crate::failure::{Failure, Outcome};
 use crate::job_text::list;
 use crate::npy::{shape_in_words, Grid, Header, Item, Kind, Opened};
+use crate::progress;
 
 pub fn run(args: &CompareArgs) -> Outcome<()> {
     let before = Opened::open(&args.before)?;
@@ -96,8 +97,12 @@ struct Changes<C> {
 fn compare<T: Changing>(before: Opened, after: Opened) -> Outcome<()> {
     let before: Grid<T> = before.elements()?;
     let after: Grid<T> = after.elements()?;
-    let total = before.data.len();
-    let mut changes = Changes::<T::Change> {
+    let changes = progress::timed("comparing", || changes(&before, &after));
+    print_out(&changes.in_words(before.data.len()))
+}
+
+fn changes<T: Changing>(before: &Grid<T>, after: &Grid<T>) -> Changes<T::Change> {
+    let mut changes = Changes {
         count: 0,
         without: 0,
         sum: T::Change::default(),
@@ -110,7 +115,7 @@ fn compare<T: Changing>(before: Opened, after: Opened) -> Outcome<()> {
             changes.take::<T>(before.coordinates(number), T::change(old, new));
         }
     }
-    print_out(&changes.in_words(total))
+    changes
 }
 
 impl<C: Copy + PartialOrd + Display> Changes<C> {

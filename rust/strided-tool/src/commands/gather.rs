@@ -9,6 +9,7 @@ use crate::cli::GatherArgs;
 use crate::failure::{Failure, Outcome};
 use crate::npy::{self, cells, shape_in_words, Grid, Item};
 use crate::output;
+use crate::progress;
 
 pub fn run(args: &GatherArgs, report: &mut Report) -> Outcome<()> {
     output::is_apart(
@@ -49,25 +50,26 @@ fn gather<T: Element + Item>(
     }
     .load::<i64>(report)?;
     let mut dest = destination::<T>(args, stored, job, report)?;
-    strided::gather_job(&stored.bytes, &operand.data, &starts.data, &mut dest.data).map_err(
-        |error| {
-            let dest_name = match &args.dest {
-                Some(path) => path.display().to_string(),
-                None => "the destination of zeros".to_owned(),
-            };
-            let lent = [
-                (args.operand.display().to_string(), operand.data.len()),
-                (args.starts.display().to_string(), starts.data.len()),
-                (dest_name, dest.data.len()),
-            ];
-            stored.refused(error, Some(lent))
-        },
-    )?;
+    let count = cells(&job.dest.dims).unwrap_or(0);
+    progress::timed(&format!("gathering {count} cells"), || {
+        strided::gather_job(&stored.bytes, &operand.data, &starts.data, &mut dest.data)
+    })
+    .map_err(|error| {
+        let dest_name = match &args.dest {
+            Some(path) => path.display().to_string(),
+            None => "the destination of zeros".to_owned(),
+        };
+        let lent = [
+            (args.operand.display().to_string(), operand.data.len()),
+            (args.starts.display().to_string(), starts.data.len()),
+            (dest_name, dest.data.len()),
+        ];
+        stored.refused(error, Some(lent))
+    })?;
     let name = args.out.display().to_string();
     output::write(&args.out, |file| npy::write(&dest, &name, file))?;
     report.say(&format!(
-        "gathered {} cells ({}) into {name}",
-        cells(&job.dest.dims).unwrap_or(0),
+        "gathered {count} cells ({}) into {name}",
         shape_in_words(&job.dest.dims)
     ));
     Ok(())

@@ -9,6 +9,7 @@ use crate::cli::ScatterArgs;
 use crate::failure::Outcome;
 use crate::npy::{self, cells, shape_in_words, Item};
 use crate::output;
+use crate::progress;
 
 pub fn run(args: &ScatterArgs, report: &mut Report) -> Outcome<()> {
     output::is_apart(
@@ -54,21 +55,22 @@ fn scatter<T: Element + Item>(
         layout: &job.dest,
     }
     .load::<T>(report)?;
-    strided::scatter_job(&stored.bytes, &starts.data, &updates.data, &mut grid.data).map_err(
-        |error| {
-            let lent = [
-                (args.starts.display().to_string(), starts.data.len()),
-                (args.updates.display().to_string(), updates.data.len()),
-                (args.grid.display().to_string(), grid.data.len()),
-            ];
-            stored.refused(error, Some(lent))
-        },
-    )?;
+    let count = cells(&job.updates.dims).unwrap_or(0);
+    progress::timed(&format!("adding {count} updates"), || {
+        strided::scatter_job(&stored.bytes, &starts.data, &updates.data, &mut grid.data)
+    })
+    .map_err(|error| {
+        let lent = [
+            (args.starts.display().to_string(), starts.data.len()),
+            (args.updates.display().to_string(), updates.data.len()),
+            (args.grid.display().to_string(), grid.data.len()),
+        ];
+        stored.refused(error, Some(lent))
+    })?;
     let name = args.out.display().to_string();
     output::write(&args.out, |file| npy::write(&grid, &name, file))?;
     report.say(&format!(
-        "added {} updates ({}) to the grid {}; it is in {name}",
-        cells(&job.updates.dims).unwrap_or(0),
+        "added {count} updates ({}) to the grid {}; it is in {name}",
         shape_in_words(&job.updates.dims),
         args.grid.display()
     ));

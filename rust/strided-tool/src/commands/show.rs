@@ -10,6 +10,7 @@ use crate::failure::{Failure, Outcome};
 use crate::npy::{shape_in_words, Grid, Header, Item, Kind, Opened};
 use crate::output;
 use crate::picture::{self, Drawn, Field, Place, Settings};
+use crate::progress;
 use crate::refusal::{refused, Known};
 use crate::window::{Span, Window};
 
@@ -117,11 +118,13 @@ fn read_window<T: Element + Item>(path: &Path, grid: &Grid<T>, place: Place) -> 
         spec,
     )
     .and_then(|plan| {
-        plan.execute(
-            &mut StridedMut::new(&mut cells, &dest.dims, &dest.strides, 0),
-            &operand.view(&grid.data),
-            &StridedRef::new(&starts, &[2], &[1], 0),
-        )
+        progress::timed("gathering the cells", || {
+            plan.execute(
+                &mut StridedMut::new(&mut cells, &dest.dims, &dest.strides, 0),
+                &operand.view(&grid.data),
+                &StridedRef::new(&starts, &[2], &[1], 0),
+            )
+        })
     })
     .map_err(|error| refused(&path.display().to_string(), error, &Known::default()))?;
     Ok(cells)

@@ -15,7 +15,7 @@ use canvas::Canvas;
 use field::Summary;
 use layout::Layout;
 
-use crate::progress::Progress;
+use crate::progress::{self, Progress};
 use crate::window::Scale;
 
 /// The longer side of a picture's cells, in pixels, where no size of a cell is asked for.
@@ -60,12 +60,13 @@ struct Sizes {
 /// Draws a field; says what to do where it is too large.
 pub fn draw<T: Drawn>(field: &Field<T>, settings: &Settings) -> Result<Picture, String> {
     let sizes = sizes(field.place, settings.cell)?;
-    let summary = field.summary();
+    let (summary, squares) = progress::timed("looking at the cells", || {
+        (field.summary(), field.squares(sizes.cells))
+    });
     let scale = settings.scale.unwrap_or(Scale {
         low: summary.low.unwrap_or(0.0),
         high: summary.high.unwrap_or(0.0),
     });
-    let squares = field.squares(sizes.cells);
     let layout = Layout::new(field.place, sizes, scale, summary.nan > 0);
     Ok(Picture {
         canvas: layout
