@@ -1,15 +1,12 @@
 // The checks that gather's compile and scatter's share. Each answers Done or its refusal; `or_else` takes the first that refuses.
 ghost use mathlib.Core.Path.{_≡_};
 ghost use Prim.Native.Nat.{_+_};
+ghost use lib.ListN.{length};
 ghost use Rattle.layout.specs.Answers.{orElse};
-ghost use Rattle.layout.specs.Layouts.{extentsOf, stridesOf, strideLength, rankAtMost};
 ghost use Rattle.layout.specs.Spans.{totalOf, spanned};
-ghost use Rattle.axis_lists.specs.Held.{numbersOf};
 ghost use Rattle.checks.specs.Checks.{totalFits, spanFits, nestedIf, sameCount, vectorAxis, componentsOf, windowsFit};
-use axis_lists::Numbers;
 use integer::CheckedU;
 use layout::Answer;
-use layout::Layout;
 use layout::OffsetSpan;
 
 // The first of two answers that refuses.
@@ -20,11 +17,10 @@ pub fn or_else(a: Answer, b: Answer) -> Answer
 }
 
 // 3 where the product of the extents does not fit.
-pub fn check_total(layout: Layout) -> Answer
-    ensures { λ r. ⌜ r ≡ totalFits (totalOf (extentsOf layout)) ⌝ }
+pub fn check_total(extents: &[u64]) -> Answer
+    ensures { λ r. ⌜ r ≡ totalFits (totalOf (now (extents .entry))) ⌝ }
 {
-    let extents = layout.extents;
-    let total = spans::checked_total_len(extents, layout.rank);
+    let total = spans::total_of(extents);
     match total {
         CheckedU::Fits(_) => Answer::Done,
         CheckedU::Overflow => Answer::OffsetOverflow,
@@ -32,26 +28,24 @@ pub fn check_total(layout: Layout) -> Answer
 }
 
 // 3 where the span does not fit.
-pub fn check_span(layout: Layout) -> Answer
-    ensures { λ r. ⌜ r ≡ spanFits (spanned (extentsOf layout) (stridesOf layout)) ⌝ }
+pub fn check_span(extents: &[u64], strides: &[i64]) -> Answer
+    requires { ⌜ length (now strides) ≡ length (now extents) ⌝ }
+    ensures { λ r. ⌜ r ≡ spanFits (spanned (now (extents .entry)) (now (strides .entry))) ⌝ }
 {
-    let extents = layout.extents;
-    let strides = layout.strides;
-    let span = spans::validate_layout_span(extents, strides, layout.rank);
+    let span = spans::span_of(extents, strides);
     match span {
         OffsetSpan::Fits(_, _) => Answer::Done,
         OffsetSpan::Overflow => Answer::OffsetOverflow,
     }
 }
 
-// 4 where the layout is not nested, if that is asked.
-pub fn check_nested(layout: Layout, asked: bool) -> Answer
-    ensures { λ r. ⌜ r ≡ nestedIf asked (extentsOf layout) (stridesOf layout) ⌝ }
+// 4 where the axes are not nested, if that is asked.
+pub fn check_nested(extents: &[u64], strides: &[i64], asked: bool) -> Answer
+    requires { ⌜ length (now strides) ≡ length (now extents) ⌝ }
+    ensures { λ r. ⌜ r ≡ nestedIf asked (now (extents .entry)) (now (strides .entry)) ⌝ }
 {
-    let extents = layout.extents;
-    let strides = layout.strides;
     if asked {
-        if spans::is_nested(extents, strides, layout.rank) {
+        if spans::nested_in(extents, strides) {
             Answer::Done
         } else {
             Answer::NonInjectiveOutputLayout
@@ -84,29 +78,25 @@ pub fn check_vector_axis(vector: u64, rank: usize) -> Answer
     }
 }
 
-// How many components a start has.
-pub fn component_count(index: Layout, vector: u64) -> u64
-    ensures { λ r. ⌜ r ≡ componentsOf (extentsOf index) vector ⌝ }
+// How many components a start has, by the index view's extents.
+pub fn component_count(extents: &[u64], vector: u64) -> u64
+    ensures { λ r. ⌜ r ≡ componentsOf (now (extents .entry)) vector ⌝ }
 {
-    let n = layout::axis_count(index.rank);
-    if vector == n as u64 {
+    if vector == extents.len() as u64 {
         1
     } else {
-        let extents = axis_lists::extents_of(index);
-        axis_lists::number_at(extents, vector)
+        axis_lists::entry_at(extents, vector)
     }
 }
 
 // 6 for the first window above its extent.
-pub fn check_windows(windows: &[u64], extents: Numbers) -> Answer
-    ensures { λ r. ⌜ r ≡ windowsFit 0 (numbersOf extents) (now (windows .entry)) ⌝ }
+pub fn check_windows(windows: &[u64], extents: &[u64]) -> Answer
+    ensures { λ r. ⌜ r ≡ windowsFit 0 (now (extents .entry)) (now (windows .entry)) ⌝ }
 {
-    let d = extents.entries;
-    let m = layout::axis_count(extents.count);
     let mut i: usize = 0;
-    while i < windows.len() && i < m {
-        if windows[i] > d[i] {
-            return Answer::InvalidAxis(i as u64, m as u64);
+    while i < windows.len() && i < extents.len() {
+        if windows[i] > extents[i] {
+            return Answer::InvalidAxis(i as u64, extents.len() as u64);
         }
         i += 1;
     }

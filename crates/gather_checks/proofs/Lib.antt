@@ -3,3 +3,4 @@ pub mod Read
 pub mod Shape
 pub mod Made
 pub mod Rest
+pub mod Found

@@ -1,21 +1,41 @@
 // Gather: a plan from layouts and a spec, by the checks of document 01 in its order.
 ghost use mathlib.Core.Path.{_≡_};
 ghost use mathlib.Core.Bool.{_&&_};
-ghost use Prim.Native.Nat.{_+_, min};
-ghost use lib.ListN.{length, getD};
+ghost use Prim.Native.Nat.{_≤_};
+ghost use lib.ListN.{length};
 ghost use lib.IntN.{pos};
 ghost use Rattle.indexing.specs.Coordinates.{pick, spread, others};
 ghost use Rattle.indexing.specs.Start.{without};
 ghost use Rattle.layout.specs.Layouts.{rankLimit, extentsOf, stridesOf};
 ghost use Rattle.layout.specs.Spans.{resetOf};
-ghost use Rattle.axis_lists.specs.Held.{numbersOf, stepsOf, heldSteps};
-ghost use Rattle.checks.specs.Checks.{firstOf};
-ghost use Rattle.gather_checks.specs.Refusals.{gatherFrom, refusalOf, layoutsRefusal, numbersRefusal, listsRefusal, countsRefusal, shapeFits, shapeRefusal, resetsRefusal, collapsedOne, numberFits, axisResets, resetsAt, offsetFits};
-use axis_lists::Numbers;
+ghost use Rattle.axis_lists.specs.Held.{heldSteps};
+ghost use Rattle.checks.specs.Checks.{firstOf, componentsOf};
+ghost use Rattle.gather_checks.specs.Refusals.{gatherFrom, refusalOf, layoutsRefusal, numbersRefusal, listsRefusal, resetsRefusal, collapsedOne, numberFits, axisResets, resetsAt, offsetFits};
+ghost use Rattle.gather_checks.specs.Given.{countsBy, shapeBy, shapeAnswer, Made, examinedBy, Examines};
 use axis_lists::Steps;
 use integer::Checked;
 use layout::Answer;
 use layout::Layout;
+use layout::RAW_FUSED_RANK_LIMIT;
+
+// What compile answers; where that is Done, what each axis of the destination adds to the place in the operand and in the index view,
+// and zeros past the last.
+pub struct Examined {
+    pub answer: Answer,
+    pub window: [i64; RAW_FUSED_RANK_LIMIT],
+    pub batch: [i64; RAW_FUSED_RANK_LIMIT],
+}
+
+fn unexamined(answer: Answer) -> Examined
+    ensures { λ r. ⌜ r .answer ≡ answer ⌝ }
+{
+    let zeros = [0i64; RAW_FUSED_RANK_LIMIT];
+    Examined {
+        answer,
+        window: zeros,
+        batch: zeros,
+    }
+}
 
 // 1 for all views, then 2: the counts of extents and of strides.
 pub fn check_layouts(
@@ -39,16 +59,25 @@ pub fn check_layouts(
 }
 
 // 3 for products and spans, then 4, if that is asked.
-pub fn check_numbers(operand: Layout, index: Layout, dest: Layout, nested: bool) -> Answer
-    ensures { λ r. ⌜ r ≡ numbersRefusal nested (extentsOf operand) (stridesOf operand) (extentsOf index) (stridesOf index) (extentsOf dest) (stridesOf dest) ⌝ }
+fn check_numbers(
+    oe: &[u64],
+    os: &[i64],
+    ie: &[u64],
+    is: &[i64],
+    de: &[u64],
+    ds: &[i64],
+    nested: bool,
+) -> Answer
+    requires { ⌜ (length (now os) ≡ length (now oe)) × (length (now is) ≡ length (now ie)) × (length (now ds) ≡ length (now de)) ⌝ }
+    ensures { λ r. ⌜ r ≡ numbersRefusal nested (now (oe .entry)) (now (os .entry)) (now (ie .entry)) (now (is .entry)) (now (de .entry)) (now (ds .entry)) ⌝ }
 {
-    let a = checks::check_total(operand);
-    let b = checks::check_total(index);
-    let c = checks::check_total(dest);
-    let d = checks::check_span(operand);
-    let e = checks::check_span(index);
-    let f = checks::check_span(dest);
-    let g = checks::check_nested(dest, nested);
+    let a = checks::check_total(oe);
+    let b = checks::check_total(ie);
+    let c = checks::check_total(de);
+    let d = checks::check_span(oe, os);
+    let e = checks::check_span(ie, is);
+    let f = checks::check_span(de, ds);
+    let g = checks::check_nested(de, ds, nested);
     let spans = checks::or_else(d, checks::or_else(e, checks::or_else(f, g)));
     checks::or_else(a, checks::or_else(b, checks::or_else(c, spans)))
 }
@@ -98,18 +127,13 @@ fn check_axis(extent: u64, dest: i64, window: i64, batch: i64) -> Answer
 }
 
 // 3 for the resets of each axis.
-fn check_axes(extents: Numbers, dest: Steps, window: Steps, batch: Steps) -> Answer
-    ensures { λ r. ⌜ r ≡ firstOf (resetsAt (numbersOf extents) (stepsOf dest) (stepsOf window) (stepsOf batch)) (min (extents .count) rankLimit) 0 ⌝ }
+fn check_axes(de: &[u64], ds: &[i64], window: &[i64], batch: &[i64]) -> Answer
+    requires { ⌜ (length (now ds) ≡ length (now de)) × (length (now window) ≡ length (now de)) × (length (now batch) ≡ length (now de)) ⌝ }
+    ensures { λ r. ⌜ r ≡ firstOf (resetsAt (now (de .entry)) (now (ds .entry)) (now (window .entry)) (now (batch .entry))) (length (now (de .entry))) 0 ⌝ }
 {
-    let n = layout::axis_count(extents.count);
     let mut i: usize = 0;
-    while i < n {
-        let k = i as u64;
-        let d = axis_lists::number_at(extents, k);
-        let s = axis_lists::step_at(dest, k);
-        let w = axis_lists::step_at(window, k);
-        let b = axis_lists::step_at(batch, k);
-        let answer = check_axis(d, s, w, b);
+    while i < de.len() {
+        let answer = check_axis(de[i], ds[i], window[i], batch[i]);
         if !layout::is_done(answer) {
             return answer;
         }
@@ -133,54 +157,45 @@ pub fn check_components(stride: i64, count: u64) -> Answer
     Answer::Done
 }
 
-// Batch axes plus window axes.
-fn out_rank(index: Layout, vector: u64, offset_dims: &[u64]) -> u64
-    ensures { λ r. ⌜ r ≡ length (without vector (extentsOf index)) + length (now («offset_dims» .entry)) ⌝ }
-{
-    let extents = axis_lists::extents_of(index);
-    let batch = axis_lists::without_number(vector, extents);
-    batch.count as u64 + offset_dims.len() as u64
-}
-
 // The counts, lists and windows of a spec.
 fn check_lists(
-    operand: Layout,
-    index: Layout,
+    oe: &[u64],
+    ie: &[u64],
     collapsed: &[u64],
     map: &[u64],
     vector: u64,
     sizes: &[u64],
 ) -> Answer
-    ensures { λ r. ⌜ r ≡ listsRefusal (extentsOf operand) (extentsOf index) (now (collapsed .entry)) (now (map .entry)) vector (now (sizes .entry)) ⌝ }
+    ensures { λ r. ⌜ r ≡ listsRefusal (now (oe .entry)) (now (ie .entry)) (now (collapsed .entry)) (now (map .entry)) vector (now (sizes .entry)) ⌝ }
 {
-    let rank = layout::axis_count(operand.rank) as u64;
-    let extents = axis_lists::extents_of(operand);
+    let rank = oe.len() as u64;
     let a = checks::check_same_count(sizes.len() as u64, rank);
     let b = layout::validate_unique_axes(collapsed, rank);
     let c = layout::validate_unique_axes(map, rank);
-    let d = checks::check_vector_axis(vector, layout::axis_count(index.rank));
-    let e = checks::check_windows(sizes, extents);
+    let d = checks::check_vector_axis(vector, ie.len());
+    let e = checks::check_windows(sizes, oe);
     let f = check_collapsed(rank, sizes, collapsed);
     let axes = checks::or_else(d, checks::or_else(e, f));
     checks::or_else(a, checks::or_else(b, checks::or_else(c, axes)))
 }
 
-// The counts of components and of window axes, and the window axes.
+// The counts of components and of window axes, and the window axes, given how many operand axes are shown and how many batch axes
+// there are.
 fn check_counts(
-    operand: Layout,
-    index: Layout,
+    ie: &[u64],
+    shown: usize,
+    starts: usize,
     offset_dims: &[u64],
-    collapsed: &[u64],
     map: &[u64],
     vector: u64,
 ) -> Answer
-    ensures { λ r. ⌜ r ≡ countsRefusal (extentsOf operand) (extentsOf index) (now («offset_dims» .entry)) (now (collapsed .entry)) (now (map .entry)) vector ⌝ }
+    requires { ⌜ starts ≤ rankLimit ⌝ }
+    ensures { λ r. ⌜ r ≡ countsBy (componentsOf (now (ie .entry)) vector) shown starts (now («offset_dims» .entry)) (now (map .entry)) ⌝ }
 {
-    let kept = axis_lists::other_axes(operand.rank, collapsed);
-    let components = checks::component_count(index, vector);
-    let rank = out_rank(index, vector, offset_dims);
+    let components = checks::component_count(ie, vector);
+    let rank = starts as u64 + offset_dims.len() as u64;
     let a = checks::check_same_count(components, map.len() as u64);
-    let b = checks::check_same_count(offset_dims.len() as u64, kept.count as u64);
+    let b = checks::check_same_count(offset_dims.len() as u64, shown as u64);
     let c = layout::validate_unique_axes(offset_dims, rank);
     checks::or_else(a, checks::or_else(b, c))
 }
@@ -191,54 +206,44 @@ fn both(a: bool, b: bool) -> bool
     if a { b } else { false }
 }
 
-// Whether the destination has the window extents on `offset_dims` and the batch extents on its other axes.
+// Whether the destination has the window extents on `offset_dims` and the batch extents on its other axes: the window's sizes on the
+// axes shown, the index view's extents on its batch axes.
 fn shape_fits(
-    operand: Layout,
-    index: Layout,
-    dest: Layout,
+    shown: &[u64],
+    starts: &[u64],
+    others: &[u64],
+    ie: &[u64],
+    de: &[u64],
     offset_dims: &[u64],
-    collapsed: &[u64],
-    vector: u64,
     sizes: &[u64],
 ) -> bool
-    ensures { λ r. ⌜ r ≡ shapeFits (extentsOf operand) (extentsOf index) (extentsOf dest) (now («offset_dims» .entry)) (now (collapsed .entry)) vector (now (sizes .entry)) ⌝ }
+    requires { ⌜ length (now starts) ≤ rankLimit ⌝ }
+    ensures { λ r. ⌜ r ≡ shapeBy (now (shown .entry)) (now (starts .entry)) (now (others .entry)) (now (ie .entry)) (now (de .entry)) (now («offset_dims» .entry)) (now (sizes .entry)) ⌝ }
 {
-    if offset_dims.len() > layout::RAW_FUSED_RANK_LIMIT {
-        return false;
-    }
-    let extents = axis_lists::extents_of(dest);
-    let kept = axis_lists::other_axes(operand.rank, collapsed);
-    let starts = axis_lists::extents_of(index);
-    let batch = axis_lists::without_number(vector, starts);
-    let axes = axis_lists::other_axes(dest.rank, offset_dims);
-    let rank = out_rank(index, vector, offset_dims);
-    let window_axes = axis_lists::numbers_from(offset_dims);
-    let shown = axis_lists::pick_numbers(window_axes, extents);
-    let windows = axis_lists::pick_entries(kept, sizes);
-    let others = axis_lists::pick_numbers(axes, extents);
-    let same_windows = axis_lists::same_numbers(shown, windows);
-    let same_batch = axis_lists::same_numbers(others, batch);
-    both(extents.count as u64 == rank, both(same_windows, same_batch))
+    let rank = starts.len() as u64 + offset_dims.len() as u64;
+    let windows = axis_lists::picked_same(offset_dims, de, shown, sizes);
+    let batch = axis_lists::picked_same(others, de, starts, ie);
+    both(de.len() as u64 == rank, both(windows, batch))
 }
 
 // 7 where the destination's shape is not the expected one.
 fn check_shape(
-    operand: Layout,
-    index: Layout,
-    dest: Layout,
+    shown: &[u64],
+    starts: &[u64],
+    others: &[u64],
+    ie: &[u64],
+    de: &[u64],
     offset_dims: &[u64],
-    collapsed: &[u64],
-    vector: u64,
     sizes: &[u64],
 ) -> Answer
-    ensures { λ r. ⌜ r ≡ shapeRefusal (extentsOf operand) (extentsOf index) (extentsOf dest) (now («offset_dims» .entry)) (now (collapsed .entry)) vector (now (sizes .entry)) ⌝ }
+    requires { ⌜ length (now starts) ≤ rankLimit ⌝ }
+    ensures { λ r. ⌜ r ≡ shapeAnswer (now (shown .entry)) (now (starts .entry)) (now (others .entry)) (now (ie .entry)) (now (de .entry)) (now («offset_dims» .entry)) (now (sizes .entry)) ⌝ }
 {
-    if shape_fits(operand, index, dest, offset_dims, collapsed, vector, sizes) {
+    if shape_fits(shown, starts, others, ie, de, offset_dims, sizes) {
         return Answer::Done;
     }
-    let given = layout::axis_count(dest.rank) as u64;
-    let expected = out_rank(index, vector, offset_dims);
-    Answer::ShapeMismatch(given, expected)
+    let expected = starts.len() as u64 + offset_dims.len() as u64;
+    Answer::ShapeMismatch(de.len() as u64, expected)
 }
 
 // What each axis of the destination adds to the place in the operand: the stride of the axis that it shows, or 0.
@@ -264,25 +269,124 @@ pub fn batch_steps(index: Layout, dest: Layout, offset_dims: &[u64], vector: u64
 
 // 3 for resets and component offsets.
 fn check_resets(
-    operand: Layout,
-    index: Layout,
-    dest: Layout,
+    de: &[u64],
+    ds: &[i64],
+    window: &[i64],
+    batch: &[i64],
+    stride: i64,
+    components: u64,
+) -> Answer
+    requires { ⌜ (length (now ds) ≡ length (now de)) × (length (now window) ≡ length (now de)) × (length (now batch) ≡ length (now de)) ⌝ }
+    ensures { λ r. ⌜ r ≡ resetsRefusal (now (de .entry)) (now (ds .entry)) (now (window .entry)) (now (batch .entry)) stride components ⌝ }
+{
+    let axes = check_axes(de, ds, window, batch);
+    let offsets = check_components(stride, components);
+    checks::or_else(axes, offsets)
+}
+
+// What is asked of layouts that neither 1 nor 2 refuses, given the operand's axes that are shown, the index view's batch axes and the
+// destination's other axes.
+fn examine_axes(
+    oe: &[u64],
+    os: &[i64],
+    ie: &[u64],
+    is: &[i64],
+    de: &[u64],
+    ds: &[i64],
     offset_dims: &[u64],
     collapsed: &[u64],
     map: &[u64],
     vector: u64,
-) -> Answer
-    ensures { λ r. ⌜ r ≡ resetsRefusal (extentsOf dest) (stridesOf dest) (spread (pos 0) (length (extentsOf dest)) (now («offset_dims» .entry)) (pick (pos 0) (others (length (extentsOf operand)) (now (collapsed .entry))) (stridesOf operand))) (spread (pos 0) (length (extentsOf dest)) (others (length (extentsOf dest)) (now («offset_dims» .entry))) (without vector (stridesOf index))) (getD (stridesOf index) vector (pos 0)) (length (now (map .entry))) ⌝ }
+    sizes: &[u64],
+    nested: bool,
+    shown: &[u64],
+    starts: &[u64],
+    others: &[u64],
+) -> Examined
+    requires { ⌜ Made (now oe) (now os) (now ie) (now is) (now de) (now ds) (now starts) ⌝ }
+    ensures { λ r. ⌜ r ≡ examinedBy (now (oe .entry)) (now (os .entry)) (now (ie .entry)) (now (is .entry)) (now (de .entry)) (now (ds .entry)) (now («offset_dims» .entry)) (now (collapsed .entry)) (now (map .entry)) vector (now (sizes .entry)) nested (now (shown .entry)) (now (starts .entry)) (now (others .entry)) ⌝ }
 {
-    let window = window_steps(operand, dest, offset_dims, collapsed);
-    let batch = batch_steps(index, dest, offset_dims, vector);
-    let extents = axis_lists::extents_of(dest);
-    let strides = axis_lists::strides_of(dest);
-    let axes = check_axes(extents, strides, window, batch);
-    let starts = axis_lists::strides_of(index);
-    let stride = axis_lists::step_at(starts, vector);
-    let components = check_components(stride, map.len() as u64);
-    checks::or_else(axes, components)
+    let window = axis_lists::spread_picked(de.len(), offset_dims, shown, os);
+    let batch = axis_lists::spread_picked(de.len(), others, starts, is);
+    let a = check_numbers(oe, os, ie, is, de, ds, nested);
+    let b = check_lists(oe, ie, collapsed, map, vector, sizes);
+    let c = check_counts(ie, shown.len(), starts.len(), offset_dims, map, vector);
+    let d = check_shape(shown, starts, others, ie, de, offset_dims, sizes);
+    let stride = axis_lists::stride_at(is, vector);
+    let n = de.len();
+    let e = check_resets(
+        de,
+        ds,
+        &window[0..n],
+        &batch[0..n],
+        stride,
+        map.len() as u64,
+    );
+    let shape = checks::or_else(c, checks::or_else(d, e));
+    let answer = checks::or_else(a, checks::or_else(b, shape));
+    Examined {
+        answer,
+        window,
+        batch,
+    }
+}
+
+// The first refusal of a gather in document 01's order, or Done, with what each axis of the destination adds to the places in the
+// operand and in the index view; 4 is tried where `nested` says so.
+pub fn examine(
+    operand_extents: &[u64],
+    operand_strides: &[i64],
+    index_extents: &[u64],
+    index_strides: &[i64],
+    dest_extents: &[u64],
+    dest_strides: &[i64],
+    offset_dims: &[u64],
+    collapsed_slice_dims: &[u64],
+    start_index_map: &[u64],
+    index_vector_dim: u64,
+    slice_sizes: &[u64],
+    nested: bool,
+) -> Examined
+    ensures { λ r. ⌜ Examines r nested (gatherFrom (now («operand_extents» .entry)) (now («operand_strides» .entry)) (now («index_extents» .entry)) (now («index_strides» .entry)) (now («dest_extents» .entry)) (now («dest_strides» .entry)) (now («offset_dims» .entry)) (now («collapsed_slice_dims» .entry)) (now («start_index_map» .entry)) «index_vector_dim» (now («slice_sizes» .entry))) ⌝ }
+{
+    let lengths = check_layouts(
+        operand_extents.len(),
+        operand_strides.len(),
+        index_extents.len(),
+        index_strides.len(),
+        dest_extents.len(),
+        dest_strides.len(),
+    );
+    if !layout::is_done(lengths) {
+        return unexamined(lengths);
+    }
+    let vectors = [index_vector_dim];
+    let kept = axis_lists::other_axes(operand_extents.len(), collapsed_slice_dims);
+    let batch = axis_lists::other_axes(index_extents.len(), &vectors);
+    let rest = axis_lists::other_axes(dest_extents.len(), offset_dims);
+    let shown = kept.entries;
+    let starts = batch.entries;
+    let others = rest.entries;
+    let k = kept.count;
+    let m = batch.count;
+    let n = rest.count;
+    examine_axes(
+        operand_extents,
+        operand_strides,
+        index_extents,
+        index_strides,
+        dest_extents,
+        dest_strides,
+        offset_dims,
+        collapsed_slice_dims,
+        start_index_map,
+        index_vector_dim,
+        slice_sizes,
+        nested,
+        &shown[0..k],
+        &starts[0..m],
+        &others[0..n],
+    )
 }
 
 // The first refusal of a gather in document 01's order, or Done; 4 is tried where `nested` says so.
@@ -302,60 +406,19 @@ pub fn gather_refusal(
 ) -> Answer
     ensures { λ r. ⌜ r ≡ refusalOf nested (gatherFrom (now («operand_extents» .entry)) (now («operand_strides» .entry)) (now («index_extents» .entry)) (now («index_strides» .entry)) (now («dest_extents» .entry)) (now («dest_strides» .entry)) (now («offset_dims» .entry)) (now («collapsed_slice_dims» .entry)) (now («start_index_map» .entry)) «index_vector_dim» (now («slice_sizes» .entry))) ⌝ }
 {
-    let lengths = check_layouts(
-        operand_extents.len(),
-        operand_strides.len(),
-        index_extents.len(),
-        index_strides.len(),
-        dest_extents.len(),
-        dest_strides.len(),
-    );
-    if !layout::is_done(lengths) {
-        return lengths;
-    }
-    let first = layout::make_layout(operand_extents, operand_strides);
-    let second = layout::make_layout(index_extents, index_strides);
-    let third = layout::make_layout(dest_extents, dest_strides);
-    let operand = first.layout;
-    let index = second.layout;
-    let dest = third.layout;
-    let a = check_numbers(operand, index, dest, nested);
-    let b = check_lists(
-        operand,
-        index,
+    let examined = examine(
+        operand_extents,
+        operand_strides,
+        index_extents,
+        index_strides,
+        dest_extents,
+        dest_strides,
+        offset_dims,
         collapsed_slice_dims,
         start_index_map,
         index_vector_dim,
         slice_sizes,
+        nested,
     );
-    let c = check_counts(
-        operand,
-        index,
-        offset_dims,
-        collapsed_slice_dims,
-        start_index_map,
-        index_vector_dim,
-    );
-    let d = check_shape(
-        operand,
-        index,
-        dest,
-        offset_dims,
-        collapsed_slice_dims,
-        index_vector_dim,
-        slice_sizes,
-    );
-    let e = check_resets(
-        operand,
-        index,
-        dest,
-        offset_dims,
-        collapsed_slice_dims,
-        start_index_map,
-        index_vector_dim,
-    );
-    checks::or_else(
-        a,
-        checks::or_else(b, checks::or_else(c, checks::or_else(d, e))),
-    )
+    examined.answer
 }

@@ -1,87 +1,45 @@
--- A layout's extents and strides on some axes, as they are held and walked. Assumes nothing.
-use mathlib.Core.Path.{_≡_, refl, sym, ap, ap₂, _∙_}
-use mathlib.Core.Bool.{Bool, cond}
-use mathlib.Core.List.{List, [], _∷_, _++_}
-use Prim.Native.Nat.{ℕ, suc, _-_, _≤_, min}
+-- Lists as they are picked, lent and walked. Assumes nothing.
+use mathlib.Core.Path.{_≡_, ap, _∙_}
+use mathlib.Core.List.{List}
+use Prim.Native.Nat.{ℕ, _-_, _≤_, min}
 use native.Mathlib.Omega.{arith}
-use lib.Dec.{leb}
-use lib.ListN.{length, take, replicate}
-use lib.Seq.{take-all}
+use lib.ListN.{length, take, drop, length-take}
 use lib.IntN.{ℤ, pos}
-use Rattle.indexing.specs.Coordinates.{pick, spread, others}
-use Rattle.indexing.specs.Start.{without}
-use Rattle.indexing.specs.Axes.{length-spread}
-use Rattle.layout.specs.declared.Answer.{Answer}
-use Rattle.layout.specs.declared.Answer.the-variants as A
-use Rattle.layout.specs.declared.Layout.{Layout}
-use Rattle.layout.specs.Layouts.{rankLimit, padded, extentsOf, stridesOf}
-use Rattle.axis_lists.specs.Held.{numbersOf, stepsOf, heldNumbers, heldSteps, sameList, Decides}
+use Rattle.indexing.specs.Coordinates.{others}
+use Rattle.layout.specs.Layouts.{rankLimit, padded}
+use Rattle.axis_lists.specs.Held.{numbersOf, heldNumbers}
 use Rattle.axis_lists.specs.declared.Numbers.{Numbers}
-use Rattle.axis_lists.specs.declared.Steps.{Steps}
-use Rattle.axis_lists.proofs.Filling.{read-back, length-others, decides-same}
-use Rattle.checks.specs.Checks.{windowsFrom, windowsFit}
-use Rattle.gather_checks.proofs.Read.{extents-length, extents-read, strides-read}
-use Rattle.gather_checks.proofs.Shape.{held-read}
+use Rattle.axis_lists.proofs.Filling.{read-back, length-others}
 use Rattle.replay.specs.Replays.{compiledReplay}
 
-module _ (l : Layout) (e : length (l .extents) ≡ 8) where
-  pub start-extents-are : (v : ℕ) (x r : Numbers) → x ≡ heldNumbers (extentsOf l) → r ≡ heldNumbers (without v (numbersOf x)) → r ≡ heldNumbers (without v (extentsOf l))
-  start-extents-are v x r p q = q ∙ ap (λ (xs : List ℕ). heldNumbers (without v xs)) (ap numbersOf p ∙ extents-read l e)
+-- what is read of an array that a list of at most eight fills
+pub filled-read : {A : Type 0} (d : A) (n : ℕ) (r l : List A) → r ≡ padded rankLimit d l → n ≡ length l → length l ≤ rankLimit → take n r ≡ l
+filled-read d n r l e f h = ap (take n) e ∙ ap (λ (k : ℕ). take k (padded rankLimit d l)) f ∙ read-back d l h
 
-  pub few-others : (axes : List ℕ) → length (others (length (extentsOf l)) axes) ≤ rankLimit
-  few-others axes = omega (arith, extents-length l e, length-others 0 (length (extentsOf l)) axes)
+-- and where it is lent up to there
+pub filled-part : {A : Type 0} (d : A) (n : ℕ) (r l : List A) → r ≡ padded rankLimit d l → n ≡ length l → length l ≤ rankLimit → take (n - 0) (drop 0 r) ≡ l
+filled-part d n r l e f h = let z : n - 0 ≡ n = omega arith in ap (λ (k : ℕ). take k r) z ∙ filled-read d n r l e f h
 
-  pub others-read : (axes : List ℕ) (k : Numbers) → k ≡ heldNumbers (others (min (l .rank) rankLimit) axes) → numbersOf k ≡ others (length (extentsOf l)) axes
-  others-read axes k p =
-      held-read k (others (length (extentsOf l)) axes) (p ∙ ap (λ (n : ℕ). heldNumbers (others n axes)) (sym (extents-length l e))) (few-others axes)
+-- a list that was held is read as it was
+pub held-read : (k : Numbers) (l : List ℕ) → k ≡ heldNumbers l → length l ≤ rankLimit → numbersOf k ≡ l
+held-read k l e h = filled-read 0 (k .count) (k .entries) l (ap (λ (x : Numbers). x .entries) e) (ap (λ (x : Numbers). x .count) e) h
 
-  pub picked-extents : (axes : List ℕ) (k x r : Numbers) → numbersOf k ≡ axes → x ≡ heldNumbers (extentsOf l) → r ≡ heldNumbers (pick 0 (numbersOf k) (numbersOf x)) → r ≡ heldNumbers (pick 0 axes (extentsOf l))
-  picked-extents axes k x r p q f = f ∙ ap₂ (λ (xs ys : List ℕ). heldNumbers (pick 0 xs ys)) p (ap numbersOf q ∙ extents-read l e)
+-- ---- the others of at most eight axes, as they are held
+module _ (n : ℕ) (axes : List ℕ) (k : Numbers) (h : n ≤ rankLimit) (e : k ≡ heldNumbers (others (min n rankLimit) axes)) where
+  held-others : k ≡ heldNumbers (others n axes)
+  held-others = let f : min n rankLimit ≡ n = omega arith in e ∙ ap (λ (m : ℕ). heldNumbers (others m axes)) f
 
-module _ (l : Layout) (e : length (l .strides) ≡ 8) where
-  pub start-steps-are : (v : ℕ) (x r : Steps) → x ≡ heldSteps (stridesOf l) → r ≡ heldSteps (without v (stepsOf x)) → r ≡ heldSteps (without v (stridesOf l))
-  start-steps-are v x r p q = q ∙ ap (λ (xs : List ℤ). heldSteps (without v xs)) (ap stepsOf p ∙ strides-read l e)
+  pub others-few : k .count ≤ length (k .entries)
+  others-few = let r = held-read k (others n axes) held-others (omega (arith, length-others 0 n axes)) in omega (arith, length-take (k .count) (k .entries), ap length r, ap (λ (x : Numbers). x .count) held-others)
 
-  pub picked-steps : (axes : List ℕ) (k : Numbers) (x r : Steps) → numbersOf k ≡ axes → x ≡ heldSteps (stridesOf l) → r ≡ heldSteps (pick (pos 0) (numbersOf k) (stepsOf x)) → r ≡ heldSteps (pick (pos 0) axes (stridesOf l))
-  picked-steps axes k x r p q f = f ∙ ap₂ (λ (xs : List ℕ) (ys : List ℤ). heldSteps (pick (pos 0) xs ys)) p (ap stepsOf q ∙ strides-read l e)
+  pub others-part : take (k .count - 0) (drop 0 (k .entries)) ≡ others n axes
+  others-part = filled-part 0 (k .count) (k .entries) (others n axes) (ap (λ (x : Numbers). x .entries) held-others) (ap (λ (x : Numbers). x .count) held-others) (omega (arith, length-others 0 n axes))
 
--- steps that are as many as the shape's extents
-steps-along : (n : ℕ) (x : Steps) (l : List ℤ) → x ≡ heldSteps l → n ≡ length l → length l ≤ rankLimit → take n (x .entries) ≡ l
-steps-along n x l p q h = ap₂ (λ (m : ℕ) (xs : List ℤ). take m xs) q (ap (λ (s : Steps). s .entries) p) ∙ read-back (pos 0) l h
-
--- the walk of lists that are held
-pub walk-is : (shape : Numbers) (source dest : Steps) (ds : List ℕ) (ss ts : List ℤ) → shape ≡ heldNumbers ds → source ≡ heldSteps ss → dest ≡ heldSteps ts → length ds ≤ rankLimit → length ss ≡ length ds → length ts ≡ length ds
-    → compiledReplay (take (shape .count) (shape .entries)) (take (shape .count) (source .entries)) (take (shape .count) (dest .entries)) ≡ compiledReplay ds ss ts
-walk-is shape source dest ds ss ts p q r h f g =
-    let n : shape .count ≡ length ds = ap (λ (x : Numbers). x .count) p in
-    let a : take (shape .count) (shape .entries) ≡ ds = held-read shape ds p h in
-    let b : take (shape .count) (source .entries) ≡ ss = steps-along (shape .count) source ss q (n ∙ sym f) (omega arith) in
-    let c : take (shape .count) (dest .entries) ≡ ts = steps-along (shape .count) dest ts r (n ∙ sym g) (omega arith) in
-    rw (a, b, c)
-
--- ---- windows: what stands past the last axis is not tested
-fits-front : (rank a : ℕ) (ds ws zs : List ℕ) → length ds ≤ length ws → windowsFrom rank a ds (ws ++ zs) ≡ windowsFrom rank a ds ws
-unfolding windowsFrom
-fits-front rank a [] ws zs h = refl
-fits-front rank a (d ∷ ds) [] zs h = absurd (omega arith)
-fits-front rank a (d ∷ ds) (w ∷ ws) zs h = ap (λ (x : Answer). cond (leb w d) x (A.InvalidAxis a rank)) (fits-front rank (suc a) ds ws zs (omega arith))
-
-whole : (xs : List ℕ) → length xs ≤ rankLimit → padded rankLimit 0 xs ≡ xs ++ replicate (rankLimit - length xs) 0
-unfolding padded
-whole xs h = ap (λ (ys : List ℕ). ys ++ replicate (rankLimit - length xs) 0) (take-all rankLimit xs h)
-
-module _ (l : Layout) (e : length (l .extents) ≡ 8) where
-  pub windows-are : (axes shape : List ℕ) (k s w x : Numbers) → length shape ≤ rankLimit → numbersOf k ≡ axes → s ≡ heldNumbers shape → w ≡ heldNumbers (spread 1 (min (l .rank) rankLimit) (numbersOf k) (numbersOf s)) → x ≡ heldNumbers (extentsOf l)
-      → windowsFit 0 (numbersOf x) (w .entries) ≡ windowsFit 0 (extentsOf l) (spread 1 (length (extentsOf l)) axes shape)
-  windows-are axes shape k s w x h p q f g =
-      let n = extents-length l e in
-      let ws : List ℕ = spread 1 (length (extentsOf l)) axes shape in
-      let m : length ws ≡ length (extentsOf l) = length-spread 1 (length (extentsOf l)) axes shape in
-      let y : numbersOf x ≡ extentsOf l = ap numbersOf g ∙ extents-read l e in
-      let z : w ≡ heldNumbers ws = f ∙ rw (p, held-read s shape q h, n) in
-      let v : w .entries ≡ ws ++ replicate (rankLimit - length ws) 0 = ap (λ (r : Numbers). r .entries) z ∙ whole ws (omega (arith, m, n)) in
-      rw (y, v) (fits-front (length (extentsOf l)) 0 (extentsOf l) ws (replicate (rankLimit - length ws) 0) (omega (arith, m)))
-
--- ---- a flag that decides whether two lists are the same, as they are held
-pub same-held : (r : Bool) (x y : Numbers) (xs ys : List ℕ) → x ≡ heldNumbers xs → y ≡ heldNumbers ys → length xs ≤ rankLimit → length ys ≤ rankLimit → Decides r (numbersOf x) (numbersOf y) → r ≡ sameList xs ys
-same-held r x y xs ys p q h k d = decides-same r (numbersOf x) (numbersOf y) d ∙ ap₂ sameList (held-read x xs p h) (held-read y ys q k)
+-- the walk of lists that fill arrays
+pub walk-is : (n : ℕ) (shape ds : List ℕ) (source ss dest ts : List ℤ) → shape ≡ padded rankLimit 0 ds → source ≡ padded rankLimit (pos 0) ss → dest ≡ padded rankLimit (pos 0) ts → n ≤ rankLimit → n ≡ length ds → n ≡ length ss → n ≡ length ts
+    → compiledReplay (take n shape) (take n source) (take n dest) ≡ compiledReplay ds ss ts
+walk-is n shape ds source ss dest ts p q r h a b c =
+    let x : take n shape ≡ ds = filled-read 0 n shape ds p a (omega arith) in
+    let y : take n source ≡ ss = filled-read (pos 0) n source ss q b (omega arith) in
+    let z : take n dest ≡ ts = filled-read (pos 0) n dest ts r c (omega arith) in
+    rw (x, y, z)

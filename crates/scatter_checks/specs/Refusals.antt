@@ -1,18 +1,19 @@
 -- "Scatter": document 01's refusals of a scatter, in its order; the first hit counts. Definitions only.
 use mathlib.Core.Path.{_≡_}
 use mathlib.Core.Bool.{Bool, cond}
-use mathlib.Core.List.{List, []}
-use Prim.Native.Nat.{ℕ, _-_}
+use mathlib.Core.List.{List, [], _∷_}
+use Prim.Native.Nat.{ℕ, _-_, _≤_}
 use lib.Dec.{leb}
 use lib.ListN.{length}
 use lib.IntN.{ℤ}
 use Rattle.indexing.specs.Coordinates.{rank, pick, others}
 use Rattle.indexing.specs.Start.{without}
-use Rattle.indexing.specs.Scatter.{Scatter, windowDims, batchShape, windowShape, windows}
+use Rattle.indexing.specs.Scatter.{Scatter, scatterDims, windowDims, batchShape, windowShape, windows}
 use Rattle.indexing.specs.Steps.{vectorStride, updateBatchSteps, updateWindowSteps, landSteps}
 use Rattle.layout.specs.declared.Answer.{Answer}
 use Rattle.layout.specs.declared.Answer.the-variants as A
 use Rattle.layout.specs.Answers.{orElse}
+use Rattle.layout.specs.Layouts.{rankLimit}
 use Rattle.layout.specs.Lists.{uniqueAxes}
 use Rattle.layout.specs.Spans.{totalOf, spanned}
 use Rattle.axis_lists.specs.Held.{sameList}
@@ -83,6 +84,22 @@ walksRefusal s =
     (orElse (totalFits (totalOf (batchShape s))) (orElse (totalFits (totalOf (windowShape s)))
     (orElse (batchWalk s .answer) (orElse (windowWalk s .answer)
     (firstOf (offsetFits (vectorStride (s .indices) (s .spec .index-vector-dim))) (length (s .spec .scatter-dims-to-operand-dims)) 0)))))
+
+-- layouts that neither 1 nor 2 refuses
+pub record Fitting (s : Scatter) : Type 0 where
+  pub index : length (s .indices .strides) ≡ rank (s .indices)
+  pub updates : length (s .updates .strides) ≡ rank (s .updates)
+  pub dest : length (s .result .strides) ≡ rank (s .result)
+  pub index-few : rank (s .indices) ≤ rankLimit
+  pub updates-few : rank (s .updates) ≤ rankLimit
+  pub dest-few : rank (s .result) ≤ rankLimit
+
+-- the axes that a spec does not list: of the destination those that are not inserted, of the updates those of the batches, of the
+-- index view all but the vector axis
+pub record Listed (s : Scatter) (keep batch start : List ℕ) : Type 0 where
+  pub kept : keep ≡ windowDims s
+  pub batches : batch ≡ scatterDims s
+  pub starts : start ≡ others (rank (s .indices)) (s .spec .index-vector-dim ∷ [])
 
 -- what the walks need of the counts; it holds where nothing before them refuses
 pub record Counted (s : Scatter) : Type 0 where

@@ -1,46 +1,74 @@
-// Scatter: compile's checks in the order of document 01, and the two walks of its plan.
+// Scatter: compile's checks in the order of document 01, over lent extents and strides, and the two walks of its plan.
 ghost use mathlib.Core.Path.{_≡_};
-ghost use Prim.Native.Nat.{_-_, _≤_};
+ghost use mathlib.Core.Bool.{cond};
+ghost use mathlib.Core.List.{[]};
+ghost use Prim.Native.Nat.{_-_, _≤_, min};
 ghost use lib.ListN.{length};
 ghost use lib.IntN.{pos};
-ghost use Rattle.indexing.specs.Coordinates.{pick, spread, others};
-ghost use Rattle.indexing.specs.Start.{without};
+ghost use Rattle.indexing.specs.Coordinates.{pick, spread};
+ghost use Rattle.layout.specs.declared.Answer.the-variants as Ans;
 ghost use Rattle.layout.specs.Answers.{orElse};
-ghost use Rattle.layout.specs.Layouts.{rankLimit, extentsOf, stridesOf, layoutFrom};
+ghost use Rattle.layout.specs.Layouts.{rankLimit, padded};
+ghost use Rattle.layout.specs.Lists.{uniqueAxes};
 ghost use Rattle.layout.specs.Spans.{totalOf};
-ghost use Rattle.axis_lists.specs.Held.{numbersOf, heldNumbers, heldSteps};
-ghost use Rattle.checks.specs.Checks.{totalFits, windowsFit};
+ghost use Rattle.axis_lists.specs.Held.{sameList};
+ghost use Rattle.checks.specs.Checks.{totalFits, sameCount, windowsFit};
 ghost use Rattle.replay.specs.Replays.{compiledReplay};
-ghost use Rattle.scatter_checks.specs.Refusals.{scatterFrom, numbersRefusal, listsRefusal, countAtMost, countsRefusal, batchRefusal, specRefusal, walksRefusal, Counted, refusalOf};
-use axis_lists::Numbers;
-use axis_lists::Steps;
-use integer::CheckedU;
+ghost use Rattle.scatter_checks.specs.Refusals.{scatterFrom, numbersRefusal, listsRefusal, countAtMost, specRefusal, walksRefusal, batchWalk, windowWalk, Fitting, Listed, Counted, refusalOf};
+ghost use Rattle.scatter_checks.specs.Examine.{refusedWith, walked, examined};
 use layout::Answer;
-use layout::Layout;
+use layout::RAW_FUSED_RANK_LIMIT;
 use replay::CompiledReplay;
+use replay::WindowReplay;
+
+// What compile's checks answer, and the two walks; where they refuse, walks of no axes.
+pub struct Examined {
+    pub answer: Answer,
+    pub batch: WindowReplay,
+    pub window: WindowReplay,
+}
+
+fn refused(answer: Answer) -> Examined
+    ensures { λ r. ⌜ r ≡ refusedWith answer ⌝ }
+{
+    let none = replay::refused_replay();
+    let walk = none.replay;
+    Examined {
+        answer,
+        batch: walk,
+        window: walk,
+    }
+}
 
 // 3 for the products and the destination's span, then 4, if that is asked.
-fn check_numbers(index: Layout, updates: Layout, dest: Layout, nested: bool) -> Answer
-    ensures { λ r. ⌜ r ≡ numbersRefusal nested (extentsOf index) (extentsOf updates) (extentsOf dest) (stridesOf dest) ⌝ }
+fn check_numbers(
+    index: &[u64],
+    updates: &[u64],
+    extents: &[u64],
+    strides: &[i64],
+    nested: bool,
+) -> Answer
+    requires { ⌜ length (now strides) ≡ length (now extents) ⌝ }
+    ensures { λ r. ⌜ r ≡ numbersRefusal nested (now (index .entry)) (now (updates .entry)) (now (extents .entry)) (now (strides .entry)) ⌝ }
 {
-    let a = checks::check_total(dest);
+    let a = checks::check_total(extents);
     let b = checks::check_total(index);
     let c = checks::check_total(updates);
-    let d = checks::check_span(dest);
-    let e = checks::check_nested(dest, nested);
+    let d = checks::check_span(extents, strides);
+    let e = checks::check_nested(extents, strides, nested);
     let last = checks::or_else(c, checks::or_else(d, e));
     checks::or_else(a, checks::or_else(b, last))
 }
 
 // 6 for the inserted axes, the scatter map and the vector axis, then 5 for the component count.
-fn check_lists(index: Layout, dest: Layout, inserted: &[u64], map: &[u64], vector: u64) -> Answer
-    ensures { λ r. ⌜ r ≡ listsRefusal (extentsOf index) (extentsOf dest) (now (inserted .entry)) (now (map .entry)) vector ⌝ }
+fn check_lists(index: &[u64], dest: &[u64], inserted: &[u64], map: &[u64], vector: u64) -> Answer
+    ensures { λ r. ⌜ r ≡ listsRefusal (now (index .entry)) (now (dest .entry)) (now (inserted .entry)) (now (map .entry)) vector ⌝ }
 {
-    let rank = layout::axis_count(dest.rank) as u64;
+    let rank = dest.len() as u64;
     let components = checks::component_count(index, vector);
     let a = layout::validate_unique_axes(inserted, rank);
     let b = layout::validate_unique_axes(map, rank);
-    let c = checks::check_vector_axis(vector, layout::axis_count(index.rank));
+    let c = checks::check_vector_axis(vector, index.len());
     let d = checks::check_same_count(components, map.len() as u64);
     checks::or_else(a, checks::or_else(b, checks::or_else(c, d)))
 }
@@ -63,242 +91,326 @@ fn less(a: u64, b: u64) -> u64
     if b <= a { a - b } else { 0 }
 }
 
-// The index view's extents without the vector axis.
-fn start_extents(index: Layout, vector: u64) -> Numbers
-    ensures { λ r. ⌜ r ≡ heldNumbers (without vector (extentsOf index)) ⌝ }
-{
-    let extents = axis_lists::extents_of(index);
-    axis_lists::without_number(vector, extents)
-}
-
-// Its strides without the vector axis.
-fn start_steps(index: Layout, vector: u64) -> Steps
-    ensures { λ r. ⌜ r ≡ heldSteps (without vector (stridesOf index)) ⌝ }
-{
-    let strides = axis_lists::strides_of(index);
-    axis_lists::without_step(vector, strides)
-}
-
-// 5 for the counts of window axes and of batch axes, then 6 for the window axes.
-fn check_counts(
-    index: Layout,
-    updates: Layout,
-    dest: Layout,
-    window: &[u64],
-    inserted: &[u64],
-    vector: u64,
-) -> Answer
-    ensures { λ r. ⌜ r ≡ countsRefusal (extentsOf index) (extentsOf updates) (extentsOf dest) (now (window .entry)) (now (inserted .entry)) vector ⌝ }
+// 5 for the counts of window axes, against kept axes, and of batch axes, then 6 for the window axes.
+fn check_counts(updates: &[u64], window: &[u64], kept: usize, batch: usize) -> Answer
+    ensures { λ r. ⌜ r ≡ orElse (sameCount (length (now (window .entry))) kept) (orElse (countAtMost (length (now (window .entry))) (length (now (updates .entry)))) (orElse (sameCount (length (now (updates .entry)) - length (now (window .entry))) batch) (uniqueAxes (length (now (updates .entry))) [] (now (window .entry))))) ⌝ }
 {
     let count = window.len() as u64;
-    let rank = layout::axis_count(updates.rank) as u64;
-    let kept = axis_lists::other_axes(dest.rank, inserted);
-    let batch = start_extents(index, vector);
+    let rank = updates.len() as u64;
     let others = less(rank, count);
-    let a = checks::check_same_count(count, kept.count as u64);
+    let a = checks::check_same_count(count, kept as u64);
     let b = check_at_most(count, rank);
-    let c = checks::check_same_count(others, batch.count as u64);
+    let c = checks::check_same_count(others, batch as u64);
     let d = layout::validate_unique_axes(window, rank);
     checks::or_else(a, checks::or_else(b, checks::or_else(c, d)))
 }
 
-// A layout's extents on the axes that the list has not.
-pub fn other_extents(layout: Layout, list: &[u64]) -> Numbers
-    ensures { λ r. ⌜ r ≡ heldNumbers (pick 0 (others (length (extentsOf layout)) (now (list .entry))) (extentsOf layout)) ⌝ }
-{
-    let axes = axis_lists::other_axes(layout.rank, list);
-    let extents = axis_lists::extents_of(layout);
-    axis_lists::pick_numbers(axes, extents)
-}
-
-// Its strides on them.
-fn other_steps(layout: Layout, list: &[u64]) -> Steps
-    ensures { λ r. ⌜ r ≡ heldSteps (pick (pos 0) (others (length (extentsOf layout)) (now (list .entry))) (stridesOf layout)) ⌝ }
-{
-    let axes = axis_lists::other_axes(layout.rank, list);
-    let strides = axis_lists::strides_of(layout);
-    axis_lists::pick_steps(axes, strides)
-}
-
-// A layout's extents on the axes of the list, in its order.
-pub fn listed_extents(layout: Layout, list: &[u64]) -> Numbers
-    requires { ⌜ length (now list) ≤ rankLimit ⌝ }
-    ensures { λ r. ⌜ r ≡ heldNumbers (pick 0 (now (list .entry)) (extentsOf layout)) ⌝ }
-{
-    let axes = axis_lists::numbers_from(list);
-    let extents = axis_lists::extents_of(layout);
-    axis_lists::pick_numbers(axes, extents)
-}
-
-// Its strides on them.
-fn listed_steps(layout: Layout, list: &[u64]) -> Steps
-    requires { ⌜ length (now list) ≤ rankLimit ⌝ }
-    ensures { λ r. ⌜ r ≡ heldSteps (pick (pos 0) (now (list .entry)) (stridesOf layout)) ⌝ }
-{
-    let axes = axis_lists::numbers_from(list);
-    let strides = axis_lists::strides_of(layout);
-    axis_lists::pick_steps(axes, strides)
-}
-
 // 7 where the batch extents of the updates are not those of the index view.
-fn check_batch(index: Layout, updates: Layout, window: &[u64], vector: u64) -> Answer
-    ensures { λ r. ⌜ r ≡ batchRefusal (extentsOf index) (extentsOf updates) (now (window .entry)) vector ⌝ }
+fn check_batch(updates: &[u64], batch: &[u64], index: &[u64], starts: &[u64]) -> Answer
+    ensures { λ r. ⌜ r ≡ cond (sameList (pick 0 (now (batch .entry)) (now (updates .entry))) (pick 0 (now (starts .entry)) (now (index .entry)))) Ans.Done (Ans.ShapeMismatch (length (now (updates .entry))) (length (now (updates .entry)))) ⌝ }
 {
-    let rank = layout::axis_count(updates.rank) as u64;
-    let given = other_extents(updates, window);
-    let expected = start_extents(index, vector);
-    if axis_lists::same_numbers(given, expected) {
+    let rank = updates.len() as u64;
+    if axis_lists::picked_same(batch, updates, starts, index) {
         Answer::Done
     } else {
         Answer::ShapeMismatch(rank, rank)
     }
 }
 
-// What is asked before the windows.
+// What is asked before the windows. `kept` are the destination's axes that are not inserted, `batch` the updates' that are not
+// window axes, `starts` the index view's but the vector axis.
 fn check_spec(
-    index: Layout,
-    updates: Layout,
-    dest: Layout,
+    index_extents: &[u64],
+    index_strides: &[i64],
+    updates_extents: &[u64],
+    updates_strides: &[i64],
+    dest_extents: &[u64],
+    dest_strides: &[i64],
     window: &[u64],
     inserted: &[u64],
     map: &[u64],
     vector: u64,
     nested: bool,
+    kept: &[u64],
+    batch: &[u64],
+    starts: &[u64],
 ) -> Answer
-    ensures { λ r. ⌜ r ≡ specRefusal nested (scatterFrom (extentsOf index) (stridesOf index) (extentsOf updates) (stridesOf updates) (extentsOf dest) (stridesOf dest) (now (window .entry)) (now (inserted .entry)) (now (map .entry)) vector) ⌝ }
+    requires { ⌜ (length (now «dest_strides») ≡ length (now «dest_extents»)) × Listed (scatterFrom (now «index_extents») (now «index_strides») (now «updates_extents») (now «updates_strides») (now «dest_extents») (now «dest_strides») (now window) (now inserted) (now map) vector) (now kept) (now batch) (now starts) ⌝ }
+    ensures { λ r. ⌜ r ≡ specRefusal nested (scatterFrom (now («index_extents» .entry)) (now («index_strides» .entry)) (now («updates_extents» .entry)) (now («updates_strides» .entry)) (now («dest_extents» .entry)) (now («dest_strides» .entry)) (now (window .entry)) (now (inserted .entry)) (now (map .entry)) vector) ⌝ }
 {
-    let a = check_numbers(index, updates, dest, nested);
-    let b = check_lists(index, dest, inserted, map, vector);
-    let c = check_counts(index, updates, dest, window, inserted, vector);
-    let d = check_batch(index, updates, window, vector);
+    let a = check_numbers(
+        index_extents,
+        updates_extents,
+        dest_extents,
+        dest_strides,
+        nested,
+    );
+    let b = check_lists(index_extents, dest_extents, inserted, map, vector);
+    let c = check_counts(updates_extents, window, kept.len(), starts.len());
+    let d = check_batch(updates_extents, batch, index_extents, starts);
     checks::or_else(a, checks::or_else(b, checks::or_else(c, d)))
 }
 
-// 6 for the first window above its extent; the windows are 1 on inserted axes.
-fn check_windows(updates: Layout, dest: Layout, window: &[u64], inserted: &[u64]) -> Answer
-    requires { ⌜ length (now window) ≤ rankLimit ⌝ }
-    ensures { λ r. ⌜ r ≡ windowsFit 0 (extentsOf dest) (spread 1 (length (extentsOf dest)) (others (length (extentsOf dest)) (now (inserted .entry))) (pick 0 (now (window .entry)) (extentsOf updates))) ⌝ }
+// The extents on the axes, in the axes' order.
+pub fn picked_extents(axes: &[u64], list: &[u64]) -> [u64; RAW_FUSED_RANK_LIMIT]
+    requires { ⌜ length (now axes) ≤ rankLimit ⌝ }
+    ensures { λ r. ⌜ r ≡ padded rankLimit 0 (pick 0 (now (axes .entry)) (now (list .entry))) ⌝ }
 {
-    let kept = axis_lists::other_axes(dest.rank, inserted);
-    let shape = listed_extents(updates, window);
-    let windows = axis_lists::spread_numbers(dest.rank, kept, shape);
-    let extents = axis_lists::extents_of(dest);
-    let sizes = windows.entries;
-    checks::check_windows(&sizes, extents)
-}
-
-// 3 where the product of the list does not fit.
-fn check_product(list: Numbers) -> Answer
-    ensures { λ r. ⌜ r ≡ totalFits (totalOf (numbersOf list)) ⌝ }
-{
-    let entries = list.entries;
-    let total = spans::checked_total_len(entries, list.count);
-    match total {
-        CheckedU::Fits(_) => Answer::Done,
-        CheckedU::Overflow => Answer::OffsetOverflow,
+    let mut out = [0u64; RAW_FUSED_RANK_LIMIT];
+    let mut i: usize = 0;
+    while i < axes.len() {
+        out[i] = axis_lists::entry_at(list, axes[i]);
+        i += 1;
     }
+    out
 }
 
-// 3 for the products of the batch and of the window shape.
-fn check_products(updates: Layout, window: &[u64]) -> Answer
-    requires { ⌜ length (now window) ≤ rankLimit ⌝ }
-    ensures { λ r. ⌜ r ≡ orElse (totalFits (totalOf (pick 0 (others (length (extentsOf updates)) (now (window .entry))) (extentsOf updates)))) (totalFits (totalOf (pick 0 (now (window .entry)) (extentsOf updates)))) ⌝ }
+// The strides on them.
+pub fn picked_strides(axes: &[u64], list: &[i64]) -> [i64; RAW_FUSED_RANK_LIMIT]
+    requires { ⌜ length (now axes) ≤ rankLimit ⌝ }
+    ensures { λ r. ⌜ r ≡ padded rankLimit (pos 0) (pick (pos 0) (now (axes .entry)) (now (list .entry))) ⌝ }
 {
-    let batch = other_extents(updates, window);
-    let shape = listed_extents(updates, window);
-    let a = check_product(batch);
-    let b = check_product(shape);
-    checks::or_else(a, b)
+    let mut out = [0i64; RAW_FUSED_RANK_LIMIT];
+    let mut i: usize = 0;
+    while i < axes.len() {
+        out[i] = axis_lists::stride_at(list, axes[i]);
+        i += 1;
+    }
+    out
 }
 
-// The walk from batch to batch: the index view's starts as source, the updates as destination.
-pub fn batch_walk(index: Layout, updates: Layout, window: &[u64], vector: u64) -> CompiledReplay
-    requires { ⌜ length (without vector (stridesOf index)) ≡ length (others (length (extentsOf updates)) (now window)) ⌝ }
-    ensures { λ r. ⌜ r ≡ compiledReplay (pick 0 (others (length (extentsOf updates)) (now (window .entry))) (extentsOf updates)) (without vector (stridesOf index)) (pick (pos 0) (others (length (extentsOf updates)) (now (window .entry))) (stridesOf updates)) ⌝ }
-{
-    let shape = other_extents(updates, window);
-    let source = start_steps(index, vector);
-    let dest = other_steps(updates, window);
-    let extents = shape.entries;
-    let source_steps = source.entries;
-    let dest_steps = dest.entries;
-    replay::compile_window_replay(extents, source_steps, dest_steps, shape.count)
-}
-
-// The walk from cell to cell of a window: the updates as source, the grid as destination.
-pub fn window_walk(
-    updates: Layout,
-    dest: Layout,
+// n windows (at most eight): on each kept axis the extent of the update axis that stands with it, and 1 on every other.
+pub fn spread_windows(
+    n: usize,
+    kept: &[u64],
     window: &[u64],
-    inserted: &[u64],
-) -> CompiledReplay
-    requires { ⌜ length (now window) ≡ length (others (length (extentsOf dest)) (now inserted)) ⌝ }
-    ensures { λ r. ⌜ r ≡ compiledReplay (pick 0 (now (window .entry)) (extentsOf updates)) (pick (pos 0) (now (window .entry)) (stridesOf updates)) (pick (pos 0) (others (length (extentsOf dest)) (now (inserted .entry))) (stridesOf dest)) ⌝ }
+    updates: &[u64],
+) -> [u64; RAW_FUSED_RANK_LIMIT]
+    requires { ⌜ length (now window) ≡ length (now kept) ⌝ }
+    ensures { λ r. ⌜ r ≡ padded rankLimit 1 (spread 1 (min n rankLimit) (now (kept .entry)) (pick 0 (now (window .entry)) (now (updates .entry)))) ⌝ }
 {
-    let shape = listed_extents(updates, window);
-    let source = listed_steps(updates, window);
-    let land = other_steps(dest, inserted);
-    let extents = shape.entries;
-    let source_steps = source.entries;
-    let dest_steps = land.entries;
-    replay::compile_window_replay(extents, source_steps, dest_steps, shape.count)
+    let m = layout::axis_count(n) as u64;
+    let mut out = [1u64; RAW_FUSED_RANK_LIMIT];
+    let mut i = kept.len();
+    while i > 0 {
+        i -= 1;
+        let place = kept[i];
+        let size = axis_lists::entry_at(updates, window[i]);
+        if place < m {
+            let k = place as usize;
+            out[k] = size;
+        }
+    }
+    out
 }
 
-// Windows, products, both walks and the component offsets.
-fn check_walks(
-    index: Layout,
-    updates: Layout,
-    dest: Layout,
+// 6 for the first window above its extent.
+fn check_windows(dest: &[u64], kept: &[u64], window: &[u64], updates: &[u64]) -> Answer
+    requires { ⌜ (length (now window) ≡ length (now kept)) × (length (now dest) ≤ rankLimit) ⌝ }
+    ensures { λ r. ⌜ r ≡ windowsFit 0 (now (dest .entry)) (spread 1 (length (now (dest .entry))) (now (kept .entry)) (pick 0 (now (window .entry)) (now (updates .entry)))) ⌝ }
+{
+    let sizes = spread_windows(dest.len(), kept, window, updates);
+    let n = dest.len();
+    checks::check_windows(&sizes[0..n], dest)
+}
+
+// 3 where the product of the extents on the axes does not fit.
+fn check_product(axes: &[u64], list: &[u64]) -> Answer
+    requires { ⌜ length (now axes) ≤ rankLimit ⌝ }
+    ensures { λ r. ⌜ r ≡ totalFits (totalOf (pick 0 (now (axes .entry)) (now (list .entry)))) ⌝ }
+{
+    let sizes = picked_extents(axes, list);
+    let n = axes.len();
+    checks::check_total(&sizes[0..n])
+}
+
+// The walk over the extents on the axes: the source's strides on some axes of its own, the destination's on others.
+fn walk_along(
+    axes: &[u64],
+    extents: &[u64],
+    from: &[u64],
+    source: &[i64],
+    to: &[u64],
+    dest: &[i64],
+) -> CompiledReplay
+    requires { ⌜ (length (now axes) ≤ rankLimit) × (length (now from) ≡ length (now axes)) × (length (now to) ≡ length (now axes)) ⌝ }
+    ensures { λ r. ⌜ r ≡ compiledReplay (pick 0 (now (axes .entry)) (now (extents .entry))) (pick (pos 0) (now (from .entry)) (now (source .entry))) (pick (pos 0) (now (to .entry)) (now (dest .entry))) ⌝ }
+{
+    let shape = picked_extents(axes, extents);
+    let source_steps = picked_strides(from, source);
+    let dest_steps = picked_strides(to, dest);
+    replay::compile_window_replay(shape, source_steps, dest_steps, axes.len())
+}
+
+// Windows, products, both walks and the component offsets. From batch to batch the index view's starts are the source and the
+// updates the destination; from cell to cell of a window the updates are the source and the grid the destination.
+fn examine_walks(
+    index_extents: &[u64],
+    index_strides: &[i64],
+    updates_extents: &[u64],
+    updates_strides: &[i64],
+    dest_extents: &[u64],
+    dest_strides: &[i64],
     window: &[u64],
     inserted: &[u64],
     map: &[u64],
     vector: u64,
-) -> Answer
-    requires { ⌜ Counted (scatterFrom (extentsOf index) (stridesOf index) (extentsOf updates) (stridesOf updates) (extentsOf dest) (stridesOf dest) (now window) (now inserted) (now map) vector) ⌝ }
-    ensures { λ r. ⌜ r ≡ walksRefusal (scatterFrom (extentsOf index) (stridesOf index) (extentsOf updates) (stridesOf updates) (extentsOf dest) (stridesOf dest) (now (window .entry)) (now (inserted .entry)) (now (map .entry)) vector) ⌝ }
+    kept: &[u64],
+    batch: &[u64],
+    starts: &[u64],
+) -> Examined
+    requires { ⌜ Fitting (scatterFrom (now «index_extents») (now «index_strides») (now «updates_extents») (now «updates_strides») (now «dest_extents») (now «dest_strides») (now window) (now inserted) (now map) vector) × Listed (scatterFrom (now «index_extents») (now «index_strides») (now «updates_extents») (now «updates_strides») (now «dest_extents») (now «dest_strides») (now window) (now inserted) (now map) vector) (now kept) (now batch) (now starts) × Counted (scatterFrom (now «index_extents») (now «index_strides») (now «updates_extents») (now «updates_strides») (now «dest_extents») (now «dest_strides») (now window) (now inserted) (now map) vector) ⌝ }
+    ensures { λ r. ⌜ r ≡ walked (walksRefusal (scatterFrom (now («index_extents» .entry)) (now («index_strides» .entry)) (now («updates_extents» .entry)) (now («updates_strides» .entry)) (now («dest_extents» .entry)) (now («dest_strides» .entry)) (now (window .entry)) (now (inserted .entry)) (now (map .entry)) vector)) (batchWalk (scatterFrom (now («index_extents» .entry)) (now («index_strides» .entry)) (now («updates_extents» .entry)) (now («updates_strides» .entry)) (now («dest_extents» .entry)) (now («dest_strides» .entry)) (now (window .entry)) (now (inserted .entry)) (now (map .entry)) vector)) (windowWalk (scatterFrom (now («index_extents» .entry)) (now («index_strides» .entry)) (now («updates_extents» .entry)) (now («updates_strides» .entry)) (now («dest_extents» .entry)) (now («dest_strides» .entry)) (now (window .entry)) (now (inserted .entry)) (now (map .entry)) vector)) ⌝ }
 {
-    let a = check_windows(updates, dest, window, inserted);
-    let b = check_products(updates, window);
-    let batch = batch_walk(index, updates, window, vector);
-    let cells = window_walk(updates, dest, window, inserted);
-    let c = batch.answer;
-    let d = cells.answer;
-    let starts = axis_lists::strides_of(index);
-    let stride = axis_lists::step_at(starts, vector);
-    let e = gather_checks::check_components(stride, map.len() as u64);
-    let walks = checks::or_else(c, checks::or_else(d, e));
-    checks::or_else(a, checks::or_else(b, walks))
+    let a = check_windows(dest_extents, kept, window, updates_extents);
+    let b = check_product(batch, updates_extents);
+    let c = check_product(window, updates_extents);
+    let batches = walk_along(
+        batch,
+        updates_extents,
+        starts,
+        index_strides,
+        batch,
+        updates_strides,
+    );
+    let cells = walk_along(
+        window,
+        updates_extents,
+        window,
+        updates_strides,
+        kept,
+        dest_strides,
+    );
+    let d = batches.answer;
+    let e = cells.answer;
+    let stride = axis_lists::stride_at(index_strides, vector);
+    let f = gather_checks::check_components(stride, map.len() as u64);
+    let walks = checks::or_else(d, checks::or_else(e, f));
+    let answer = checks::or_else(a, checks::or_else(b, checks::or_else(c, walks)));
+    if !layout::is_done(answer) {
+        return refused(answer);
+    }
+    let from_batch = batches.replay;
+    let from_cell = cells.replay;
+    Examined {
+        answer,
+        batch: from_batch,
+        window: from_cell,
+    }
 }
 
 // What is asked of layouts that neither 1 nor 2 refuses.
-fn check_plan(
-    index: Layout,
-    updates: Layout,
-    dest: Layout,
+fn examine_plan(
+    index_extents: &[u64],
+    index_strides: &[i64],
+    updates_extents: &[u64],
+    updates_strides: &[i64],
+    dest_extents: &[u64],
+    dest_strides: &[i64],
     window: &[u64],
     inserted: &[u64],
     map: &[u64],
     vector: u64,
     nested: bool,
-) -> Answer
-    ensures { λ r. ⌜ r ≡ orElse (specRefusal nested (scatterFrom (extentsOf index) (stridesOf index) (extentsOf updates) (stridesOf updates) (extentsOf dest) (stridesOf dest) (now (window .entry)) (now (inserted .entry)) (now (map .entry)) vector)) (walksRefusal (scatterFrom (extentsOf index) (stridesOf index) (extentsOf updates) (stridesOf updates) (extentsOf dest) (stridesOf dest) (now (window .entry)) (now (inserted .entry)) (now (map .entry)) vector)) ⌝ }
+    kept: &[u64],
+    batch: &[u64],
+    starts: &[u64],
+) -> Examined
+    requires { ⌜ Fitting (scatterFrom (now «index_extents») (now «index_strides») (now «updates_extents») (now «updates_strides») (now «dest_extents») (now «dest_strides») (now window) (now inserted) (now map) vector) × Listed (scatterFrom (now «index_extents») (now «index_strides») (now «updates_extents») (now «updates_strides») (now «dest_extents») (now «dest_strides») (now window) (now inserted) (now map) vector) (now kept) (now batch) (now starts) ⌝ }
+    ensures { λ r. ⌜ r ≡ walked (orElse (specRefusal nested (scatterFrom (now («index_extents» .entry)) (now («index_strides» .entry)) (now («updates_extents» .entry)) (now («updates_strides» .entry)) (now («dest_extents» .entry)) (now («dest_strides» .entry)) (now (window .entry)) (now (inserted .entry)) (now (map .entry)) vector)) (walksRefusal (scatterFrom (now («index_extents» .entry)) (now («index_strides» .entry)) (now («updates_extents» .entry)) (now («updates_strides» .entry)) (now («dest_extents» .entry)) (now («dest_strides» .entry)) (now (window .entry)) (now (inserted .entry)) (now (map .entry)) vector))) (batchWalk (scatterFrom (now («index_extents» .entry)) (now («index_strides» .entry)) (now («updates_extents» .entry)) (now («updates_strides» .entry)) (now («dest_extents» .entry)) (now («dest_strides» .entry)) (now (window .entry)) (now (inserted .entry)) (now (map .entry)) vector)) (windowWalk (scatterFrom (now («index_extents» .entry)) (now («index_strides» .entry)) (now («updates_extents» .entry)) (now («updates_strides» .entry)) (now («dest_extents» .entry)) (now («dest_strides» .entry)) (now (window .entry)) (now (inserted .entry)) (now (map .entry)) vector)) ⌝ }
 {
-    let spec = check_spec(index, updates, dest, window, inserted, map, vector, nested);
+    let spec = check_spec(
+        index_extents,
+        index_strides,
+        updates_extents,
+        updates_strides,
+        dest_extents,
+        dest_strides,
+        window,
+        inserted,
+        map,
+        vector,
+        nested,
+        kept,
+        batch,
+        starts,
+    );
     if !layout::is_done(spec) {
-        return spec;
+        return refused(spec);
     }
-    check_walks(index, updates, dest, window, inserted, map, vector)
+    examine_walks(
+        index_extents,
+        index_strides,
+        updates_extents,
+        updates_strides,
+        dest_extents,
+        dest_strides,
+        window,
+        inserted,
+        map,
+        vector,
+        kept,
+        batch,
+        starts,
+    )
 }
 
-// The layout of these extents and strides; where they are refused, the one of no axes.
-fn layout_of(extents: &[u64], strides: &[i64]) -> Layout
-    ensures { λ r. ⌜ r ≡ layoutFrom (now (extents .entry)) (now (strides .entry)) .layout ⌝ }
+// The first refusal of a scatter in document 01's order, or Done with the two walks; 4 is tried where `nested` says so.
+pub fn examine(
+    index_extents: &[u64],
+    index_strides: &[i64],
+    updates_extents: &[u64],
+    updates_strides: &[i64],
+    dest_extents: &[u64],
+    dest_strides: &[i64],
+    update_window_dims: &[u64],
+    inserted_window_dims: &[u64],
+    scatter_dims_to_operand_dims: &[u64],
+    index_vector_dim: u64,
+    nested: bool,
+) -> Examined
+    ensures { λ r. ⌜ r ≡ examined nested (scatterFrom (now («index_extents» .entry)) (now («index_strides» .entry)) (now («updates_extents» .entry)) (now («updates_strides» .entry)) (now («dest_extents» .entry)) (now («dest_strides» .entry)) (now («update_window_dims» .entry)) (now («inserted_window_dims» .entry)) (now («scatter_dims_to_operand_dims» .entry)) «index_vector_dim») ⌝ }
 {
-    let made = layout::make_layout(extents, strides);
-    made.layout
+    let layouts = gather_checks::check_layouts(
+        index_extents.len(),
+        index_strides.len(),
+        updates_extents.len(),
+        updates_strides.len(),
+        dest_extents.len(),
+        dest_strides.len(),
+    );
+    if !layout::is_done(layouts) {
+        return refused(layouts);
+    }
+    let one = [index_vector_dim];
+    let others = axis_lists::other_axes(dest_extents.len(), inserted_window_dims);
+    let apart = axis_lists::other_axes(updates_extents.len(), update_window_dims);
+    let rest = axis_lists::other_axes(index_extents.len(), &one);
+    let kept = others.entries;
+    let batch = apart.entries;
+    let starts = rest.entries;
+    let n = others.count;
+    let m = apart.count;
+    let k = rest.count;
+    examine_plan(
+        index_extents,
+        index_strides,
+        updates_extents,
+        updates_strides,
+        dest_extents,
+        dest_strides,
+        update_window_dims,
+        inserted_window_dims,
+        scatter_dims_to_operand_dims,
+        index_vector_dim,
+        nested,
+        &kept[0..n],
+        &batch[0..m],
+        &starts[0..k],
+    )
 }
 
-// The first refusal of a scatter in document 01's order, or Done; 4 is tried where `nested` says so.
+// The answer alone.
 pub fn scatter_refusal(
     index_extents: &[u64],
     index_strides: &[i64],
@@ -314,26 +426,18 @@ pub fn scatter_refusal(
 ) -> Answer
     ensures { λ r. ⌜ r ≡ refusalOf nested (scatterFrom (now («index_extents» .entry)) (now («index_strides» .entry)) (now («updates_extents» .entry)) (now («updates_strides» .entry)) (now («dest_extents» .entry)) (now («dest_strides» .entry)) (now («update_window_dims» .entry)) (now («inserted_window_dims» .entry)) (now («scatter_dims_to_operand_dims» .entry)) «index_vector_dim») ⌝ }
 {
-    let layouts = gather_checks::check_layouts(
-        index_extents.len(),
-        index_strides.len(),
-        updates_extents.len(),
-        updates_strides.len(),
-        dest_extents.len(),
-        dest_strides.len(),
-    );
-    let index = layout_of(index_extents, index_strides);
-    let updates = layout_of(updates_extents, updates_strides);
-    let dest = layout_of(dest_extents, dest_strides);
-    let rest = check_plan(
-        index,
-        updates,
-        dest,
+    let found = examine(
+        index_extents,
+        index_strides,
+        updates_extents,
+        updates_strides,
+        dest_extents,
+        dest_strides,
         update_window_dims,
         inserted_window_dims,
         scatter_dims_to_operand_dims,
         index_vector_dim,
         nested,
     );
-    checks::or_else(layouts, rest)
+    found.answer
 }

@@ -1,5 +1,5 @@
 -- What is known of a scatter that is not refused: its lists fit, its numbers fit, its walks are done, and what the code makes is its plan. Assumes nothing.
-use mathlib.Core.Path.{_≡_, refl, sym, ap, subst, _∙_}
+use mathlib.Core.Path.{_≡_, refl, sym, ap, _∙_}
 use mathlib.Core.Bool.{Bool, true, false, cond}
 use mathlib.Core.List.{List, []}
 use Prim.Native.Nat.{ℕ, _<_, _≤_, min}
@@ -31,12 +31,15 @@ use Rattle.gather_checks.proofs.Made.{or-done, same-length, few-axes}
 use Rattle.gather_plan.specs.Made.{valueOf, valueOfU, offsetOr, totalOr}
 use Rattle.gather_plan.proofs.Lists.{unique-axes, axes-few, tabulate-same}
 use Rattle.gather_plan.proofs.Accepted.{first-each}
-use Rattle.scatter_checks.specs.Refusals.{scatterFrom, numbersRefusal, listsRefusal, countAtMost, countsRefusal, batchRefusal, specRefusal, batchWalk, windowWalk, walksRefusal, Counted, refusalOf}
+use Rattle.replay.specs.Replays.{refusedReplay}
+use Rattle.scatter_checks.specs.Refusals.{scatterFrom, numbersRefusal, listsRefusal, countAtMost, countsRefusal, batchRefusal, specRefusal, batchWalk, windowWalk, walksRefusal, Fitting, Counted, refusalOf}
+use Rattle.scatter_checks.specs.declared.Examined.{Examined}
+use Rattle.scatter_checks.specs.Examine.{examined}
 use Rattle.scatter_checks.proofs.Counts.{counted}
 use Rattle.scatter_plan.specs.declared.ScatterPlan.{ScatterPlan}
 use Rattle.scatter_plan.specs.declared.CompiledScatter.{CompiledScatter}
 use Rattle.scatter_plan.specs.Plan.{planOf, refusedPlan, refusedScatter, compiledScatter}
-use Rattle.scatter_plan.specs.Made.{madeWith, planMade}
+use Rattle.scatter_plan.specs.Made.{made}
 
 -- ---- a number that was accepted is the number
 total-fits : (ds : List ℕ) → isDone (totalFits (totalOf ds)) ≡ true → totalOf ds ≡ U.Fits (product ds)
@@ -208,9 +211,12 @@ module _ (s : Scatter) where
         window-done = done-is (windowWalk s .answer) (p .window-walk);
       }
 
+  pub fitting : Accepted → Fitting s
+  fitting p = record { index = p .index-strides; updates = p .updates-strides; dest = p .dest-strides; index-few = p .index-rank; updates-few = p .updates-rank; dest-few = p .dest-rank }
+
   -- WHAT THE CODE MAKES is the plan
-  pub planned : Accepted → madeWith (layoutOf (s .indices .extents) (s .indices .strides)) (layoutOf (s .updates .extents) (s .updates .strides)) (layoutOf (s .result .extents) (s .result .strides)) s ≡ planOf s
-  unfolding madeWith
+  pub planned : Accepted → made s ≡ planOf s
+  unfolding made
   planned p =
       let map = s .spec .scatter-dims-to-operand-dims in
       let stride = vectorStride (s .indices) (s .spec .index-vector-dim) in
@@ -260,19 +266,21 @@ module _ (ie : List ℕ) (is : List ℤ) (ue : List ℕ) (us : List ℤ) (de : L
         let g = strides-back d de ds ed (p .dest-strides) (p .dest-rank) in
         λ j. scatterFrom (a j) (b j) (c j) (e j) (f j) (g j) window inserted map vector
 
-    -- what the walks need of them
-    pub counted-read : Counted (scatterFrom (extentsOf i) (stridesOf i) (extentsOf u) (stridesOf u) (extentsOf d) (stridesOf d) window inserted map vector)
-    counted-read = subst Counted (sym given-read) (p .counts)
+-- compile answers with the plan
+pub compiled-with : (nested : Bool) (s : Scatter) (x : Answer) (plan : ScatterPlan) → x ≡ refusalOf nested s → isDone x ≡ true → plan ≡ made s → record { answer = x; plan = plan } ≡ compiledScatter nested s
+unfolding compiledScatter
+compiled-with nested s x plan e f q =
+    let t : isDone (refusalOf nested s) ≡ true = ap isDone (sym e) ∙ f in
+    let r : plan ≡ planOf s = q ∙ planned s (accepted s nested t) in
+    let c : cond (isDone (refusalOf nested s)) (planOf s) refusedPlan ≡ planOf s = ap (λ (b : Bool). cond b (planOf s) refusedPlan) t in
+    λ j. record { answer = e j; plan = (r ∙ sym c) j }
 
-    -- and compile answers with the plan
-    pub compiled-with : (nested : Bool) (x : Answer) (plan : ScatterPlan) → x ≡ refusalOf nested given → isDone x ≡ true → plan ≡ planMade i u d window inserted map vector
-        → record { answer = x; plan = plan } ≡ compiledScatter nested given
-    unfolding compiledScatter
-    compiled-with nested x plan e f q =
-        let t : isDone (refusalOf nested given) ≡ true = ap isDone (sym e) ∙ f in
-        let r : plan ≡ planOf given = q ∙ (λ j. madeWith (ei j) (eu j) (ed j) (given-read j)) ∙ planned given p in
-        let c : cond (isDone (refusalOf nested given)) (planOf given) refusedPlan ≡ planOf given = ap (λ (b : Bool). cond b (planOf given) refusedPlan) t in
-        λ j. record { answer = e j; plan = (r ∙ sym c) j }
+-- what was examined gives the walks
+pub walks-found : (nested : Bool) (s : Scatter) (x : Examined) → x ≡ examined nested s → isDone (x .answer) ≡ true → (x .batch ≡ batchWalk s .replay) × (x .window ≡ windowWalk s .replay)
+unfolding examined
+walks-found nested s x e d =
+    let t : isDone (refusalOf nested s) ≡ true = sym (ap (λ (y : Examined). isDone (y .answer)) e) ∙ d in
+    (ap (λ (y : Examined). y .batch) e ∙ ap (λ (b : Bool). cond b (batchWalk s .replay) (refusedReplay .replay)) t, ap (λ (y : Examined). y .window) e ∙ ap (λ (b : Bool). cond b (windowWalk s .replay) (refusedReplay .replay)) t)
 
 -- a scatter that is refused
 pub refused-with : (nested : Bool) (s : Scatter) (r : CompiledScatter) (x : Answer) → r ≡ refusedScatter x → x ≡ refusalOf nested s → isDone x ≡ false → r ≡ compiledScatter nested s

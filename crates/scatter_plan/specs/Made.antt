@@ -1,26 +1,23 @@
--- What the code makes of any layouts and spec, where a number that does not fit counts as 0. Of a scatter that is not refused it is
+-- What the code makes of layouts that 1 and 2 let pass and any spec, where a number that does not fit counts as 0. Of a scatter that is not refused it is
 -- the plan. Definitions only.
-use mathlib.Core.List.{List}
-use Prim.Native.Nat.{ℕ, min}
+use Prim.Native.Nat.{min}
 use lib.ListN.{length, take}
 use lib.IntN.{pos}
 use Rattle.indexing.specs.Coordinates.{pick, tabulate}
 use Rattle.indexing.specs.Scatter.{Scatter, batchShape, windowShape, windows}
 use Rattle.indexing.specs.Steps.{vectorStride}
-use Rattle.layout.specs.declared.Layout.{Layout}
-use Rattle.layout.specs.Layouts.{rankLimit, extentsOf, stridesOf}
+use Rattle.layout.specs.Layouts.{rankLimit, layoutOf}
 use Rattle.axis_lists.specs.Held.{heldNumbers, heldSteps}
 use Rattle.gather_plan.specs.Made.{offsetOr, totalOr}
-use Rattle.scatter_checks.specs.Refusals.{scatterFrom, batchWalk, windowWalk}
+use Rattle.scatter_checks.specs.Refusals.{batchWalk, windowWalk}
 use Rattle.scatter_plan.specs.declared.ScatterPlan.{ScatterPlan}
 
--- of a scatter, with its layouts as they are held
-unfoldable pub madeWith : Layout → Layout → Layout → Scatter → ScatterPlan
-madeWith i u d s =
+unfoldable pub made : Scatter → ScatterPlan
+made s =
     record {
-      index = i;
-      updates = u;
-      dest = d;
+      index = layoutOf (s .indices .extents) (s .indices .strides);
+      updates = layoutOf (s .updates .extents) (s .updates .strides);
+      dest = layoutOf (s .result .extents) (s .result .strides);
       «update_window_dims» = heldNumbers (s .spec .update-window-dims);
       «inserted_window_dims» = heldNumbers (s .spec .inserted-window-dims);
       «scatter_dims_to_operand_dims» = heldNumbers (s .spec .scatter-dims-to-operand-dims);
@@ -33,7 +30,3 @@ madeWith i u d s =
       batches = totalOr (batchShape s);
       cells = totalOr (windowShape s);
     }
-
-abbrev pub planMade : Layout → Layout → Layout → List ℕ → List ℕ → List ℕ → ℕ → ScatterPlan
-planMade i u d window inserted map vector =
-    madeWith i u d (scatterFrom (extentsOf i) (stridesOf i) (extentsOf u) (stridesOf u) (extentsOf d) (stridesOf d) window inserted map vector)

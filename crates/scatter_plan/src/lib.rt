@@ -6,13 +6,13 @@ ghost use Prim.Native.Nat.{_≤_};
 ghost use lib.ListN.{length};
 ghost use Rattle.integer.specs.Defs.{eqZ};
 ghost use Rattle.indexing.specs.Coordinates.{pick, spread, others};
-ghost use Rattle.layout.specs.Layouts.{rankLimit, extentsOf, stridesOf};
-ghost use Rattle.axis_lists.specs.Held.{numbersOf, heldNumbers};
+ghost use Rattle.layout.specs.Layouts.{rankLimit};
+ghost use Rattle.axis_lists.specs.Held.{heldNumbers};
 ghost use Rattle.gather_plan.specs.Made.{totalOr};
 ghost use Rattle.gather_plan.specs.Same.{sameBy};
-ghost use Rattle.scatter_checks.specs.Refusals.{scatterFrom, Counted};
+ghost use Rattle.scatter_checks.specs.Refusals.{scatterFrom, batchWalk, windowWalk, Fitting};
 ghost use Rattle.scatter_plan.specs.Plan.{refusedScatter, compiledScatter, heldScatter};
-ghost use Rattle.scatter_plan.specs.Made.{planMade};
+ghost use Rattle.scatter_plan.specs.Made.{made};
 ghost use Rattle.scatter_plan.specs.Same.{sameStep, sameSpans, sameReplay, sameRows, sameLayouts, sameSpec, sameWalks, sameStarts, samePlan, hasRows, isCompiled};
 use axis_lists::Numbers;
 use axis_lists::Steps;
@@ -90,72 +90,75 @@ fn refused(answer: Answer) -> CompiledScatter
     }
 }
 
-// The product of a list, and 0 where it does not fit.
-fn product_value(list: Numbers) -> u64
-    ensures { λ r. ⌜ r ≡ totalOr (numbersOf list) ⌝ }
+// The product of the extents on the axes, and 0 where it does not fit.
+fn product_value(axes: &[u64], list: &[u64]) -> u64
+    requires { ⌜ length (now axes) ≤ rankLimit ⌝ }
+    ensures { λ r. ⌜ r ≡ totalOr (pick 0 (now (axes .entry)) (now (list .entry))) ⌝ }
 {
-    let entries = list.entries;
-    let total = spans::checked_total_len(entries, list.count);
+    let sizes = scatter_checks::picked_extents(axes, list);
+    let n = axes.len();
+    let total = spans::total_of(&sizes[0..n]);
     match total {
-        CheckedU::Fits(n) => n,
+        CheckedU::Fits(m) => m,
         CheckedU::Overflow => 0,
     }
 }
 
 // How many batches: the product of the updates' extents on their other axes.
-fn batch_count(updates: Layout, window: &[u64]) -> u64
-    ensures { λ r. ⌜ r ≡ totalOr (pick 0 (others (length (extentsOf updates)) (now (window .entry))) (extentsOf updates)) ⌝ }
+fn batch_count(updates: &[u64], window: &[u64]) -> u64
+    requires { ⌜ length (now updates) ≤ rankLimit ⌝ }
+    ensures { λ r. ⌜ r ≡ totalOr (pick 0 (others (length (now (updates .entry))) (now (window .entry))) (now (updates .entry))) ⌝ }
 {
-    let shape = scatter_checks::other_extents(updates, window);
-    product_value(shape)
-}
-
-// How many cells a window has.
-fn cell_count(updates: Layout, window: &[u64]) -> u64
-    requires { ⌜ length (now window) ≤ rankLimit ⌝ }
-    ensures { λ r. ⌜ r ≡ totalOr (pick 0 (now (window .entry)) (extentsOf updates)) ⌝ }
-{
-    let shape = scatter_checks::listed_extents(updates, window);
-    product_value(shape)
+    let batch = axis_lists::other_axes(updates.len(), window);
+    let axes = batch.entries;
+    let n = batch.count;
+    product_value(&axes[0..n], updates)
 }
 
 // The window's extent on each operand axis, 1 on inserted ones.
-fn windows_of(updates: Layout, dest: Layout, window: &[u64], inserted: &[u64]) -> Numbers
-    requires { ⌜ length (now window) ≤ rankLimit ⌝ }
-    ensures { λ r. ⌜ r ≡ heldNumbers (spread 1 (length (extentsOf dest)) (others (length (extentsOf dest)) (now (inserted .entry))) (pick 0 (now (window .entry)) (extentsOf updates))) ⌝ }
+fn windows_of(dest: &[u64], updates: &[u64], window: &[u64], inserted: &[u64]) -> Numbers
+    requires { ⌜ (length (now dest) ≤ rankLimit) × (length (now window) ≤ rankLimit) ⌝ }
+    ensures { λ r. ⌜ r ≡ heldNumbers (spread 1 (length (now (dest .entry))) (others (length (now (dest .entry))) (now (inserted .entry))) (pick 0 (now (window .entry)) (now (updates .entry)))) ⌝ }
 {
-    let kept = axis_lists::other_axes(dest.rank, inserted);
-    let shape = scatter_checks::listed_extents(updates, window);
-    axis_lists::spread_numbers(dest.rank, kept, shape)
+    let kept = axis_lists::other_axes(dest.len(), inserted);
+    let axes = axis_lists::numbers_from(window);
+    let shape = axis_lists::pick_entries(axes, updates);
+    axis_lists::spread_numbers(dest.len(), kept, shape)
 }
 
-// The plan by the three layouts and the spec.
+// The plan by extents, strides, the spec and the two walks.
 fn plan_of(
-    index: Layout,
-    updates: Layout,
-    dest: Layout,
+    index_extents: &[u64],
+    index_strides: &[i64],
+    updates_extents: &[u64],
+    updates_strides: &[i64],
+    dest_extents: &[u64],
+    dest_strides: &[i64],
     window: &[u64],
     inserted: &[u64],
     map: &[u64],
     vector: u64,
+    from_batch: WindowReplay,
+    from_cell: WindowReplay,
 ) -> ScatterPlan
-    requires { ⌜ Counted (scatterFrom (extentsOf index) (stridesOf index) (extentsOf updates) (stridesOf updates) (extentsOf dest) (stridesOf dest) (now window) (now inserted) (now map) vector) ⌝ }
-    ensures { λ r. ⌜ r ≡ planMade index updates dest (now (window .entry)) (now (inserted .entry)) (now (map .entry)) vector ⌝ }
+    requires { ⌜ Fitting (scatterFrom (now «index_extents») (now «index_strides») (now «updates_extents») (now «updates_strides») (now «dest_extents») (now «dest_strides») (now window) (now inserted) (now map) vector) × (length (now window) ≤ rankLimit) × («from_batch» ≡ batchWalk (scatterFrom (now «index_extents») (now «index_strides») (now «updates_extents») (now «updates_strides») (now «dest_extents») (now «dest_strides») (now window) (now inserted) (now map) vector) .replay) × («from_cell» ≡ windowWalk (scatterFrom (now «index_extents») (now «index_strides») (now «updates_extents») (now «updates_strides») (now «dest_extents») (now «dest_strides») (now window) (now inserted) (now map) vector) .replay) ⌝ }
+    ensures { λ r. ⌜ r ≡ made (scatterFrom (now («index_extents» .entry)) (now («index_strides» .entry)) (now («updates_extents» .entry)) (now («updates_strides» .entry)) (now («dest_extents» .entry)) (now («dest_strides» .entry)) (now (window .entry)) (now (inserted .entry)) (now (map .entry)) vector) ⌝ }
 {
-    let batch = scatter_checks::batch_walk(index, updates, window, vector);
-    let cell = scatter_checks::window_walk(updates, dest, window, inserted);
-    let windows = windows_of(updates, dest, window, inserted);
-    let starts = axis_lists::strides_of(index);
-    let stride = axis_lists::step_at(starts, vector);
+    let first = layout::make_layout(index_extents, index_strides);
+    let second = layout::make_layout(updates_extents, updates_strides);
+    let third = layout::make_layout(dest_extents, dest_strides);
+    let index = first.layout;
+    let updates = second.layout;
+    let dest = third.layout;
+    let windows = windows_of(dest_extents, updates_extents, window, inserted);
+    let stride = axis_lists::stride_at(index_strides, vector);
     let offsets = gather_plan::component_offsets(stride, map.len());
     let strides = gather_plan::component_strides(dest, map);
     let a = axis_lists::numbers_from(window);
     let b = axis_lists::numbers_from(inserted);
     let c = axis_lists::numbers_from(map);
-    let batches = batch_count(updates, window);
-    let cells = cell_count(updates, window);
-    let from_batch = batch.replay;
-    let from_cell = cell.replay;
+    let batches = batch_count(updates_extents, window);
+    let cells = product_value(window, updates_extents);
     ScatterPlan {
         index,
         updates,
@@ -190,7 +193,7 @@ pub fn compile(
 ) -> CompiledScatter
     ensures { λ r. ⌜ r ≡ compiledScatter nested (scatterFrom (now («index_extents» .entry)) (now («index_strides» .entry)) (now («updates_extents» .entry)) (now («updates_strides» .entry)) (now («dest_extents» .entry)) (now («dest_strides» .entry)) (now («update_window_dims» .entry)) (now («inserted_window_dims» .entry)) (now («scatter_dims_to_operand_dims» .entry)) «index_vector_dim») ⌝ }
 {
-    let answer = scatter_checks::scatter_refusal(
+    let found = scatter_checks::examine(
         index_extents,
         index_strides,
         updates_extents,
@@ -203,23 +206,25 @@ pub fn compile(
         index_vector_dim,
         nested,
     );
+    let answer = found.answer;
     if !layout::is_done(answer) {
         return refused(answer);
     }
-    let first = layout::make_layout(index_extents, index_strides);
-    let second = layout::make_layout(updates_extents, updates_strides);
-    let third = layout::make_layout(dest_extents, dest_strides);
-    let index = first.layout;
-    let updates = second.layout;
-    let dest = third.layout;
+    let from_batch = found.batch;
+    let from_cell = found.window;
     let plan = plan_of(
-        index,
-        updates,
-        dest,
+        index_extents,
+        index_strides,
+        updates_extents,
+        updates_strides,
+        dest_extents,
+        dest_strides,
         update_window_dims,
         inserted_window_dims,
         scatter_dims_to_operand_dims,
         index_vector_dim,
+        from_batch,
+        from_cell,
     );
     CompiledScatter { answer, plan }
 }

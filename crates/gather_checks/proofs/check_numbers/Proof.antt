@@ -2,59 +2,45 @@ use borrow.Author.Needs.{needs}
 use Rattle.gather_checks.proofs.check_numbers.Statement.{statement}
 use Rattle.gather_checks.proofs.check_numbers.Tie as tie
 
--- src/lib.rt:33:9
 check-total-requires : tie.Need-check-total-requires
 check-total-requires c κs = search needs
 
--- src/lib.rt:34:9
 check-total-requires-2 : tie.Need-check-total-requires-2
 check-total-requires-2 c κs = search needs
 
--- src/lib.rt:35:9
 check-total-requires-3 : tie.Need-check-total-requires-3
 check-total-requires-3 c κs = search needs
 
--- src/lib.rt:36:9
 check-span-requires : tie.Need-check-span-requires
 check-span-requires c κs = search needs
 
--- src/lib.rt:37:9
 check-span-requires-2 : tie.Need-check-span-requires-2
 check-span-requires-2 c κs = search needs
 
--- src/lib.rt:38:9
 check-span-requires-3 : tie.Need-check-span-requires-3
 check-span-requires-3 c κs = search needs
 
--- src/lib.rt:39:9
 check-nested-requires : tie.Need-check-nested-requires
 check-nested-requires c κs = search needs
 
--- src/lib.rt:40:55
 or-else-requires : tie.Need-or-else-requires
 or-else-requires c κs = search needs
 
--- src/lib.rt:40:36
 or-else-requires-2 : tie.Need-or-else-requires-2
 or-else-requires-2 c κs = search needs
 
--- src/lib.rt:40:9
 or-else-requires-3 : tie.Need-or-else-requires-3
 or-else-requires-3 c κs = search needs
 
--- src/lib.rt:41:43
 or-else-requires-4 : tie.Need-or-else-requires-4
 or-else-requires-4 c κs = search needs
 
--- src/lib.rt:41:24
 or-else-requires-5 : tie.Need-or-else-requires-5
 or-else-requires-5 c κs = search needs
 
--- src/lib.rt:41:5
 or-else-requires-6 : tie.Need-or-else-requires-6
 or-else-requires-6 c κs = search needs
 
--- src/lib.rt:30:1
 returns : tie.Need-returns
 returns c = rw (c .or-else6 .ensures, c .before .or-else5 .ensures, c .before .before .or-else4 .ensures, c .before .before .before .or-else3 .ensures, c .before .before .before .before .or-else2 .ensures, c .before .before .before .before .before .or-else .ensures, c .before .before .before .before .before .before .check-nested .ensures, c .before .before .before .before .before .before .before .check-span3 .ensures, c .before .before .before .before .before .before .before .before .check-span2 .ensures, c .before .before .before .before .before .before .before .before .before .check-span .ensures, c .before .before .before .before .before .before .before .before .before .before .check-total3 .ensures, c .before .before .before .before .before .before .before .before .before .before .before .check-total2 .ensures, c .before .before .before .before .before .before .before .before .before .before .before .before .check-total .ensures)
 

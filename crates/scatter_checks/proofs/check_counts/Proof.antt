@@ -1,21 +1,6 @@
-use mathlib.Core.Path.{_≡_}
-use lib.ListN.{length}
-use Rattle.gather_checks.proofs.Read.{extents-length}
 use borrow.Author.Needs.{needs}
 use Rattle.scatter_checks.proofs.check_counts.Statement.{statement}
 use Rattle.scatter_checks.proofs.check_counts.Tie as tie
-
-eights : (s : tie.Start) → (length (s .args .dest .extents) ≡ 8) × (length (s .args .updates .extents) ≡ 8)
-eights s = (search needs, search needs)
-
-axis-count-requires : tie.Need-axis-count-requires
-axis-count-requires c κs = search needs
-
-other-axes-requires : tie.Need-other-axes-requires
-other-axes-requires c κs = search needs
-
-start-extents-requires : tie.Need-start-extents-requires
-start-extents-requires c κs = search needs
 
 less-requires : tie.Need-less-requires
 less-requires c κs = search needs
@@ -42,19 +27,12 @@ or-else-requires-3 : tie.Need-or-else-requires-3
 or-else-requires-3 c κs = search needs
 
 returns : tie.Need-returns
-returns c =
-    let s = c .before .before .before .before .before .before .before .before .before .before .before .before .before in
-    let e = eights s .0 in
-    let g = eights s .1 in
-    rw (c .or-else3 .ensures, c .before .or-else2 .ensures, c .before .before .or-else .ensures, c .before .before .before .validate-unique-axes .ensures, c .before .before .before .before .check-same-count2 .ensures, c .before .before .before .before .before .check-at-most .ensures, c .before .before .before .before .before .before .check-same-count .ensures, c .before .before .before .before .before .before .before .less .ensures, c .before .before .before .before .before .before .before .before .start-extents .ensures, c .before .before .before .before .before .before .before .before .before .other-axes .ensures, c .before .before .before .before .before .before .before .before .before .before .axis-count .ensures, extents-length (s .args .dest) e, extents-length (s .args .updates) g)
+returns c = rw (c .or-else3 .ensures, c .before .or-else2 .ensures, c .before .before .or-else .ensures, c .before .before .before .validate-unique-axes .ensures, c .before .before .before .before .check-same-count2 .ensures, c .before .before .before .before .before .check-at-most .ensures, c .before .before .before .before .before .before .check-same-count .ensures, c .before .before .before .before .before .before .before .less .ensures)
 
 pub check-counts-spec : {M : Type 1} → statement M
 check-counts-spec =
     tie.close
     (tie.spec
-    axis-count-requires
-    other-axes-requires
-    start-extents-requires
     less-requires
     check-same-count-requires
     check-at-most-requires

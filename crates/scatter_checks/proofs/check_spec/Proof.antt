@@ -1,8 +1,41 @@
-use mathlib.Core.Path.{ap₂, _∙_}
+use mathlib.Core.Path.{_≡_, ap, ap₂, _∙_}
+use mathlib.Core.Bool.{cond}
+use mathlib.Core.List.{List, []}
+use Prim.Native.Nat.{ℕ, _-_}
+use lib.ListN.{length}
+use Rattle.indexing.specs.Coordinates.{pick}
+use Rattle.indexing.specs.Scatter.{Scatter, scatterDims, windowDims}
+use Rattle.layout.specs.declared.Answer.the-variants as A
 use Rattle.layout.specs.Answers.{orElse}
+use Rattle.layout.specs.Lists.{uniqueAxes}
+use Rattle.axis_lists.specs.Held.{sameList}
+use Rattle.checks.specs.Checks.{sameCount}
+use Rattle.scatter_checks.specs.Refusals.{scatterFrom, countAtMost, countsRefusal, batchRefusal}
+use Rattle.scatter_checks.proofs.Rest.{start-extents, start-count}
 use borrow.Author.Needs.{needs}
 use Rattle.scatter_checks.proofs.check_spec.Statement.{statement}
 use Rattle.scatter_checks.proofs.check_spec.Tie as tie
+
+-- the scatter of the arguments
+abbrev asked : tie.Start → Scatter
+asked s = scatterFrom (s .args .index-extents .now) (s .args .index-strides .now) (s .args .updates-extents .now) (s .args .updates-strides .now) (s .args .dest-extents .now) (s .args .dest-strides .now) (s .args .window .now) (s .args .inserted .now) (s .args .map .now) (s .args .vector)
+
+counts : (c : tie.After-check-counts) → c .check-counts .result ≡ countsRefusal (asked (c .before .before .before .before .before .before .before .before .before .before .before .before) .indices .extents) (asked (c .before .before .before .before .before .before .before .before .before .before .before .before) .updates .extents) (asked (c .before .before .before .before .before .before .before .before .before .before .before .before) .result .extents) (c .before .before .before .before .before .before .before .before .before .before .before .before .args .window .now) (c .before .before .before .before .before .before .before .before .before .before .before .before .args .inserted .now) (c .before .before .before .before .before .before .before .before .before .before .before .before .args .vector)
+unfolding windowDims
+counts c =
+    let s = c .before .before .before .before .before .before .before .before .before .before .before .before in
+    let w : ℕ = length (s .args .window .now) in
+    let n : ℕ = length (s .args .updates-extents .now) in
+    c .check-counts .ensures
+    ∙ ap₂ (λ (j k : ℕ). orElse (sameCount w j) (orElse (countAtMost w n) (orElse (sameCount (n - w) k) (uniqueAxes n [] (s .args .window .now))))) (ap length (s .pre .1 .kept)) (start-count (asked s) _ _ _ (s .pre .1))
+
+batches : (c : tie.After-check-batch) → c .check-batch .result ≡ batchRefusal (asked (c .before .before .before .before .before .before .before .before .before .before .before .before .before) .indices .extents) (asked (c .before .before .before .before .before .before .before .before .before .before .before .before .before) .updates .extents) (c .before .before .before .before .before .before .before .before .before .before .before .before .before .args .window .now) (c .before .before .before .before .before .before .before .before .before .before .before .before .before .args .vector)
+unfolding scatterDims
+batches c =
+    let s = c .before .before .before .before .before .before .before .before .before .before .before .before .before in
+    let n : ℕ = length (s .args .updates-extents .now) in
+    c .check-batch .ensures
+    ∙ ap₂ (λ (xs ys : List ℕ). cond (sameList (pick 0 xs (s .args .updates-extents .now)) ys) A.Done (A.ShapeMismatch n n)) (s .pre .1 .batches) (start-extents (asked s) _ _ _ (s .pre .1))
 
 check-numbers-requires : tie.Need-check-numbers-requires
 check-numbers-requires c κs = search needs
@@ -29,7 +62,7 @@ returns : tie.Need-returns
 returns c =
     c .or-else3 .ensures ∙ ap₂ orElse (c .before .before .before .before .before .before .check-numbers .ensures)
     (c .before .or-else2 .ensures ∙ ap₂ orElse (c .before .before .before .before .before .check-lists .ensures)
-    (c .before .before .or-else .ensures ∙ ap₂ orElse (c .before .before .before .before .check-counts .ensures) (c .before .before .before .check-batch .ensures)))
+    (c .before .before .or-else .ensures ∙ ap₂ orElse (counts (c .before .before .before .before)) (batches (c .before .before .before))))
 
 pub check-spec-spec : {M : Type 1} → statement M
 check-spec-spec =

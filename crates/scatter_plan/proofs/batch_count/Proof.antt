@@ -1,29 +1,43 @@
-use mathlib.Core.Path.{_≡_, ap, _∙_}
+use mathlib.Core.Path.{ap, _∙_}
+use mathlib.Core.List.{List}
+use Prim.Native.Nat.{ℕ}
 use native.Mathlib.Omega.{arith}
 use lib.ListN.{length}
-use Rattle.indexing.specs.Coordinates.{pick, others}
-use Rattle.indexing.specs.Axes.{length-pick}
-use Rattle.layout.specs.Layouts.{extentsOf}
-use Rattle.gather_checks.proofs.Shape.{held-read}
+use Rattle.indexing.specs.Coordinates.{pick}
+use Rattle.axis_lists.proofs.Filling.{length-others}
 use Rattle.gather_plan.specs.Made.{totalOr}
-use Rattle.scatter_checks.proofs.Read.{few-others}
+use Rattle.scatter_checks.proofs.Read.{others-few, others-part}
 use borrow.Author.Needs.{needs}
 use Rattle.scatter_plan.proofs.batch_count.Statement.{statement}
 use Rattle.scatter_plan.proofs.batch_count.Tie as tie
 
-other-extents-requires : tie.Need-other-extents-requires
-other-extents-requires c κs = search needs
+other-axes-requires : tie.Need-other-axes-requires
+other-axes-requires c κs = search needs
+
+sub-product-value : tie.Need-sub-product-value
+sub-product-value c = search needs
+
+part-product-value-start : tie.Need-part-product-value-start
+part-product-value-start c = search needs
+
+part-product-value-end : tie.Need-part-product-value-end
+part-product-value-end c = let s = c .before .before .before .before .before in others-few (length (s .args .updates .now)) (s .args .window .now) (c .before .before .other-axes .result) (s .pre) (c .before .before .other-axes .ensures)
 
 product-value-requires : tie.Need-product-value-requires
-product-value-requires c κs = search needs
+product-value-requires c κs = let s = c .before .before .before .before .before .before in omega (arith, ap length (others-part (length (s .args .updates .now)) (s .args .window .now) (c .before .before .before .other-axes .result) (s .pre) (c .before .before .before .other-axes .ensures)), length-others 0 (length (s .args .updates .now)) (s .args .window .now), s .pre)
 
 returns : tie.Need-returns
 returns c =
-    let s = c .before .before .before in
-    let e : length (s .args .updates .extents) ≡ 8 = search needs in
-    let axes = others (length (extentsOf (s .args .updates))) (s .args .window .now) in
-    c .product-value .ensures
-    ∙ ap totalOr (held-read (c .before .other-extents .result) (pick 0 axes (extentsOf (s .args .updates))) (c .before .other-extents .ensures) (omega (arith, length-pick 0 axes (extentsOf (s .args .updates)), few-others (s .args .updates) e (s .args .window .now))))
+    let s = c .before .before .before .before .before .before .before in
+    c .product-value .ensures ∙ ap (λ (axes : List ℕ). totalOr (pick 0 axes (s .args .updates .now))) (others-part (length (s .args .updates .now)) (s .args .window .now) (c .before .before .before .before .other-axes .result) (s .pre) (c .before .before .before .before .other-axes .ensures))
 
 pub batch-count-spec : {M : Type 1} → statement M
-batch-count-spec = tie.close (tie.spec other-extents-requires product-value-requires returns)
+batch-count-spec =
+    tie.close
+    (tie.spec
+    other-axes-requires
+    sub-product-value
+    part-product-value-start
+    part-product-value-end
+    product-value-requires
+    returns)

@@ -1,54 +1,40 @@
-use mathlib.Core.Path.{_≡_, ap, _∙_}
-use Prim.Native.Nat.{_≤_}
-use native.Mathlib.Omega.{arith}
-use lib.ListN.{length}
+use mathlib.Core.Path.{ap, _∙_}
+use mathlib.Core.List.{List}
+use Prim.Native.Nat.{min}
+use lib.ListN.{length, take}
+use lib.IntN.{ℤ, pos}
 use mir.Syntax.{w64}
 use mir.Val.{SFits}
 use Rattle.integer.specs.Z.{back}
-use Rattle.indexing.specs.Coordinates.{others}
-use Rattle.indexing.specs.Axes.{length-pick}
+use Rattle.indexing.specs.Coordinates.{pick, tabulate}
 use Rattle.indexing.specs.Scatter.{scatterDims, windowDims, batchShape, windowShape, windows}
-use Rattle.indexing.specs.Steps.{updateBatchSteps, updateWindowSteps, landSteps}
-use Rattle.layout.specs.Layouts.{rankLimit, extentsOf, stridesOf}
-use Rattle.axis_lists.specs.Held.{stepsOf}
-use Rattle.gather_checks.proofs.Read.{strides-read}
-use Rattle.scatter_checks.specs.Refusals.{batchWalk, windowWalk}
-use Rattle.scatter_checks.proofs.Read.{few-others}
-use Rattle.scatter_plan.specs.Made.{madeWith}
+use Rattle.layout.specs.Layouts.{rankLimit}
+use Rattle.axis_lists.specs.Held.{heldSteps}
+use Rattle.gather_checks.proofs.Made as M
+use Rattle.gather_plan.specs.Made.{offsetOr}
+use Rattle.gather_plan.proofs.Accepted.{strides-yes, rank-yes}
+use Rattle.scatter_plan.specs.Made.{made}
 use borrow.Author.Needs.{needs}
 use Rattle.scatter_plan.proofs.plan_of.Statement.{statement}
 use Rattle.scatter_plan.proofs.plan_of.Tie as tie
 
-few : (s : tie.Start) → length (s .args .window .now) ≤ rankLimit
-unfolding windowDims
-few s =
-    let e : length (s .args .dest .extents) ≡ 8 = search needs in
-    omega (arith, s .pre .window, few-others (s .args .dest) e (s .args .inserted .now))
-
-eight : (s : tie.Start) → length (s .args .index .strides) ≡ 8
-eight s = search needs
-
-fit : (w : tie.After-step-at) → SFits w64 (w .step-at .result)
+fit : (w : tie.After-stride-at) → SFits w64 (w .stride-at .result)
 fit w = search needs
 
-batch-walk-requires : tie.Need-batch-walk-requires
-unfolding batchShape scatterDims
-batch-walk-requires c κs =
-    let s = c .before .before .before in
-    s .pre .batch ∙ length-pick 0 (others (length (extentsOf (s .args .updates))) (s .args .window .now)) (extentsOf (s .args .updates))
+make-layout-requires : tie.Need-make-layout-requires
+make-layout-requires c κs = search needs
 
-window-walk-requires : tie.Need-window-walk-requires
-unfolding windowDims
-window-walk-requires c κs = c .before .before .before .before .pre .window
+make-layout-requires-2 : tie.Need-make-layout-requires-2
+make-layout-requires-2 c κs = search needs
+
+make-layout-requires-3 : tie.Need-make-layout-requires-3
+make-layout-requires-3 c κs = search needs
 
 windows-of-requires : tie.Need-windows-of-requires
-windows-of-requires c κs = few (c .before .before .before .before .before)
+windows-of-requires c κs = search needs
 
-strides-of-requires : tie.Need-strides-of-requires
-strides-of-requires c κs = search needs
-
-step-at-requires : tie.Need-step-at-requires
-step-at-requires c κs = search needs
+stride-at-requires : tie.Need-stride-at-requires
+stride-at-requires c κs = search needs
 
 component-offsets-requires : tie.Need-component-offsets-requires
 component-offsets-requires c κs = search needs
@@ -66,33 +52,59 @@ numbers-from-requires-3 : tie.Need-numbers-from-requires-3
 numbers-from-requires-3 c κs = search needs
 
 batch-count-requires : tie.Need-batch-count-requires
-batch-count-requires c κs = search needs
+batch-count-requires c κs = c .before .before .before .before .before .before .before .before .before .before .before .before .before .before .before .before .before .before .before .pre .0 .updates-few
 
-cell-count-requires : tie.Need-cell-count-requires
-cell-count-requires c κs = few (c .before .before .before .before .before .before .before .before .before .before .before .before .before .before)
+product-value-requires : tie.Need-product-value-requires
+product-value-requires c κs = c .before .before .before .before .before .before .before .before .before .before .before .before .before .before .before .before .before .before .before .before .pre .1
 
 returns : tie.Need-returns
-unfolding madeWith batchShape windowShape windows scatterDims windowDims batchWalk windowWalk updateBatchSteps updateWindowSteps landSteps
+unfolding made batchShape windowShape windows scatterDims windowDims
 returns c =
-    let s = c .before .before .before .before .before .before .before .before .before .before .before .before .before .before .before .before .before in
-    let f = fit (c .before .before .before .before .before .before .before .before .before) in
-    let t : stepsOf (c .before .before .before .before .before .before .before .before .before .before .strides-of .result) ≡ stridesOf (s .args .index) = ap stepsOf (c .before .before .before .before .before .before .before .before .before .before .strides-of .ensures) ∙ strides-read (s .args .index) (eight s) in
-    rw (c .before .before .cell-count .ensures, c .before .before .before .batch-count .ensures, c .before .before .before .before .numbers-from3 .ensures, c .before .before .before .before .before .numbers-from2 .ensures, c .before .before .before .before .before .before .numbers-from .ensures, c .before .before .before .before .before .before .before .component-strides .ensures, c .before .before .before .before .before .before .before .before .component-offsets .ensures, c .before .before .before .before .before .before .before .before .before .before .before .windows-of .ensures, c .before .before .before .before .before .before .before .before .before .before .before .before .window-walk .ensures, c .before .before .before .before .before .before .before .before .before .before .before .before .before .batch-walk .ensures, back f, c .before .before .before .before .before .before .before .before .before .step-at .ensures, t)
+    let s = c .before .before .before .before .before .before .before .before .before .before .before .before .before .before .before .before .before .before .before .before .before in
+    let f = s .pre .0 in
+    let i = M.made (s .args .index-extents .now) (s .args .index-strides .now) (c .before .before .before .before .before .before .before .before .before .before .before .before .before .before .make-layout .result) (c .before .before .before .before .before .before .before .before .before .before .before .before .before .before .make-layout .ensures) (strides-yes _ _ (f .index)) (rank-yes _ (f .index-few)) in
+    let u = M.made (s .args .updates-extents .now) (s .args .updates-strides .now) (c .before .before .before .before .before .before .before .before .before .before .before .before .before .make-layout2 .result) (c .before .before .before .before .before .before .before .before .before .before .before .before .before .make-layout2 .ensures) (strides-yes _ _ (f .updates)) (rank-yes _ (f .updates-few)) in
+    let d = M.made (s .args .dest-extents .now) (s .args .dest-strides .now) (c .before .before .before .before .before .before .before .before .before .before .before .before .make-layout3 .result) (c .before .before .before .before .before .before .before .before .before .before .before .before .make-layout3 .ensures) (strides-yes _ _ (f .dest)) (rank-yes _ (f .dest-few)) in
+    let t = M.made-strides (s .args .dest-extents .now) (s .args .dest-strides .now) (c .before .before .before .before .before .before .before .before .before .before .before .before .make-layout3 .result) (c .before .before .before .before .before .before .before .before .before .before .before .before .make-layout3 .ensures) (strides-yes _ _ (f .dest)) (rank-yes _ (f .dest-few)) in
+    let w = c .before .before .before .before .before .before .before .before .windows-of .ensures in
+    let o = c .before .before .before .before .before .before .component-offsets .ensures ∙ ap (λ (z : ℤ). heldSteps (tabulate (min (length (s .args .map .now)) rankLimit) (offsetOr z))) (back (fit (c .before .before .before .before .before .before .before)) ∙ c .before .before .before .before .before .before .before .stride-at .ensures) in
+    let r = c .before .before .before .before .before .component-strides .ensures ∙ ap (λ (l : List ℤ). heldSteps (pick (pos 0) (take rankLimit (s .args .map .now)) l)) t in
+    let x = c .before .before .before .before .numbers-from .ensures in
+    let y = c .before .before .before .numbers-from2 .ensures in
+    let z = c .before .before .numbers-from3 .ensures in
+    let b = c .before .batch-count .ensures in
+    let n = c .product-value .ensures in
+    λ j. record {
+      index = i j;
+      updates = u j;
+      dest = d j;
+      «update_window_dims» = x j;
+      «inserted_window_dims» = y j;
+      «scatter_dims_to_operand_dims» = z j;
+      «index_vector_dim» = s .args .vector;
+      batch = s .pre .2 j;
+      window = s .pre .3 j;
+      windows = w j;
+      «component_offsets» = o j;
+      «component_strides» = r j;
+      batches = b j;
+      cells = n j;
+    }
 
 pub plan-of-spec : {M : Type 1} → statement M
 plan-of-spec =
     tie.close
     (tie.spec
-    batch-walk-requires
-    window-walk-requires
+    make-layout-requires
+    make-layout-requires-2
+    make-layout-requires-3
     windows-of-requires
-    strides-of-requires
-    step-at-requires
+    stride-at-requires
     component-offsets-requires
     component-strides-requires
     numbers-from-requires
     numbers-from-requires-2
     numbers-from-requires-3
     batch-count-requires
-    cell-count-requires
+    product-value-requires
     returns)

@@ -1,11 +1,36 @@
-use mathlib.Core.Path.{sym, ap, _∙_}
+use mathlib.Core.Path.{_≡_, sym, ap, _∙_}
+use native.Mathlib.Omega.{arith}
+use lib.ListN.{length}
+use Rattle.indexing.specs.Coordinates.{pick}
+use Rattle.indexing.specs.Axes.{length-pick}
+use Rattle.layout.specs.Spans.{totalOf}
 use Rattle.gather_plan.specs.Made.{valueOfU}
+use Rattle.scatter_checks.proofs.Read.{filled-part}
 use borrow.Author.Needs.{needs}
 use Rattle.scatter_plan.proofs.product_value.Statement.{statement}
 use Rattle.scatter_plan.proofs.product_value.Tie as tie
 
-checked-total-len-requires : tie.Need-checked-total-len-requires
-checked-total-len-requires c κs = search needs
+total : (c : tie.After-total-of) → c .total-of .result ≡ totalOf (pick 0 (c .before .before .before .before .before .before .args .axes .now) (c .before .before .before .before .before .before .args .list .now))
+total c =
+    let x = c .before .before .before in
+    let s = c .before .before .before .before .before .before in
+    let n = length-pick 0 (s .args .axes .now) (s .args .list .now) in
+    c .total-of .ensures ∙ ap totalOf (filled-part 0 (length (s .args .axes .now)) (x .picked-extents .result) (pick 0 (s .args .axes .now) (s .args .list .now)) (x .picked-extents .ensures) (sym n) (omega (arith, n, s .pre)))
+
+picked-extents-requires : tie.Need-picked-extents-requires
+picked-extents-requires c κs = search needs
+
+sub-total-of : tie.Need-sub-total-of
+sub-total-of c = search needs
+
+part-total-of-start : tie.Need-part-total-of-start
+part-total-of-start c = search needs
+
+part-total-of-end : tie.Need-part-total-of-end
+part-total-of-end c = search needs
+
+total-of-requires : tie.Need-total-of-requires
+total-of-requires c κs = search needs
 
 enum-known-total : tie.Need-enum-known-total
 enum-known-total c = search needs
@@ -14,11 +39,21 @@ enum-told : tie.Need-enum-told
 enum-told c = search needs
 
 returns : tie.Need-returns
-returns c = ap valueOfU (sym (c .before .total .given .1) ∙ c .before .before .before .checked-total-len .ensures)
+returns c = ap valueOfU (sym (c .before .total .given .1) ∙ total (c .before .before .before))
 
 returns-2 : tie.Need-returns-2
-returns-2 c = ap valueOfU (sym (c .enum-told .given .1) ∙ c .before .before .checked-total-len .ensures)
+returns-2 c = ap valueOfU (sym (c .enum-told .given .1) ∙ total (c .before .before))
 
 pub product-value-spec : {M : Type 1} → statement M
 product-value-spec =
-    tie.close (tie.spec checked-total-len-requires enum-known-total enum-told returns returns-2)
+    tie.close
+    (tie.spec
+    picked-extents-requires
+    sub-total-of
+    part-total-of-start
+    part-total-of-end
+    total-of-requires
+    enum-known-total
+    enum-told
+    returns
+    returns-2)

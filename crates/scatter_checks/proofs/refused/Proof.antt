@@ -1,0 +1,12 @@
+use borrow.Author.Needs.{needs}
+use Rattle.scatter_checks.proofs.refused.Statement.{statement}
+use Rattle.scatter_checks.proofs.refused.Tie as tie
+
+refused-replay-requires : tie.Need-refused-replay-requires
+refused-replay-requires c κs = search needs
+
+returns : tie.Need-returns
+returns c = rw (c .before .refused-replay .ensures)
+
+pub refused-spec : {M : Type 1} → statement M
+refused-spec = tie.close (tie.spec refused-replay-requires returns)
