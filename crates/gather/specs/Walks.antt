@@ -64,3 +64,9 @@ pub record Reached (p : GatherPlan) (a b c : ℤ) (low high on sn dn : ℕ) : Ty
   pub operand : isDone (bufferBounds 1 (viewReach (extentsOf (p .operand)) (stridesOf (p .operand)) a on)) ≡ true
   pub index : isDone (bufferBounds 2 (viewReach (extentsOf (p .index)) (stridesOf (p .index)) b sn)) ≡ true
   pub dest : viewReach (extentsOf (p .dest)) (stridesOf (p .dest)) c dn ≡ R.Cells low high
+
+-- the walk of such a plan
+pub record Walked (w : GatherWalk) (a b c : ℤ) (low high on sn dn : ℕ) : Type 0 where
+  pub plan : GatherPlan
+  pub is : w ≡ walkOf plan
+  pub reached : Reached plan a b c low high on sn dn

@@ -15,7 +15,7 @@ ghost use Rattle.runs.specs.declared.Rule.the-variants as R;
 ghost use Rattle.gather_plan.specs.Same.{isCompiled};
 ghost use Rattle.gather_windows.specs.Gathering.{gatheredBy, Gathering};
 ghost use Rattle.gather.specs.Calls.{planFits, planRefusal, callAnswer, Called};
-ghost use Rattle.gather.specs.Walks.{windowStepsOf, batchStepsOf, limitAt, unlessNone, walkOf, gatherAt, Reached};
+ghost use Rattle.gather.specs.Walks.{windowStepsOf, batchStepsOf, limitAt, unlessNone, walkOf, gatherAt, Reached, Walked};
 use axis_lists::Numbers;
 use gather_plan::Axis;
 use gather_plan::GatherPlan;
@@ -67,7 +67,7 @@ fn batch_steps(axes: [Axis; RAW_FUSED_RANK_LIMIT]) -> [i64; RAW_FUSED_RANK_LIMIT
 }
 
 // The last start on an axis.
-fn last_start(extent: u64, window: u64) -> u64
+pub fn last_start(extent: u64, window: u64) -> u64
     ensures { λ r. ⌜ r ≡ extent - window ⌝ }
 {
     if extent < window { 0 } else { extent - window }
@@ -240,7 +240,29 @@ fn run_i32(
     );
 }
 
-// The gather where the destination has cells, from the index low to the index high: it is lent on as that part.
+// The cells of a plan's walk, where the destination has cells, from the index low to the index high: it is lent on as that part.
+pub fn walked_i32(
+    walk: GatherWalk,
+    source: &[i32],
+    starts: &[i64],
+    into: &mut [i32],
+    s: i64,
+    t: i64,
+    d: i64,
+    low: usize,
+    high: usize,
+)
+    requires { ⌜ Walked walk s t d low high (length (now source)) (length (now starts)) (length (now into)) ⌝ }
+    ensures { λ _. ⌜ ((k : Walked walk s t d low high (length (now (source .entry))) (length (now (starts .entry))) (length (now (into .entry)))) → now (into .exit) ≡ gathered (pos 0) (gatherAt (k .plan) s t d) (now (starts .entry)) (now (source .entry)) (now (into .entry))) ⌝ }
+{
+    let end = high + 1;
+    let base = start_base(walk.count, t);
+    let from = low as i64;
+    let at = d - from;
+    run_i32(walk, source, starts, &mut into[low..end], s, base, at);
+}
+
+// The gather where the destination has cells.
 fn cells_i32(
     plan: GatherPlan,
     source: &[i32],
@@ -255,12 +277,8 @@ fn cells_i32(
     requires { ⌜ Reached plan s t d low high (length (now source)) (length (now starts)) (length (now into)) ⌝ }
     ensures { λ _. ⌜ now (into .exit) ≡ gathered (pos 0) (gatherAt plan s t d) (now (starts .entry)) (now (source .entry)) (now (into .entry)) ⌝ }
 {
-    let end = high + 1;
     let walk = walk_of(plan);
-    let base = start_base(walk.count, t);
-    let from = low as i64;
-    let at = d - from;
-    run_i32(walk, source, starts, &mut into[low..end], s, base, at);
+    walked_i32(walk, source, starts, into, s, t, d, low, high);
 }
 
 // A gather of i32 with a plan that is known to be what compile gives, or with any plan.
@@ -365,7 +383,29 @@ fn run_f64(
     );
 }
 
-// The gather where the destination has cells, from the index low to the index high: it is lent on as that part.
+// The cells of a plan's walk, where the destination has cells, from the index low to the index high: it is lent on as that part.
+pub fn walked_f64(
+    walk: GatherWalk,
+    source: &[f64],
+    starts: &[i64],
+    into: &mut [f64],
+    s: i64,
+    t: i64,
+    d: i64,
+    low: usize,
+    high: usize,
+)
+    requires { ⌜ Walked walk s t d low high (length (now source)) (length (now starts)) (length (now into)) ⌝ }
+    ensures { λ _. ⌜ ((k : Walked walk s t d low high (length (now (source .entry))) (length (now (starts .entry))) (length (now (into .entry)))) → now (into .exit) ≡ gathered nan (gatherAt (k .plan) s t d) (now (starts .entry)) (now (source .entry)) (now (into .entry))) ⌝ }
+{
+    let end = high + 1;
+    let base = start_base(walk.count, t);
+    let from = low as i64;
+    let at = d - from;
+    run_f64(walk, source, starts, &mut into[low..end], s, base, at);
+}
+
+// The gather where the destination has cells.
 fn cells_f64(
     plan: GatherPlan,
     source: &[f64],
@@ -380,12 +420,8 @@ fn cells_f64(
     requires { ⌜ Reached plan s t d low high (length (now source)) (length (now starts)) (length (now into)) ⌝ }
     ensures { λ _. ⌜ now (into .exit) ≡ gathered nan (gatherAt plan s t d) (now (starts .entry)) (now (source .entry)) (now (into .entry)) ⌝ }
 {
-    let end = high + 1;
     let walk = walk_of(plan);
-    let base = start_base(walk.count, t);
-    let from = low as i64;
-    let at = d - from;
-    run_f64(walk, source, starts, &mut into[low..end], s, base, at);
+    walked_f64(walk, source, starts, into, s, t, d, low, high);
 }
 
 // A gather of f64 with a plan that is known to be what compile gives, or with any plan.

@@ -223,6 +223,103 @@ fn run_f64(
     gather::call_f64(plan, x, y, z, true, operand, starts, dest)
 }
 
+// A gather of i32: compile by the first eleven arguments, and the call on the three views and their slices. Views that have the layouts
+// compiled for need no plan by value.
+fn raw_gather_i32(
+    operand_extents: &[u64],
+    operand_strides: &[i64],
+    index_extents: &[u64],
+    index_strides: &[i64],
+    dest_extents: &[u64],
+    dest_strides: &[i64],
+    offset_dims: &[u64],
+    collapsed_slice_dims: &[u64],
+    start_index_map: &[u64],
+    index_vector_dim: u64,
+    slice_sizes: &[u64],
+    operand_view_extents: &[u64],
+    operand_view_strides: &[i64],
+    operand_offset: i64,
+    index_view_extents: &[u64],
+    index_view_strides: &[i64],
+    index_offset: i64,
+    dest_view_extents: &[u64],
+    dest_view_strides: &[i64],
+    dest_offset: i64,
+    operand: &[i32],
+    starts: &[i64],
+    dest: &mut [i32],
+) -> Answer
+    ensures { λ r. ⌜ Ran (pos 0) (compiledGather true (gathers.gatherFrom (now («operand_extents» .entry)) (now («operand_strides» .entry)) (now («index_extents» .entry)) (now («index_strides» .entry)) (now («dest_extents» .entry)) (now («dest_strides» .entry)) (now («offset_dims» .entry)) (now («collapsed_slice_dims» .entry)) (now («start_index_map» .entry)) «index_vector_dim» (now («slice_sizes» .entry)))) (viewsFrom (now («operand_view_extents» .entry)) (now («operand_view_strides» .entry)) «operand_offset» (now («index_view_extents» .entry)) (now («index_view_strides» .entry)) «index_offset» (now («dest_view_extents» .entry)) (now («dest_view_strides» .entry)) «dest_offset») (now (operand .entry)) (now (starts .entry)) (now (dest .entry)) (now (dest .exit)) r ⌝ }
+{
+    if gather_lent::same_view(
+        operand_extents,
+        operand_strides,
+        operand_view_extents,
+        operand_view_strides,
+    ) {
+        if gather_lent::same_view(
+            index_extents,
+            index_strides,
+            index_view_extents,
+            index_view_strides,
+        ) {
+            if gather_lent::same_view(
+                dest_extents,
+                dest_strides,
+                dest_view_extents,
+                dest_view_strides,
+            ) {
+                return gather_lent::gather_i32(
+                    operand_extents,
+                    operand_strides,
+                    index_extents,
+                    index_strides,
+                    dest_extents,
+                    dest_strides,
+                    offset_dims,
+                    collapsed_slice_dims,
+                    start_index_map,
+                    index_vector_dim,
+                    slice_sizes,
+                    operand_offset,
+                    index_offset,
+                    dest_offset,
+                    operand,
+                    starts,
+                    dest,
+                );
+            }
+        }
+    }
+    let compiled = gather_plan::compile(
+        operand_extents,
+        operand_strides,
+        index_extents,
+        index_strides,
+        dest_extents,
+        dest_strides,
+        offset_dims,
+        collapsed_slice_dims,
+        start_index_map,
+        index_vector_dim,
+        slice_sizes,
+        true,
+    );
+    let views = call_views(
+        operand_view_extents,
+        operand_view_strides,
+        operand_offset,
+        index_view_extents,
+        index_view_strides,
+        index_offset,
+        dest_view_extents,
+        dest_view_strides,
+        dest_offset,
+    );
+    run_i32(compiled, views, operand, starts, dest)
+}
+
 // A gather of i32: compile by the first eleven arguments, and the call on the three views and their slices. The answer as number, a, b.
 #[no_mangle]
 pub extern "C" fn strided_raw_gather_i32(
@@ -253,6 +350,103 @@ pub extern "C" fn strided_raw_gather_i32(
 )
     ensures { λ _. ⌜ HandedBack (pos 0) (compiledGather true (gathers.gatherFrom (now («operand_extents» .entry)) (now («operand_strides» .entry)) (now («index_extents» .entry)) (now («index_strides» .entry)) (now («dest_extents» .entry)) (now («dest_strides» .entry)) (now («offset_dims» .entry)) (now («collapsed_slice_dims» .entry)) (now («start_index_map» .entry)) «index_vector_dim» (now («slice_sizes» .entry)))) (viewsFrom (now («operand_view_extents» .entry)) (now («operand_view_strides» .entry)) «operand_offset» (now («index_view_extents» .entry)) (now («index_view_strides» .entry)) «index_offset» (now («dest_view_extents» .entry)) (now («dest_view_strides» .entry)) «dest_offset») (now (operand .entry)) (now (starts .entry)) (now (dest .entry)) (now (dest .exit)) (now (answer .exit)) ⌝ }
 {
+    let r = raw_gather_i32(
+        operand_extents,
+        operand_strides,
+        index_extents,
+        index_strides,
+        dest_extents,
+        dest_strides,
+        offset_dims,
+        collapsed_slice_dims,
+        start_index_map,
+        index_vector_dim,
+        slice_sizes,
+        operand_view_extents,
+        operand_view_strides,
+        operand_offset,
+        index_view_extents,
+        index_view_strides,
+        index_offset,
+        dest_view_extents,
+        dest_view_strides,
+        dest_offset,
+        operand,
+        starts,
+        dest,
+    );
+    *answer = words_of(r);
+}
+
+// A gather of f64: compile by the first eleven arguments, and the call on the three views and their slices. Views that have the layouts
+// compiled for need no plan by value.
+fn raw_gather_f64(
+    operand_extents: &[u64],
+    operand_strides: &[i64],
+    index_extents: &[u64],
+    index_strides: &[i64],
+    dest_extents: &[u64],
+    dest_strides: &[i64],
+    offset_dims: &[u64],
+    collapsed_slice_dims: &[u64],
+    start_index_map: &[u64],
+    index_vector_dim: u64,
+    slice_sizes: &[u64],
+    operand_view_extents: &[u64],
+    operand_view_strides: &[i64],
+    operand_offset: i64,
+    index_view_extents: &[u64],
+    index_view_strides: &[i64],
+    index_offset: i64,
+    dest_view_extents: &[u64],
+    dest_view_strides: &[i64],
+    dest_offset: i64,
+    operand: &[f64],
+    starts: &[i64],
+    dest: &mut [f64],
+) -> Answer
+    ensures { λ r. ⌜ Ran nan (compiledGather true (gathers.gatherFrom (now («operand_extents» .entry)) (now («operand_strides» .entry)) (now («index_extents» .entry)) (now («index_strides» .entry)) (now («dest_extents» .entry)) (now («dest_strides» .entry)) (now («offset_dims» .entry)) (now («collapsed_slice_dims» .entry)) (now («start_index_map» .entry)) «index_vector_dim» (now («slice_sizes» .entry)))) (viewsFrom (now («operand_view_extents» .entry)) (now («operand_view_strides» .entry)) «operand_offset» (now («index_view_extents» .entry)) (now («index_view_strides» .entry)) «index_offset» (now («dest_view_extents» .entry)) (now («dest_view_strides» .entry)) «dest_offset») (now (operand .entry)) (now (starts .entry)) (now (dest .entry)) (now (dest .exit)) r ⌝ }
+{
+    if gather_lent::same_view(
+        operand_extents,
+        operand_strides,
+        operand_view_extents,
+        operand_view_strides,
+    ) {
+        if gather_lent::same_view(
+            index_extents,
+            index_strides,
+            index_view_extents,
+            index_view_strides,
+        ) {
+            if gather_lent::same_view(
+                dest_extents,
+                dest_strides,
+                dest_view_extents,
+                dest_view_strides,
+            ) {
+                return gather_lent::gather_f64(
+                    operand_extents,
+                    operand_strides,
+                    index_extents,
+                    index_strides,
+                    dest_extents,
+                    dest_strides,
+                    offset_dims,
+                    collapsed_slice_dims,
+                    start_index_map,
+                    index_vector_dim,
+                    slice_sizes,
+                    operand_offset,
+                    index_offset,
+                    dest_offset,
+                    operand,
+                    starts,
+                    dest,
+                );
+            }
+        }
+    }
     let compiled = gather_plan::compile(
         operand_extents,
         operand_strides,
@@ -278,8 +472,7 @@ pub extern "C" fn strided_raw_gather_i32(
         dest_view_strides,
         dest_offset,
     );
-    let r = run_i32(compiled, views, operand, starts, dest);
-    *answer = words_of(r);
+    run_f64(compiled, views, operand, starts, dest)
 }
 
 // A gather of f64: compile by the first eleven arguments, and the call on the three views and their slices. The answer as number, a, b.
@@ -312,7 +505,7 @@ pub extern "C" fn strided_raw_gather_f64(
 )
     ensures { λ _. ⌜ HandedBack nan (compiledGather true (gathers.gatherFrom (now («operand_extents» .entry)) (now («operand_strides» .entry)) (now («index_extents» .entry)) (now («index_strides» .entry)) (now («dest_extents» .entry)) (now («dest_strides» .entry)) (now («offset_dims» .entry)) (now («collapsed_slice_dims» .entry)) (now («start_index_map» .entry)) «index_vector_dim» (now («slice_sizes» .entry)))) (viewsFrom (now («operand_view_extents» .entry)) (now («operand_view_strides» .entry)) «operand_offset» (now («index_view_extents» .entry)) (now («index_view_strides» .entry)) «index_offset» (now («dest_view_extents» .entry)) (now («dest_view_strides» .entry)) «dest_offset») (now (operand .entry)) (now (starts .entry)) (now (dest .entry)) (now (dest .exit)) (now (answer .exit)) ⌝ }
 {
-    let compiled = gather_plan::compile(
+    let r = raw_gather_f64(
         operand_extents,
         operand_strides,
         index_extents,
@@ -324,9 +517,6 @@ pub extern "C" fn strided_raw_gather_f64(
         start_index_map,
         index_vector_dim,
         slice_sizes,
-        true,
-    );
-    let views = call_views(
         operand_view_extents,
         operand_view_strides,
         operand_offset,
@@ -336,8 +526,10 @@ pub extern "C" fn strided_raw_gather_f64(
         dest_view_extents,
         dest_view_strides,
         dest_offset,
+        operand,
+        starts,
+        dest,
     );
-    let r = run_f64(compiled, views, operand, starts, dest);
     *answer = words_of(r);
 }
 
@@ -423,6 +615,100 @@ fn run_scatter_f64(
     )
 }
 
+// A scatter of i32: compile by the first ten arguments, and the call on the three views and their slices. Views that have the layouts
+// compiled for need no plan by value.
+fn raw_scatter_i32(
+    index_extents: &[u64],
+    index_strides: &[i64],
+    updates_extents: &[u64],
+    updates_strides: &[i64],
+    dest_extents: &[u64],
+    dest_strides: &[i64],
+    update_window_dims: &[u64],
+    inserted_window_dims: &[u64],
+    scatter_dims_to_operand_dims: &[u64],
+    index_vector_dim: u64,
+    index_view_extents: &[u64],
+    index_view_strides: &[i64],
+    index_offset: i64,
+    updates_view_extents: &[u64],
+    updates_view_strides: &[i64],
+    updates_offset: i64,
+    dest_view_extents: &[u64],
+    dest_view_strides: &[i64],
+    dest_offset: i64,
+    starts: &[i64],
+    updates: &[i32],
+    dest: &mut [i32],
+) -> Answer
+    ensures { λ r. ⌜ ScatterRan scatteredI32 (compiledScatter true (scatters.scatterFrom (now («index_extents» .entry)) (now («index_strides» .entry)) (now («updates_extents» .entry)) (now («updates_strides» .entry)) (now («dest_extents» .entry)) (now («dest_strides» .entry)) (now («update_window_dims» .entry)) (now («inserted_window_dims» .entry)) (now («scatter_dims_to_operand_dims» .entry)) «index_vector_dim»)) (viewsFrom (now («index_view_extents» .entry)) (now («index_view_strides» .entry)) «index_offset» (now («updates_view_extents» .entry)) (now («updates_view_strides» .entry)) «updates_offset» (now («dest_view_extents» .entry)) (now («dest_view_strides» .entry)) «dest_offset») (now (starts .entry)) (now (updates .entry)) (now (dest .entry)) (now (dest .exit)) r ⌝ }
+{
+    if gather_lent::same_view(
+        index_extents,
+        index_strides,
+        index_view_extents,
+        index_view_strides,
+    ) {
+        if gather_lent::same_view(
+            updates_extents,
+            updates_strides,
+            updates_view_extents,
+            updates_view_strides,
+        ) {
+            if gather_lent::same_view(
+                dest_extents,
+                dest_strides,
+                dest_view_extents,
+                dest_view_strides,
+            ) {
+                return scatter_lent::scatter_i32(
+                    index_extents,
+                    index_strides,
+                    updates_extents,
+                    updates_strides,
+                    dest_extents,
+                    dest_strides,
+                    update_window_dims,
+                    inserted_window_dims,
+                    scatter_dims_to_operand_dims,
+                    index_vector_dim,
+                    index_offset,
+                    updates_offset,
+                    dest_offset,
+                    starts,
+                    updates,
+                    dest,
+                );
+            }
+        }
+    }
+    let compiled = scatter_plan::compile(
+        index_extents,
+        index_strides,
+        updates_extents,
+        updates_strides,
+        dest_extents,
+        dest_strides,
+        update_window_dims,
+        inserted_window_dims,
+        scatter_dims_to_operand_dims,
+        index_vector_dim,
+        true,
+    );
+    let views = call_views(
+        index_view_extents,
+        index_view_strides,
+        index_offset,
+        updates_view_extents,
+        updates_view_strides,
+        updates_offset,
+        dest_view_extents,
+        dest_view_strides,
+        dest_offset,
+    );
+    run_scatter_i32(compiled, views, starts, updates, dest)
+}
+
 // A scatter of i32 that adds: compile by the first ten arguments, and the call on the three views and their slices. The answer as number, a, b.
 #[no_mangle]
 pub extern "C" fn strided_raw_scatter_i32(
@@ -452,6 +738,100 @@ pub extern "C" fn strided_raw_scatter_i32(
 )
     ensures { λ _. ⌜ ScatterHandedBack scatteredI32 (compiledScatter true (scatters.scatterFrom (now («index_extents» .entry)) (now («index_strides» .entry)) (now («updates_extents» .entry)) (now («updates_strides» .entry)) (now («dest_extents» .entry)) (now («dest_strides» .entry)) (now («update_window_dims» .entry)) (now («inserted_window_dims» .entry)) (now («scatter_dims_to_operand_dims» .entry)) «index_vector_dim»)) (viewsFrom (now («index_view_extents» .entry)) (now («index_view_strides» .entry)) «index_offset» (now («updates_view_extents» .entry)) (now («updates_view_strides» .entry)) «updates_offset» (now («dest_view_extents» .entry)) (now («dest_view_strides» .entry)) «dest_offset») (now (starts .entry)) (now (updates .entry)) (now (dest .entry)) (now (dest .exit)) (now (answer .exit)) ⌝ }
 {
+    let r = raw_scatter_i32(
+        index_extents,
+        index_strides,
+        updates_extents,
+        updates_strides,
+        dest_extents,
+        dest_strides,
+        update_window_dims,
+        inserted_window_dims,
+        scatter_dims_to_operand_dims,
+        index_vector_dim,
+        index_view_extents,
+        index_view_strides,
+        index_offset,
+        updates_view_extents,
+        updates_view_strides,
+        updates_offset,
+        dest_view_extents,
+        dest_view_strides,
+        dest_offset,
+        starts,
+        updates,
+        dest,
+    );
+    *answer = words_of(r);
+}
+
+// A scatter of f64: compile by the first ten arguments, and the call on the three views and their slices. Views that have the layouts
+// compiled for need no plan by value.
+fn raw_scatter_f64(
+    index_extents: &[u64],
+    index_strides: &[i64],
+    updates_extents: &[u64],
+    updates_strides: &[i64],
+    dest_extents: &[u64],
+    dest_strides: &[i64],
+    update_window_dims: &[u64],
+    inserted_window_dims: &[u64],
+    scatter_dims_to_operand_dims: &[u64],
+    index_vector_dim: u64,
+    index_view_extents: &[u64],
+    index_view_strides: &[i64],
+    index_offset: i64,
+    updates_view_extents: &[u64],
+    updates_view_strides: &[i64],
+    updates_offset: i64,
+    dest_view_extents: &[u64],
+    dest_view_strides: &[i64],
+    dest_offset: i64,
+    starts: &[i64],
+    updates: &[f64],
+    dest: &mut [f64],
+) -> Answer
+    ensures { λ r. ⌜ ScatterRan scatteredF64 (compiledScatter true (scatters.scatterFrom (now («index_extents» .entry)) (now («index_strides» .entry)) (now («updates_extents» .entry)) (now («updates_strides» .entry)) (now («dest_extents» .entry)) (now («dest_strides» .entry)) (now («update_window_dims» .entry)) (now («inserted_window_dims» .entry)) (now («scatter_dims_to_operand_dims» .entry)) «index_vector_dim»)) (viewsFrom (now («index_view_extents» .entry)) (now («index_view_strides» .entry)) «index_offset» (now («updates_view_extents» .entry)) (now («updates_view_strides» .entry)) «updates_offset» (now («dest_view_extents» .entry)) (now («dest_view_strides» .entry)) «dest_offset») (now (starts .entry)) (now (updates .entry)) (now (dest .entry)) (now (dest .exit)) r ⌝ }
+{
+    if gather_lent::same_view(
+        index_extents,
+        index_strides,
+        index_view_extents,
+        index_view_strides,
+    ) {
+        if gather_lent::same_view(
+            updates_extents,
+            updates_strides,
+            updates_view_extents,
+            updates_view_strides,
+        ) {
+            if gather_lent::same_view(
+                dest_extents,
+                dest_strides,
+                dest_view_extents,
+                dest_view_strides,
+            ) {
+                return scatter_lent::scatter_f64(
+                    index_extents,
+                    index_strides,
+                    updates_extents,
+                    updates_strides,
+                    dest_extents,
+                    dest_strides,
+                    update_window_dims,
+                    inserted_window_dims,
+                    scatter_dims_to_operand_dims,
+                    index_vector_dim,
+                    index_offset,
+                    updates_offset,
+                    dest_offset,
+                    starts,
+                    updates,
+                    dest,
+                );
+            }
+        }
+    }
     let compiled = scatter_plan::compile(
         index_extents,
         index_strides,
@@ -476,8 +856,7 @@ pub extern "C" fn strided_raw_scatter_i32(
         dest_view_strides,
         dest_offset,
     );
-    let r = run_scatter_i32(compiled, views, starts, updates, dest);
-    *answer = words_of(r);
+    run_scatter_f64(compiled, views, starts, updates, dest)
 }
 
 // A scatter of f64 that adds: compile by the first ten arguments, and the call on the three views and their slices. The answer as number, a, b.
@@ -509,7 +888,7 @@ pub extern "C" fn strided_raw_scatter_f64(
 )
     ensures { λ _. ⌜ ScatterHandedBack scatteredF64 (compiledScatter true (scatters.scatterFrom (now («index_extents» .entry)) (now («index_strides» .entry)) (now («updates_extents» .entry)) (now («updates_strides» .entry)) (now («dest_extents» .entry)) (now («dest_strides» .entry)) (now («update_window_dims» .entry)) (now («inserted_window_dims» .entry)) (now («scatter_dims_to_operand_dims» .entry)) «index_vector_dim»)) (viewsFrom (now («index_view_extents» .entry)) (now («index_view_strides» .entry)) «index_offset» (now («updates_view_extents» .entry)) (now («updates_view_strides» .entry)) «updates_offset» (now («dest_view_extents» .entry)) (now («dest_view_strides» .entry)) «dest_offset») (now (starts .entry)) (now (updates .entry)) (now (dest .entry)) (now (dest .exit)) (now (answer .exit)) ⌝ }
 {
-    let compiled = scatter_plan::compile(
+    let r = raw_scatter_f64(
         index_extents,
         index_strides,
         updates_extents,
@@ -520,9 +899,6 @@ pub extern "C" fn strided_raw_scatter_f64(
         inserted_window_dims,
         scatter_dims_to_operand_dims,
         index_vector_dim,
-        true,
-    );
-    let views = call_views(
         index_view_extents,
         index_view_strides,
         index_offset,
@@ -532,8 +908,10 @@ pub extern "C" fn strided_raw_scatter_f64(
         dest_view_extents,
         dest_view_strides,
         dest_offset,
+        starts,
+        updates,
+        dest,
     );
-    let r = run_scatter_f64(compiled, views, starts, updates, dest);
     *answer = words_of(r);
 }
 

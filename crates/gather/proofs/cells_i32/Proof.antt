@@ -1,103 +1,22 @@
-use mathlib.Core.Path.{_≡_, refl, sym, subst}
-use Prim.Native.Nat.{_+_, _-_, _<_, _^_}
-use native.Mathlib.Omega.{arith}
-use lib.ListN.{length, take, drop, length-drop}
-use lib.Seq.{length-take-le}
-use lib.IntN.{pos, _-ℤ_}
-use mir.Syntax.{w64}
-use mir.Val.{SFits, toZ}
-use Rattle.runs.specs.Runs.{ruleI32}
-use Rattle.runs.specs.declared.Rule.the-variants as R
-use Rattle.runs.proofs.Place.{read}
-use Rattle.gather_windows.specs.Gathering.{Gathering}
-use Rattle.gather.proofs.Parts.{high-in, low-high, low-fits, sub-fits, part-asks, part-leaves}
 use borrow.Author.Needs.{needs}
+use Rattle.integer.specs.Z.{back}
 use Rattle.gather.proofs.cells_i32.Statement.{statement}
 use Rattle.gather.proofs.cells_i32.Tie as tie
 
-dst-room : (a : tie.Start) → length (a .args .into .now) < 2 ^ 63
-dst-room a = omega (arith, a .good .1 .1 .1 .0 .1)
-
-starts-room : (a : tie.Start) → length (a .args .starts .now) < 2 ^ 63
-starts-room a = omega (arith, a .good .1 .1 .0 .1)
-
-base-fits : (b : tie.After-start-base) → SFits w64 (b .start-base .result)
-base-fits b = search needs
-
-part-length : (a : tie.Start) → length (take (a .args .high + 1 - a .args .low) (drop (a .args .low) (a .args .into .now))) ≡ a .args .high + 1 - a .args .low
-part-length a = length-take-le (a .args .high + 1 - a .args .low) (drop (a .args .low) (a .args .into .now)) (omega (arith, length-drop (a .args .low) (a .args .into .now), high-in _ _ _ _ _ _ _ (a .args .starts .now) _ (a .pre), low-high _ _ _ _ _ _ _ (a .args .starts .now) _ (a .pre)))
-
--- src/lib.rt:250:15
-add-end : tie.Need-add-end
-add-end c = let a = c in omega (arith, high-in _ _ _ _ _ _ _ (a .args .starts .now) _ (a .pre), dst-room a)
-
--- src/lib.rt:251:9
 walk-of-requires : tie.Need-walk-of-requires
 walk-of-requires c κs = search needs
 
--- src/lib.rt:252:9
-start-base-requires : tie.Need-start-base-requires
-start-base-requires c κs = search needs
+walked-i32-requires : tie.Need-walked-i32-requires
+walked-i32-requires c κs = search needs
 
--- src/lib.rt:253:16
-cast-from : tie.Need-cast-from
-cast-from c = let a = c .before .before in low-fits _ _ _ _ _ _ _ (a .args .starts .now) _ (a .pre) (dst-room a)
-
--- src/lib.rt:254:14
-sub-at : tie.Need-sub-at
-sub-at c = let a = c .before .before in sub-fits _ _ _ _ _ _ _ (a .args .starts .now) _ (a .pre) (a .fits .d) (dst-room a)
-
--- src/lib.rt:255:35
-mul-run-i32 : tie.Need-mul-run-i32
-mul-run-i32 c = let a = c .before .before in omega (arith, low-high _ _ _ _ _ _ _ (a .args .starts .now) _ (a .pre), high-in _ _ _ _ _ _ _ (a .args .starts .now) _ (a .pre), a .good .1 .1 .1 .0 .1)
-
--- src/lib.rt:255:35
-sub-run-i32 : tie.Need-sub-run-i32
-sub-run-i32 c = let a = c .before .before in omega (arith, low-high _ _ _ _ _ _ _ (a .args .starts .now) _ (a .pre))
-
--- src/lib.rt:255:35
-part-run-i32-start : tie.Need-part-run-i32-start
-part-run-i32-start c = let a = c .before .before in omega (arith, low-high _ _ _ _ _ _ _ (a .args .starts .now) _ (a .pre))
-
--- src/lib.rt:255:35
-part-run-i32-end : tie.Need-part-run-i32-end
-part-run-i32-end c = let a = c .before .before in omega (arith, high-in _ _ _ _ _ _ _ (a .args .starts .now) _ (a .pre))
-
--- src/lib.rt:255:5
-run-i32-requires : tie.Need-run-i32-requires
-run-i32-requires c κs =
-    let b = c .before in
-    let w = b .before in
-    let a = w .before in
-    subst (Gathering (a .args .starts .now) (w .walk-of .result .offsets) (w .walk-of .result .strides) (w .walk-of .result .limits) (w .walk-of .result .count) (read (a .args .s)) (read (b .start-base .result)) (read (read (a .args .d) -ℤ toZ w64 (a .args .low))) (w .walk-of .result .extents) (w .walk-of .result .«window_steps») (w .walk-of .result .«batch_steps») (w .walk-of .result .«dest_steps») (w .walk-of .result .rank) (length (a .args .source .now)))
-    (sym (part-length a))
-    (part-asks _ _ _ _ _ _ _ (a .args .starts .now) _ (a .pre) _ refl _ (w .walk-of .ensures) _ (b .start-base .ensures) (a .fits .s) (a .fits .t) (a .fits .d) (base-fits b) (dst-room a) (starts-room a))
-
--- src/lib.rt:236:1
 same-length : tie.Need-same-length
 same-length c = search needs
 
--- src/lib.rt:236:1
 returns : tie.Need-returns
 returns c =
-    let b = c .before .before .before in
-    let w = b .before in
+    let w = c .before .before .before in
     let a = w .before in
-    part-leaves _ _ _ _ _ _ _ (a .args .starts .now) _ (a .pre) _ refl _ (w .walk-of .ensures) _ (b .start-base .ensures) (a .fits .s) (a .fits .t) (a .fits .d) (base-fits b) (dst-room a) (pos 0) (ruleI32 R.Copy) (λ x u. refl) (a .args .source .now) (a .args .into .now) refl _ (c .before .run-i32 .ensures)
+    (simp (back (a .fits .s), back (a .fits .t), back (a .fits .d)) at (c .before .walked-i32 .ensures)) (record { plan = a .args .plan; is = w .walk-of .ensures; reached = a .pre })
 
 pub cells-i32-spec : {M : Type 1} → statement M
-cells-i32-spec =
-    tie.close
-    (tie.spec
-    add-end
-    walk-of-requires
-    start-base-requires
-    cast-from
-    sub-at
-    mul-run-i32
-    sub-run-i32
-    part-run-i32-start
-    part-run-i32-end
-    run-i32-requires
-    same-length
-    returns)
+cells-i32-spec = tie.close (tie.spec walk-of-requires walked-i32-requires same-length returns)

@@ -11,19 +11,19 @@ offsets-fit a = (search needs, search needs, search needs)
 
 -- src/lib.rt:132:9
 make-layout-requires : tie.Need-make-layout-requires
-make-layout-requires c κs = search needs
+make-layout-requires c κs = tt
 
 -- src/lib.rt:133:9
 make-layout-requires-2 : tie.Need-make-layout-requires-2
-make-layout-requires-2 c κs = search needs
+make-layout-requires-2 c κs = tt
 
 -- src/lib.rt:134:9
 make-layout-requires-3 : tie.Need-make-layout-requires-3
-make-layout-requires-3 c κs = search needs
+make-layout-requires-3 c κs = tt
 
 -- src/lib.rt:138:9
 layouts-answer-requires : tie.Need-layouts-answer-requires
-layouts-answer-requires c κs = search needs
+layouts-answer-requires c κs = tt
 
 -- src/lib.rt:119:1
 returns : tie.Need-returns

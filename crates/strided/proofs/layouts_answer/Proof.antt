@@ -8,7 +8,7 @@ use Rattle.strided.proofs.layouts_answer.Tie as tie
 
 -- src/lib.rt:106:9
 is-done-requires : tie.Need-is-done-requires
-is-done-requires c κs = search needs
+is-done-requires c κs = tt
 
 -- src/lib.rt:107:9
 returns : tie.Need-returns
@@ -16,7 +16,7 @@ returns c = ap planRefusal (first-no _ _ (sym (c .before .is-done .ensures) ∙ 
 
 -- src/lib.rt:109:9
 is-done-requires-2 : tie.Need-is-done-requires-2
-is-done-requires-2 c κs = search needs
+is-done-requires-2 c κs = tt
 
 -- src/lib.rt:110:9
 returns-2 : tie.Need-returns-2
@@ -24,7 +24,7 @@ returns-2 c = ap planRefusal (first-yes _ _ _ (sym (c .before .before .before .i
 
 -- src/lib.rt:112:9
 is-done-requires-3 : tie.Need-is-done-requires-3
-is-done-requires-3 c κs = search needs
+is-done-requires-3 c κs = tt
 
 -- src/lib.rt:113:9
 returns-3 : tie.Need-returns-3

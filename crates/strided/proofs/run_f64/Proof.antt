@@ -8,11 +8,11 @@ use Rattle.strided.proofs.run_f64.Tie as tie
 
 -- src/lib.rt:194:9
 or-else-requires : tie.Need-or-else-requires
-or-else-requires c κs = search needs
+or-else-requires c κs = tt
 
 -- src/lib.rt:195:9
 is-done-requires : tie.Need-is-done-requires
-is-done-requires c κs = search needs
+is-done-requires c κs = tt
 
 -- src/lib.rt:196:9
 returns : tie.Need-returns

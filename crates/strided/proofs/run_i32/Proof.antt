@@ -8,11 +8,11 @@ use Rattle.strided.proofs.run_i32.Tie as tie
 
 -- src/lib.rt:171:9
 or-else-requires : tie.Need-or-else-requires
-or-else-requires c κs = search needs
+or-else-requires c κs = tt
 
 -- src/lib.rt:172:9
 is-done-requires : tie.Need-is-done-requires
-is-done-requires c κs = search needs
+is-done-requires c κs = tt
 
 -- src/lib.rt:173:9
 returns : tie.Need-returns

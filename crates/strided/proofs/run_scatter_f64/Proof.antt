@@ -9,11 +9,11 @@ use Rattle.strided.proofs.run_scatter_f64.Tie as tie
 
 -- src/lib.rt:369:9
 or-else-requires : tie.Need-or-else-requires
-or-else-requires c κs = search needs
+or-else-requires c κs = tt
 
 -- src/lib.rt:370:9
 is-done-requires : tie.Need-is-done-requires
-is-done-requires c κs = search needs
+is-done-requires c κs = tt
 
 -- src/lib.rt:371:9
 returns : tie.Need-returns
@@ -23,11 +23,11 @@ returns c =
 
 -- src/lib.rt:378:9
 rows-of-requires : tie.Need-rows-of-requires
-rows-of-requires c κs = search needs
+rows-of-requires c κs = tt
 
 -- src/lib.rt:379:9
 rows-of-requires-2 : tie.Need-rows-of-requires-2
-rows-of-requires-2 c κs = search needs
+rows-of-requires-2 c κs = tt
 
 -- src/lib.rt:383:5
 call-f64-requires : tie.Need-call-f64-requires

@@ -9,11 +9,11 @@ use Rattle.strided.proofs.run_scatter_i32.Tie as tie
 
 -- src/lib.rt:340:9
 or-else-requires : tie.Need-or-else-requires
-or-else-requires c κs = search needs
+or-else-requires c κs = tt
 
 -- src/lib.rt:341:9
 is-done-requires : tie.Need-is-done-requires
-is-done-requires c κs = search needs
+is-done-requires c κs = tt
 
 -- src/lib.rt:342:9
 returns : tie.Need-returns
@@ -23,11 +23,11 @@ returns c =
 
 -- src/lib.rt:349:9
 rows-of-requires : tie.Need-rows-of-requires
-rows-of-requires c κs = search needs
+rows-of-requires c κs = tt
 
 -- src/lib.rt:350:9
 rows-of-requires-2 : tie.Need-rows-of-requires-2
-rows-of-requires-2 c κs = search needs
+rows-of-requires-2 c κs = tt
 
 -- src/lib.rt:354:5
 call-i32-requires : tie.Need-call-i32-requires

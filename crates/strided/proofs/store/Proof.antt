@@ -7,7 +7,7 @@ use Rattle.strided.proofs.store.Tie as tie
 
 -- src/lib.rt:362:9
 is-done-requires : tie.Need-is-done-requires
-is-done-requires c κs = search needs
+is-done-requires c κs = tt
 
 -- src/lib.rt:363:9
 returns : tie.Need-returns
@@ -15,7 +15,7 @@ returns c = let s = c .before .before .before in not-made (s .args .made) (s .ar
 
 -- src/lib.rt:366:5
 write-job-requires : tie.Need-write-job-requires
-write-job-requires c κs = search needs
+write-job-requires c κs = tt
 
 -- src/lib.rt:358:1
 same-length : tie.Need-same-length

@@ -7,11 +7,11 @@ use Rattle.strided.proofs.strided_read_job.Tie as tie
 
 -- src/lib.rt:341:9
 read-job-requires : tie.Need-read-job-requires
-read-job-requires c κs = search needs
+read-job-requires c κs = tt
 
 -- src/lib.rt:343:15
 words-of-requires : tie.Need-words-of-requires
-words-of-requires c κs = search needs
+words-of-requires c κs = tt
 
 -- src/lib.rt:337:1
 returns : tie.Need-returns

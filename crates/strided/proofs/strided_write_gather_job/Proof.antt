@@ -16,22 +16,22 @@ offsets-fit a = (search needs, search needs, search needs)
 
 -- src/lib.rt:393:9
 element-of-requires : tie.Need-element-of-requires
-element-of-requires c κs = search needs
+element-of-requires c κs = tt
 
 -- src/lib.rt:394:9
 make-gather-job-requires : tie.Need-make-gather-job-requires
-make-gather-job-requires c κs = search needs
+make-gather-job-requires c κs = tt
 
 -- src/lib.rt:411:9
 listed-requires : tie.Need-listed-requires
-listed-requires c κs = search needs
+listed-requires c κs = tt
 
 store-requires : tie.Need-store-requires
-store-requires c κs = search needs
+store-requires c κs = tt
 
 -- src/lib.rt:412:15
 words-of-requires : tie.Need-words-of-requires
-words-of-requires c κs = search needs
+words-of-requires c κs = tt
 
 -- src/lib.rt:371:1
 same-length : tie.Need-same-length

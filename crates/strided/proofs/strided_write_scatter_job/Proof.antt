@@ -17,22 +17,22 @@ offsets-fit a = (search needs, search needs, search needs)
 
 -- src/lib.rt:437:9
 element-of-requires : tie.Need-element-of-requires
-element-of-requires c κs = search needs
+element-of-requires c κs = tt
 
 -- src/lib.rt:438:9
 make-scatter-job-requires : tie.Need-make-scatter-job-requires
-make-scatter-job-requires c κs = search needs
+make-scatter-job-requires c κs = tt
 
 -- src/lib.rt:454:9
 listed-requires : tie.Need-listed-requires
-listed-requires c κs = search needs
+listed-requires c κs = tt
 
 store-requires : tie.Need-store-requires
-store-requires c κs = search needs
+store-requires c κs = tt
 
 -- src/lib.rt:455:15
 words-of-requires : tie.Need-words-of-requires
-words-of-requires c κs = search needs
+words-of-requires c κs = tt
 
 -- src/lib.rt:416:1
 same-length : tie.Need-same-length

@@ -1,0 +1,56 @@
+use mathlib.Core.Path.{_≡_, ap, _∙_}
+use Prim.Native.Nat.{min}
+use borrow.Author.Needs.{needs}
+use lib.ListN.{length}
+use lib.IntN.{ℤ}
+use mir.Syntax.{w64}
+use mir.Val.{SFits}
+use Rattle.integer.specs.Z.{back}
+use Rattle.indexing.specs.Coordinates.{tabulate}
+use Rattle.layout.specs.Layouts.{rankLimit}
+use Rattle.axis_lists.specs.Held.{heldSteps}
+use Rattle.gather_plan.specs.Made.{offsetOr}
+use Rattle.gather_lent.proofs.Planned.{walk-is}
+use Rattle.gather_lent.proofs.walk_lent.Statement.{statement}
+use Rattle.gather_lent.proofs.walk_lent.Tie as tie
+
+stride-at-requires : tie.Need-stride-at-requires
+stride-at-requires c κs = search needs
+
+component-offsets-requires : tie.Need-component-offsets-requires
+component-offsets-requires c κs = search needs
+
+strides-on-requires : tie.Need-strides-on-requires
+strides-on-requires c κs = search needs
+
+limits-on-requires : tie.Need-limits-on-requires
+limits-on-requires c κs = search needs
+
+unless-none-requires : tie.Need-unless-none-requires
+unless-none-requires c κs = search needs
+
+padded-extents-requires : tie.Need-padded-extents-requires
+padded-extents-requires c κs = search needs
+
+padded-strides-requires : tie.Need-padded-strides-requires
+padded-strides-requires c κs = search needs
+
+returns : tie.Need-returns
+returns c =
+    let s = c .before .before .before .before .before .before .before .before .before .before .before .before .before .before .before in
+    let f : SFits w64 (c .before .before .before .before .before .before .before .stride-at .result) = search needs in
+    let o = c .before .before .before .before .before .before .component-offsets .ensures ∙ ap (λ (z : ℤ). heldSteps (tabulate (min (length (s .args .start-index-map .now)) rankLimit) (offsetOr z))) (back f ∙ c .before .before .before .before .before .before .before .stride-at .ensures) in
+    walk-is (s .args .operand-extents .now) (s .args .operand-strides .now) (s .args .index-extents .now) (s .args .index-strides .now) (s .args .dest-extents .now) (s .args .dest-strides .now) (s .args .offset-dims .now) (s .args .collapsed-slice-dims .now) (s .args .start-index-map .now) (s .args .index-vector-dim) (s .args .slice-sizes .now) (s .pre .accepted) (s .args .window) (s .args .batch) (c .before .before .unless-none .result) (c .before .before .before .before .strides-on .result) (c .padded-strides .result) (c .before .padded-extents .result) (c .before .before .before .limits-on .result) (c .before .before .before .before .before .before .component-offsets .result) (s .pre .window-is) (s .pre .batch-is) (c .before .before .unless-none .ensures) o (c .before .before .before .before .strides-on .ensures) (c .before .padded-extents .ensures) (c .padded-strides .ensures) (c .before .before .before .limits-on .ensures)
+
+pub walk-lent-spec : {M : Type 1} → statement M
+walk-lent-spec =
+    tie.close
+    (tie.spec
+    stride-at-requires
+    component-offsets-requires
+    strides-on-requires
+    limits-on-requires
+    unless-none-requires
+    padded-extents-requires
+    padded-strides-requires
+    returns)
