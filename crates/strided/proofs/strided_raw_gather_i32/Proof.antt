@@ -6,8 +6,8 @@ use Rattle.strided.proofs.Calls.{handed}
 use Rattle.strided.proofs.strided_raw_gather_i32.Statement.{statement}
 use Rattle.strided.proofs.strided_raw_gather_i32.Tie as tie
 
-raw-gather-i32-requires : tie.Need-raw-gather-i32-requires
-raw-gather-i32-requires c κs = tt
+gather-i32-requires : tie.Need-gather-i32-requires
+gather-i32-requires c κs = tt
 
 words-of-requires : tie.Need-words-of-requires
 words-of-requires c κs = tt
@@ -19,7 +19,7 @@ returns : tie.Need-returns
 returns c =
     let w = c .before .before in
     let s = w .before .before .before .before .before .before .before .before .before .before .before .before in
-    handed (pos 0) _ _ _ _ (s .args .operand .now) (s .args .starts .now) (s .args .dest .now) _ (w .raw-gather-i32 .result) (c .words-of .result) refl refl (simp (back (s .fits .operand-offset), back (s .fits .index-offset), back (s .fits .dest-offset)) at (w .raw-gather-i32 .ensures)) (c .words-of .ensures)
+    handed (pos 0) _ _ _ _ (s .args .operand .now) (s .args .starts .now) (s .args .dest .now) _ (w .gather-i32 .result) (c .words-of .result) refl refl (simp (back (s .fits .operand-offset), back (s .fits .index-offset), back (s .fits .dest-offset)) at (w .gather-i32 .ensures)) (c .words-of .ensures)
 
 pub strided-raw-gather-i32-spec : {M : Type 1} → statement M
-strided-raw-gather-i32-spec = tie.close (tie.spec raw-gather-i32-requires words-of-requires same-length returns)
+strided-raw-gather-i32-spec = tie.close (tie.spec gather-i32-requires words-of-requires same-length returns)

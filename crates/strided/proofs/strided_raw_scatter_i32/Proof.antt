@@ -6,8 +6,8 @@ use Rattle.strided.proofs.Scatters.{scatter-handed}
 use Rattle.strided.proofs.strided_raw_scatter_i32.Statement.{statement}
 use Rattle.strided.proofs.strided_raw_scatter_i32.Tie as tie
 
-raw-scatter-i32-requires : tie.Need-raw-scatter-i32-requires
-raw-scatter-i32-requires c κs = tt
+scatter-i32-requires : tie.Need-scatter-i32-requires
+scatter-i32-requires c κs = tt
 
 words-of-requires : tie.Need-words-of-requires
 words-of-requires c κs = tt
@@ -19,7 +19,7 @@ returns : tie.Need-returns
 returns c =
     let w = c .before .before in
     let s = w .before .before .before .before .before .before .before .before .before .before .before in
-    scatter-handed scatteredI32 _ _ _ _ (s .args .starts .now) (s .args .updates .now) (s .args .dest .now) _ (w .raw-scatter-i32 .result) (c .words-of .result) refl refl (simp (back (s .fits .index-offset), back (s .fits .updates-offset), back (s .fits .dest-offset)) at (w .raw-scatter-i32 .ensures)) (c .words-of .ensures)
+    scatter-handed scatteredI32 _ _ _ _ (s .args .starts .now) (s .args .updates .now) (s .args .dest .now) _ (w .scatter-i32 .result) (c .words-of .result) refl refl (simp (back (s .fits .index-offset), back (s .fits .updates-offset), back (s .fits .dest-offset)) at (w .scatter-i32 .ensures)) (c .words-of .ensures)
 
 pub strided-raw-scatter-i32-spec : {M : Type 1} → statement M
-strided-raw-scatter-i32-spec = tie.close (tie.spec raw-scatter-i32-requires words-of-requires same-length returns)
+strided-raw-scatter-i32-spec = tie.close (tie.spec scatter-i32-requires words-of-requires same-length returns)

@@ -7,7 +7,7 @@ use lib.ListN.{length}
 use lib.IntN.{ℤ}
 use Rattle.indexing.specs.Gather.{Gather, gathered}
 use Rattle.layout.specs.declared.Answer.{Answer}
-use Rattle.layout.specs.declared.Answer.the-variants as A
+use Rattle.layout.specs.declared.Answer.the-variants as N
 use Rattle.layout.specs.declared.Layout.{Layout}
 use Rattle.layout.specs.declared.MadeLayout.{MadeLayout}
 use Rattle.layout.specs.Answers.{isDone, orElse}
@@ -18,18 +18,18 @@ use Rattle.gather_plan.specs.declared.GatherPlan.{GatherPlan}
 use Rattle.gather_plan.specs.declared.CompiledGather.{CompiledGather}
 use Rattle.gather_plan.specs.Plan.{planOf, compiledGather, heldGather}
 use Rattle.gather_plan.specs.Same.{sameLayout, isCompiled}
-use Rattle.gather_plan.proofs.Compare.{layouts-decide}
+use Rattle.gather_plan.proofs.Compare.{and-true, layouts-decide}
 use Rattle.gather_plan.proofs.Compiled.{compiled-plan}
 use Rattle.gather_plan.proofs.Accepted.{strides-yes, rank-yes}
 use Rattle.gather.specs.Calls.{gatherOf, planFits, planRefusal, reachOf, callAnswer}
 use Rattle.gather_lent.specs.Lent.{placed, boundsAnswer, lentAnswer, Lent}
 use Rattle.gather_lent.proofs.Planned.{given, fits, held, compiled}
-use Rattle.strided.specs.declared.CallViews.{CallViews}
-use Rattle.strided.specs.Calls.{viewAt, viewsFrom, rawAnswer, Ran}
-use Rattle.strided.proofs.Calls.{stops, goes}
+use Rattle.raw_calls.specs.Calls.{CallViews}
+use Rattle.raw_calls.specs.Calls.{viewAt, viewsFrom, rawAnswer, Ran, SameLists}
+use Rattle.raw_calls.proofs.Others.{stops, goes, skip, mismatch-not-done, view-lists, eight}
 
 -- a layout that neither 1 nor 2 refuses
-pub made-layout : (es : List ℕ) (ss : List ℤ) → isDone (strideLength (length es) (length ss)) ≡ true → isDone (rankAtMost (length es)) ≡ true → layoutFrom es ss ≡ record { answer = A.Done; layout = layoutOf es ss }
+pub made-layout : (es : List ℕ) (ss : List ℤ) → isDone (strideLength (length es) (length ss)) ≡ true → isDone (rankAtMost (length es)) ≡ true → layoutFrom es ss ≡ record { answer = N.Done; layout = layoutOf es ss }
 unfolding layoutFrom
 made-layout es ss p q = rw (p, q) (ap (λ (x : Answer). record { answer = x; layout = layoutOf es ss }) (done-is (rankAtMost (length es)) q))
 
@@ -44,7 +44,7 @@ module _ (oe : List ℕ) (os : List ℤ) (ie : List ℕ) (is : List ℤ) (de : L
   abbrev made : CallViews
   made =
       record {
-        answer = A.Done;
+        answer = N.Done;
         first = record { layout = layoutOf oe os; offset = a };
         second = record { layout = layoutOf ie is; offset = b };
         third = record { layout = layoutOf de ds; offset = c };
@@ -87,9 +87,6 @@ module _ (oe : List ℕ) (os : List ℤ) (ie : List ℕ) (is : List ℤ) (de : L
         ap₂ (λ (p : GatherPlan) (v : CallViews). gatherOf p (v .first) (v .second) (v .third)) (compiled-plan true g done) views-are
         ∙ ap (λ (h : Gather). placed h a b c) (held oe os ie is de ds offsets collapsed map vector sizes done)
 
-skip : {A : Type 0} (t : Bool) (x z : A) → t ≡ false → cond t x z ≡ z
-skip t x z e = ap (λ (b : Bool). cond b x z) e
-
 -- THE TWO ARE ONE
 pub lent-ran : {A : Type 0} (z : A) (oe : List ℕ) (os : List ℤ) (ie : List ℕ) (is : List ℤ) (de : List ℕ) (ds : List ℤ) (offsets collapsed map : List ℕ) (vector : ℕ) (sizes : List ℕ) (a b c : ℤ) (operand : List A) (starts : List ℤ) (before after : List A) (answer : Answer)
     → Lent z (gatherFrom oe os ie is de ds offsets collapsed map vector sizes) a b c operand starts before after answer
@@ -115,6 +112,43 @@ pub same-ran : {A : Type 0} (z : A) (k : CompiledGather) (xe ye ze xe′ ye′ z
 same-ran z k xe ye ze xe′ ye′ ze′ xs ys zs xs′ ys′ zs′ a b c operand starts before after answer p q r s t u =
     subst (λ (v : CallViews). Ran z k v operand starts before after answer) (λ i. viewsFrom (p i) (q i) a (r i) (s i) b (t i) (u i) c)
 
-pub ran-same : {A : Type 0} (z : A) (k l : CompiledGather) (v u : CallViews) (operand : List A) (starts : List ℤ) (before after : List A) (answer : Answer) → k ≡ l → v ≡ u → Ran z k v operand starts before after answer → Ran z l u operand starts before after answer
-ran-same z k l v u operand starts before after answer e f r =
-    subst (λ (x : CompiledGather). Ran z x u operand starts before after answer) e (subst (λ (y : CallViews). Ran z k y operand starts before after answer) f r)
+-- ---- views of other layouts
+module _ (oe : List ℕ) (os : List ℤ) (ie : List ℕ) (is : List ℤ) (de : List ℕ) (ds : List ℤ) (offsets collapsed map : List ℕ) (vector : ℕ) (sizes : List ℕ) (xe : List ℕ) (xs : List ℤ) (ye : List ℕ) (ys : List ℤ) (ze : List ℕ) (zs : List ℤ) (a b c : ℤ) (other : SameLists oe os xe xs ie is ye ys de ds ze zs → ⊥) where
+  abbrev asked : Gather
+  asked = given oe os ie is de ds offsets collapsed map vector sizes
+
+  abbrev they : CallViews
+  they = viewsFrom xe xs a ye ys b ze zs c
+
+  abbrev mismatch : Answer
+  mismatch = orElse (refusalOf true asked) N.PlanLayoutMismatch
+
+  unfitting : isDone (refusalOf true asked) ≡ true → (isDone (layoutFrom xe xs .answer) && (isDone (layoutFrom ye ys .answer) && isDone (layoutFrom ze zs .answer))) ≡ true → planFits (planOf asked) (viewAt (layoutFrom xe xs) a) (viewAt (layoutFrom ye ys) b) (viewAt (layoutFrom ze zs) c) ≡ true → ⊥
+  unfitting done made fit =
+      let k = fits oe os ie is de ds offsets collapsed map vector sizes done in
+      let m = and-true (isDone (layoutFrom xe xs .answer)) _ made in
+      let n = and-true (isDone (layoutFrom ye ys .answer)) _ (m .1) in
+      let p = and-true (sameLayout (layoutFrom xe xs .layout) (layoutOf oe os)) _ fit in
+      let q = and-true (sameLayout (layoutFrom ye ys .layout) (layoutOf ie is)) _ (p .1) in
+      let r = and-true (sameLayout (layoutFrom ze zs .layout) (layoutOf de ds)) _ (q .1) in
+      let x = view-lists xe xs oe os (k .operand-strides) (k .operand-rank) (m .0) (p .0) in
+      let y = view-lists ye ys ie is (k .index-strides) (k .index-rank) (n .0) (q .0) in
+      let z = view-lists ze zs de ds (k .dest-strides) (k .dest-rank) (n .1) (r .0) in
+      other (x .0, x .1, y .0, y .1, z .0, z .1)
+
+  other-answer : (on sn dn : ℕ) → rawAnswer (compiledGather true asked) they on sn dn ≡ mismatch
+  unfolding compiledGather viewsFrom callAnswer
+  other-answer on sn dn = go (isDone (refusalOf true asked)) refl
+    where
+      go : (t : Bool) → isDone (refusalOf true asked) ≡ t → rawAnswer (compiledGather true asked) they on sn dn ≡ mismatch
+      go true e =
+          goes (refusalOf true asked) _ e
+          ∙ ap (λ (p : GatherPlan). orElse (they .answer) (callAnswer p (they .first) (they .second) (they .third) on sn dn)) (compiled-plan true asked e)
+          ∙ eight (isDone (layoutFrom xe xs .answer) && (isDone (layoutFrom ye ys .answer) && isDone (layoutFrom ze zs .answer))) (planFits (planOf asked) (they .first) (they .second) (they .third)) _ (unfitting e)
+          ∙ sym (goes (refusalOf true asked) N.PlanLayoutMismatch e)
+      go false e = stops (refusalOf true asked) _ e ∙ sym (stops (refusalOf true asked) N.PlanLayoutMismatch e)
+
+  pub other-ran : {A : Type 0} (z : A) (operand : List A) (starts : List ℤ) (before : List A) (answer : Answer) → answer ≡ mismatch → Ran z (compiledGather true asked) they operand starts before before answer
+  other-ran z operand starts before answer e =
+      let r = other-answer (length operand) (length starts) (length before) in
+      record { answered = e ∙ sym r; left = sym (skip _ _ before (ap isDone r ∙ mismatch-not-done (refusalOf true asked))) }

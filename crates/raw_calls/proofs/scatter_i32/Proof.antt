@@ -1,0 +1,53 @@
+use mathlib.Core.Path.{sym, ap, _∙_}
+use mathlib.Core.Bool.{true≢false}
+use borrow.Author.Needs.{needs}
+use Rattle.integer.specs.Z.{back}
+use Rattle.layout.specs.declared.Answer.{Answer}
+use Rattle.layout.specs.declared.Answer.the-variants.{PlanLayoutMismatch}
+use Rattle.layout.specs.Answers.{orElse}
+use Rattle.indexing.specs.Scatter.{scatteredI32}
+use Rattle.raw_calls.proofs.LentScatters.{lent-scattered, same-scattered, other-scattered}
+use Rattle.raw_calls.proofs.scatter_i32.Statement.{statement}
+use Rattle.raw_calls.proofs.scatter_i32.Tie as tie
+
+same-views-requires : tie.Need-same-views-requires
+same-views-requires c κs = tt
+
+scatter-i32-requires : tie.Need-scatter-i32-requires
+scatter-i32-requires c κs = tt
+
+same-length : tie.Need-same-length
+same-length c = search needs
+
+returns : tie.Need-returns
+returns c =
+    let w = c .before in
+    let x = w .before .before .before in
+    let s = x .before .before .before .before .before .before .before .before .before .before in
+    let (p, q, u, v, m, n) = x .same-views .ensures .yes (w .before .before .if1 .taken) in
+    same-scattered scatteredI32 _ (s .args .index-extents .now) (s .args .updates-extents .now) (s .args .dest-extents .now) (s .args .index-view-extents .now) (s .args .updates-view-extents .now) (s .args .dest-view-extents .now) (s .args .index-strides .now) (s .args .updates-strides .now) (s .args .dest-strides .now) (s .args .index-view-strides .now) (s .args .updates-view-strides .now) (s .args .dest-view-strides .now) (s .args .index-offset) (s .args .updates-offset) (s .args .dest-offset) (s .args .starts .now) (s .args .updates .now) (s .args .dest .now) _ (w .scatter-i32 .result) p q u v m n
+    (lent-scattered scatteredI32 (s .args .index-extents .now) (s .args .index-strides .now) (s .args .updates-extents .now) (s .args .updates-strides .now) (s .args .dest-extents .now) (s .args .dest-strides .now) (s .args .update-window-dims .now) (s .args .inserted-window-dims .now) (s .args .scatter-dims-to-operand-dims .now) (s .args .index-vector-dim) (s .args .index-offset) (s .args .updates-offset) (s .args .dest-offset) (s .args .starts .now) (s .args .updates .now) (s .args .dest .now) _ (w .scatter-i32 .result) (simp (back (s .fits .index-offset), back (s .fits .updates-offset), back (s .fits .dest-offset)) at (w .scatter-i32 .ensures)))
+
+scatter-refusal-requires : tie.Need-scatter-refusal-requires
+scatter-refusal-requires c κs = tt
+
+or-else-requires : tie.Need-or-else-requires
+or-else-requires c κs = tt
+
+returns-2 : tie.Need-returns-2
+returns-2 c =
+    let x = c .before .before .before in
+    let s = x .before .before .before .before .before .before .before .before .before .before in
+    other-scattered (s .args .index-extents .now) (s .args .index-strides .now) (s .args .updates-extents .now) (s .args .updates-strides .now) (s .args .dest-extents .now) (s .args .dest-strides .now) (s .args .update-window-dims .now) (s .args .inserted-window-dims .now) (s .args .scatter-dims-to-operand-dims .now) (s .args .index-vector-dim) (s .args .index-view-extents .now) (s .args .index-view-strides .now) (s .args .updates-view-extents .now) (s .args .updates-view-strides .now) (s .args .dest-view-extents .now) (s .args .dest-view-strides .now) (s .args .index-offset) (s .args .updates-offset) (s .args .dest-offset) (λ h. true≢false (sym (x .same-views .ensures .no h) ∙ c .before .before .if1 .left)) scatteredI32 (s .args .starts .now) (s .args .updates .now) (s .args .dest .now) _ (c .or-else .ensures ∙ ap (λ (y : Answer). orElse y PlanLayoutMismatch) (c .before .scatter-refusal .ensures))
+
+pub scatter-i32-spec : {M : Type 1} → statement M
+scatter-i32-spec =
+    tie.close
+    (tie.spec
+    same-views-requires
+    scatter-i32-requires
+    same-length
+    returns
+    scatter-refusal-requires
+    or-else-requires
+    returns-2)
