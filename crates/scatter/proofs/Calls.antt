@@ -28,7 +28,7 @@ use Rattle.gather_checks.proofs.Made.{or-done}
 use Rattle.gather_plan.specs.Same.{sameLayout}
 use Rattle.gather_plan.proofs.Compare.{and-true, layouts-decide}
 use Rattle.gather.specs.Calls.{planRefusal, reachOf}
-use Rattle.gather.proofs.Covers.{no-zero}
+use Rattle.gather_walk.proofs.Covers.{no-zero}
 use Rattle.gather.proofs.Calls.{plan-done, zero-of}
 use Rattle.scatter_plan.specs.declared.ScatterPlan.{ScatterPlan}
 use Rattle.scatter_plan.specs.Same.{isCompiled}

@@ -23,9 +23,9 @@ use Rattle.scatter_plan.specs.Plan.{planOf, heldScatter}
 use Rattle.scatter_plan.specs.Same.{isCompiled}
 use Rattle.scatter_plan.proofs.Compiled.{compiled-is}
 use Rattle.scatter_plan.proofs.Accepted.{Accepted, accepted}
-use Rattle.gather.specs.Walks.{limitAt}
-use Rattle.gather.proofs.Planned.{padded-entry}
-use Rattle.gather.proofs.Accepts.{spans-small}
+use Rattle.gather_walk.specs.Walks.{limitAt}
+use Rattle.gather_walk.proofs.Planned.{padded-entry}
+use Rattle.gather_walk.proofs.Accepts.{spans-small}
 use Rattle.scatter.specs.Walks.{stepsAt}
 use Rattle.scatter.proofs.Merged.{Walked, walked}
 

@@ -39,10 +39,10 @@ use Rattle.scatter_plan.specs.declared.ScatterPlan.{ScatterPlan}
 use Rattle.scatter_plan.specs.Plan.{heldScatter}
 use Rattle.scatter_plan.specs.Same.{isCompiled}
 use Rattle.scatter_plan.proofs.Valid.{valid}
-use Rattle.gather.specs.Walks.{limitAt, unlessNone}
-use Rattle.gather.proofs.Planned.{unless-some}
-use Rattle.gather.proofs.Covers.{no-zero, covered}
-use Rattle.gather.proofs.Walking.{sum-same, clamp-limit, axis-below, zero-dot}
+use Rattle.gather_walk.specs.Walks.{limitAt, unlessNone}
+use Rattle.gather_walk.proofs.Planned.{unless-some}
+use Rattle.gather_walk.proofs.Covers.{no-zero, covered}
+use Rattle.gather_walk.proofs.Walking.{sum-same, clamp-limit, axis-below, zero-dot}
 use Rattle.scatter.specs.Walks.{stepsAt, walkOf, scatterAt}
 use Rattle.scatter.specs.declared.ScatterWalk.{ScatterWalk}
 use Rattle.scatter.proofs.Planned.{done, batch-walked, window-walked, count-is, count-few, small-result, offset-at, stride-at, limit-at}

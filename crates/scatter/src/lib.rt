@@ -83,11 +83,11 @@ pub fn walk_of(
     let batch_extents = replay::shape_of(batch_axes);
     let window_extents = replay::shape_of(window_axes);
     let index = source_steps(batch_rows);
-    let stepped = gather::unless_none(map.count, index);
+    let stepped = gather_walk::unless_none(map.count, index);
     let update_steps = dest_steps(batch_rows);
     let window_steps = source_steps(window_rows);
     let steps = dest_steps(window_rows);
-    let limits = gather::limits_of(dest, windows, map);
+    let limits = gather_walk::limits_of(dest, windows, map);
     let offsets = component_offsets.entries;
     let strides = component_strides.entries;
     ScatterWalk {
@@ -231,7 +231,7 @@ fn cells_i32(
 {
     let end = high + 1;
     let walk = walk_of(plan, batch_rows, window_rows);
-    let base = gather::start_base(walk.count, t);
+    let base = gather_walk::start_base(walk.count, t);
     let from = low as i64;
     let at = d - from;
     run_i32(walk, starts, source, &mut into[low..end], base, u, at);
@@ -382,7 +382,7 @@ fn cells_f64(
 {
     let end = high + 1;
     let walk = walk_of(plan, batch_rows, window_rows);
-    let base = gather::start_base(walk.count, t);
+    let base = gather_walk::start_base(walk.count, t);
     let from = low as i64;
     let at = d - from;
     run_f64(walk, starts, source, &mut into[low..end], base, u, at);

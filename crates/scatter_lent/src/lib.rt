@@ -14,7 +14,7 @@ ghost use Rattle.layout.specs.Reach.{viewReach, bufferBounds};
 ghost use Rattle.replay.specs.Replays.{rowsOf};
 ghost use Rattle.runs.specs.Runs.{ruleI32, ruleF64};
 ghost use Rattle.runs.specs.declared.Rule.the-variants as R;
-ghost use Rattle.gather.specs.Walks.{limitAt};
+ghost use Rattle.gather_walk.specs.Walks.{limitAt};
 ghost use Rattle.scatter_checks.specs.Refusals.{scatterFrom, batchWalk, windowWalk, refusalOf};
 ghost use Rattle.scatter_windows.specs.Scattering.{scatteredBy, Scattering};
 ghost use Rattle.scatter_plan.specs.Made.{made};
@@ -122,7 +122,7 @@ fn walk_lent(
     let batch_extents = replay::shape_of(batch_axes);
     let window_extents = replay::shape_of(window_axes);
     let index = source_steps(batch_axes);
-    let stepped = gather::unless_none(count, index);
+    let stepped = gather_walk::unless_none(count, index);
     let update_steps = dest_steps(batch_axes);
     let window_steps = source_steps(window_axes);
     let steps = dest_steps(window_axes);
@@ -255,7 +255,7 @@ fn cells_i32(
         batch,
         cells,
     );
-    let base = gather::start_base(walk.count, t);
+    let base = gather_walk::start_base(walk.count, t);
     let from = low as i64;
     let at = d - from;
     run_i32(walk, starts, source, &mut into[low..end], base, u, at);
@@ -432,7 +432,7 @@ fn cells_f64(
         batch,
         cells,
     );
-    let base = gather::start_base(walk.count, t);
+    let base = gather_walk::start_base(walk.count, t);
     let from = low as i64;
     let at = d - from;
     run_f64(walk, starts, source, &mut into[low..end], base, u, at);

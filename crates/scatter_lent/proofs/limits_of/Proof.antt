@@ -6,8 +6,8 @@ use Rattle.indexing.specs.Coordinates.{tabulate}
 use Rattle.indexing.specs.Cuts.{length-tabulate, getD-tabulate}
 use Rattle.layout.specs.Layouts.{rankLimit}
 use Rattle.axis_lists.proofs.Filling.{written, one-written, all-written}
-use Rattle.gather.specs.Walks.{limitAt}
-use Rattle.gather.proofs.Full.{full}
+use Rattle.gather_walk.specs.Walks.{limitAt}
+use Rattle.gather_walk.proofs.Full.{full}
 use borrow.Author.Needs.{needs}
 use Rattle.scatter_lent.proofs.limits_of.Statement.{statement}
 use Rattle.scatter_lent.proofs.limits_of.Tie as tie

@@ -2,10 +2,10 @@ use lib.Ieee.{nan}
 use Rattle.integer.specs.Z.{back}
 use Rattle.runs.specs.Runs.{ruleF64}
 use Rattle.runs.specs.declared.Rule.the-variants as R
-use Rattle.gather.proofs.Parts.{back-end}
+use Rattle.gather_walk.proofs.Parts.{back-end}
 use borrow.Author.Needs.{needs}
-use Rattle.gather.proofs.run_f64.Statement.{statement}
-use Rattle.gather.proofs.run_f64.Tie as tie
+use Rattle.gather_walk.proofs.run_f64.Statement.{statement}
+use Rattle.gather_walk.proofs.run_f64.Tie as tie
 
 -- src/lib.rt:215:5
 gather-window-f64-requires : tie.Need-gather-window-f64-requires

@@ -41,11 +41,11 @@ use Rattle.windows.specs.Windows.{placeAt, Region}
 use Rattle.takes.specs.Takes.{componentAt, startAt, Starting, movedAt}
 use Rattle.takes.proofs.Starts.{in-wider}
 use Rattle.gather_windows.specs.Gathering.{gatheredBy, Gathering}
-use Rattle.gather.specs.Walks.{windowStepsOf, batchStepsOf, limitAt, unlessNone, walkOf, gatherAt}
-use Rattle.gather.specs.declared.GatherWalk.{GatherWalk}
-use Rattle.gather.proofs.Accepts.{small, valid}
-use Rattle.gather.proofs.Covers.{no-zero, covered}
-use Rattle.gather.proofs.Planned.{done, rank-is, rank-few, rank-room, strides-room, window-steps, batch-steps, count-is, count-few, offset-at, stride-at, limit-at, unless-some}
+use Rattle.gather_walk.specs.Walks.{windowStepsOf, batchStepsOf, limitAt, unlessNone, walkOf, gatherAt}
+use Rattle.gather_walk.specs.declared.GatherWalk.{GatherWalk}
+use Rattle.gather_walk.proofs.Accepts.{small, valid}
+use Rattle.gather_walk.proofs.Covers.{no-zero, covered}
+use Rattle.gather_walk.proofs.Planned.{done, rank-is, rank-few, rank-room, strides-room, window-steps, batch-steps, count-is, count-few, offset-at, stride-at, limit-at, unless-some}
 
 -- ---- sums and clamps
 pub sum-same : (n : ℕ) (f g : ℕ → ℤ) → ((c : ℕ) → c < n → f c ≡ g c) → sumOf n f ≡ sumOf n g

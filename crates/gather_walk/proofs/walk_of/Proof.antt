@@ -2,10 +2,10 @@ use mathlib.Core.Path.{ap, _∙_}
 use lib.ListN.{replicate}
 use lib.IntN.{pos}
 use Rattle.layout.specs.Layouts.{rankLimit}
-use Rattle.gather.specs.Walks.{unlessNone, walkOf}
+use Rattle.gather_walk.specs.Walks.{unlessNone, walkOf}
 use borrow.Author.Needs.{needs}
-use Rattle.gather.proofs.walk_of.Statement.{statement}
-use Rattle.gather.proofs.walk_of.Tie as tie
+use Rattle.gather_walk.proofs.walk_of.Statement.{statement}
+use Rattle.gather_walk.proofs.walk_of.Tie as tie
 
 -- src/lib.rt:121:9
 window-steps-requires : tie.Need-window-steps-requires

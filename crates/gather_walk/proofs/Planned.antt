@@ -25,7 +25,7 @@ use Rattle.gather_plan.specs.Plan.{noAxis, axisOf, planOf, heldGather}
 use Rattle.gather_plan.specs.Same.{isCompiled}
 use Rattle.gather_plan.proofs.Compiled.{compiled-is}
 use Rattle.gather_plan.proofs.Accepted.{Accepted, accepted}
-use Rattle.gather.specs.Walks.{windowStepsOf, batchStepsOf, limitAt, unlessNone, walkOf}
+use Rattle.gather_walk.specs.Walks.{windowStepsOf, batchStepsOf, limitAt, unlessNone, walkOf}
 
 -- ---- lists as they are held
 pub padded-entry : {A : Type 0} (d : A) (l : List A) (i : ℕ) → i < length l → length l ≤ rankLimit → getD (padded rankLimit d l) i d ≡ getD l i d

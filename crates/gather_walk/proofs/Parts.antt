@@ -22,9 +22,9 @@ use Rattle.layout.specs.Inside.{Inside, reach-inside, low-most, high-least}
 use Rattle.gather_plan.specs.declared.GatherPlan.{GatherPlan}
 use Rattle.runs.proofs.Place.{read}
 use Rattle.gather_windows.specs.Gathering.{gatheredBy, Gathering}
-use Rattle.gather.specs.Walks.{unlessNone, walkOf, gatherAt, Reached}
-use Rattle.gather.specs.declared.GatherWalk.{GatherWalk}
-use Rattle.gather.proofs.Walking.{startBase, at-valid, gathering, walk-is}
+use Rattle.gather_walk.specs.Walks.{unlessNone, walkOf, gatherAt, Reached}
+use Rattle.gather_walk.specs.declared.GatherWalk.{GatherWalk}
+use Rattle.gather_walk.proofs.Walking.{startBase, at-valid, gathering, walk-is}
 
 pub back-end : {A : Type 0} (z : A) (rule : A → A → A) (src : List A) (starts offsets strides : List ℤ) (limits : List ℕ) (count : ℕ) (s t d : ℤ) (shape : List ℕ) (ss ts ds : List ℤ) (rank : ℕ) (x y : List A) → SFits w64 s → SFits w64 t → SFits w64 d
     → y ≡ gatheredBy z rule src starts offsets strides limits count (read s) (read t) (read d) shape ss ts ds rank x

@@ -11,10 +11,10 @@ use Rattle.axis_lists.specs.Held.{numbersOf}
 use Rattle.axis_lists.proofs.Filling.{written, one-written, all-written}
 use Rattle.gather_checks.proofs.Read.{extents-length}
 use Rattle.gather_checks.proofs.Shape.{held-read}
-use Rattle.gather.specs.Walks.{limitAt}
-use Rattle.gather.proofs.Full.{full}
-use Rattle.gather.proofs.limits_of.Statement.{statement}
-use Rattle.gather.proofs.limits_of.Tie as tie
+use Rattle.gather_walk.specs.Walks.{limitAt}
+use Rattle.gather_walk.proofs.Full.{full}
+use Rattle.gather_walk.proofs.limits_of.Statement.{statement}
+use Rattle.gather_walk.proofs.limits_of.Tie as tie
 
 abbrev Inv-loop : tie.InvT-loop
 Inv-loop sizes map extents out₀ i₀ out i = (i ≤ rankLimit) × (out ≡ written 0 (tabulate rankLimit (limitAt (numbersOf extents) (numbersOf sizes) (numbersOf map))) i)

@@ -3,10 +3,10 @@ use Prim.Native.Nat.{ℕ}
 use native.Mathlib.Omega.{arith}
 use lib.IntN.{pos}
 use Rattle.integer.specs.Z.{back}
-use Rattle.gather.specs.Walks.{unlessNone}
-use Rattle.gather.proofs.Planned.{unless-some}
-use Rattle.gather.proofs.start_base.Statement.{statement}
-use Rattle.gather.proofs.start_base.Tie as tie
+use Rattle.gather_walk.specs.Walks.{unlessNone}
+use Rattle.gather_walk.proofs.Planned.{unless-some}
+use Rattle.gather_walk.proofs.start_base.Statement.{statement}
+use Rattle.gather_walk.proofs.start_base.Tie as tie
 
 -- src/lib.rt:102:1
 returns : tie.Need-returns

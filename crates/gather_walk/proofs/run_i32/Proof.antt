@@ -2,10 +2,10 @@ use lib.IntN.{pos}
 use Rattle.integer.specs.Z.{back}
 use Rattle.runs.specs.Runs.{ruleI32}
 use Rattle.runs.specs.declared.Rule.the-variants as R
-use Rattle.gather.proofs.Parts.{back-end}
+use Rattle.gather_walk.proofs.Parts.{back-end}
 use borrow.Author.Needs.{needs}
-use Rattle.gather.proofs.run_i32.Statement.{statement}
-use Rattle.gather.proofs.run_i32.Tie as tie
+use Rattle.gather_walk.proofs.run_i32.Statement.{statement}
+use Rattle.gather_walk.proofs.run_i32.Tie as tie
 
 -- src/lib.rt:215:5
 gather-window-requires : tie.Need-gather-window-requires

@@ -4,10 +4,10 @@ use native.Mathlib.Omega.{arith}
 use lib.ListN.{replicate}
 use lib.IntN.{pos}
 use Rattle.layout.specs.Layouts.{rankLimit}
-use Rattle.gather.specs.Walks.{unlessNone}
-use Rattle.gather.proofs.Planned.{unless-some}
-use Rattle.gather.proofs.unless_none.Statement.{statement}
-use Rattle.gather.proofs.unless_none.Tie as tie
+use Rattle.gather_walk.specs.Walks.{unlessNone}
+use Rattle.gather_walk.proofs.Planned.{unless-some}
+use Rattle.gather_walk.proofs.unless_none.Statement.{statement}
+use Rattle.gather_walk.proofs.unless_none.Tie as tie
 
 -- src/lib.rt:89:1
 returns : tie.Need-returns
