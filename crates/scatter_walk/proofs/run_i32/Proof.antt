@@ -2,17 +2,20 @@ use lib.IntN.{pos}
 use Rattle.integer.specs.Z.{back}
 use Rattle.runs.specs.Runs.{ruleI32}
 use Rattle.runs.specs.declared.Rule.the-variants as R
-use Rattle.scatter.proofs.Parts.{back-end}
+use Rattle.scatter_walk.proofs.Parts.{back-end}
 use borrow.Author.Needs.{needs}
-use Rattle.scatter_lent.proofs.run_i32.Statement.{statement}
-use Rattle.scatter_lent.proofs.run_i32.Tie as tie
+use Rattle.scatter_walk.proofs.run_i32.Statement.{statement}
+use Rattle.scatter_walk.proofs.run_i32.Tie as tie
 
+-- src/lib.rt:184:5
 scatter-window-requires : tie.Need-scatter-window-requires
 scatter-window-requires c κs = let a = c .before .before .before .before .before .before .before .before .before .before .before .before .before .before .before .before .before .before .before in simp (back (a .fits .t), back (a .fits .u), back (a .fits .d)) (a .pre)
 
+-- src/lib.rt:163:1
 same-length : tie.Need-same-length
 same-length c = search needs
 
+-- src/lib.rt:163:1
 returns : tie.Need-returns
 returns c =
     let a = c .before .before .before .before .before .before .before .before .before .before .before .before .before .before .before .before .before .before .before .before .before in

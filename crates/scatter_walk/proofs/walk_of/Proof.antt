@@ -3,10 +3,10 @@ use lib.ListN.{replicate}
 use lib.IntN.{pos}
 use Rattle.layout.specs.Layouts.{rankLimit}
 use Rattle.gather_walk.specs.Walks.{unlessNone}
-use Rattle.scatter.specs.Walks.{walkOf}
+use Rattle.scatter_walk.specs.Walks.{walkOf}
 use borrow.Author.Needs.{needs}
-use Rattle.scatter.proofs.walk_of.Statement.{statement}
-use Rattle.scatter.proofs.walk_of.Tie as tie
+use Rattle.scatter_walk.proofs.walk_of.Statement.{statement}
+use Rattle.scatter_walk.proofs.walk_of.Tie as tie
 
 -- src/lib.rt:81:9
 shape-of-requires : tie.Need-shape-of-requires

@@ -43,9 +43,9 @@ use Rattle.gather_walk.specs.Walks.{limitAt, unlessNone}
 use Rattle.gather_walk.proofs.Planned.{unless-some}
 use Rattle.gather_walk.proofs.Covers.{no-zero, covered}
 use Rattle.gather_walk.proofs.Walking.{sum-same, clamp-limit, axis-below, zero-dot}
-use Rattle.scatter.specs.Walks.{stepsAt, walkOf, scatterAt}
-use Rattle.scatter.specs.declared.ScatterWalk.{ScatterWalk}
-use Rattle.scatter.proofs.Planned.{done, batch-walked, window-walked, count-is, count-few, small-result, offset-at, stride-at, limit-at}
+use Rattle.scatter_walk.specs.Walks.{stepsAt, walkOf, scatterAt}
+use Rattle.scatter_walk.specs.declared.ScatterWalk.{ScatterWalk}
+use Rattle.scatter_walk.proofs.Planned.{done, batch-walked, window-walked, count-is, count-few, small-result, offset-at, stride-at, limit-at}
 
 -- the first coordinate adds nothing
 dot-first : (ss : List ℤ) (ds : List ℕ) → dot ss (unravel ds 0) ≡ pos 0

@@ -22,9 +22,9 @@ use Rattle.runs.proofs.Place.{read}
 use Rattle.scatter_windows.specs.Scattering.{scatteredBy, Scattering}
 use Rattle.scatter_plan.specs.declared.ScatterPlan.{ScatterPlan}
 use Rattle.gather_walk.specs.Walks.{unlessNone}
-use Rattle.scatter.specs.Walks.{walkOf, scatterAt, Reached}
-use Rattle.scatter.specs.declared.ScatterWalk.{ScatterWalk}
-use Rattle.scatter.proofs.Walking.{startBase, at-valid, scattering, walk-is}
+use Rattle.scatter_walk.specs.Walks.{walkOf, scatterAt, Reached}
+use Rattle.scatter_walk.specs.declared.ScatterWalk.{ScatterWalk}
+use Rattle.scatter_walk.proofs.Walking.{startBase, at-valid, scattering, walk-is}
 
 pub back-end : {A : Type 0} (z : A) (rule : A → A → A) (src : List A) (starts offsets strides : List ℤ) (limits : List ℕ) (count : ℕ) (t u d : ℤ) (bs : List ℕ) (ts us : List ℤ) (br : ℕ) (ws : List ℕ) (ss ds : List ℤ) (wr : ℕ) (x y : List A) → SFits w64 t → SFits w64 u → SFits w64 d
     → y ≡ scatteredBy z rule src starts offsets strides limits count (read t) (read u) (read d) bs ts us br ws ss ds wr x

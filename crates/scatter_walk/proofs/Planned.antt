@@ -26,8 +26,8 @@ use Rattle.scatter_plan.proofs.Accepted.{Accepted, accepted}
 use Rattle.gather_walk.specs.Walks.{limitAt}
 use Rattle.gather_walk.proofs.Planned.{padded-entry}
 use Rattle.gather_walk.proofs.Accepts.{spans-small}
-use Rattle.scatter.specs.Walks.{stepsAt}
-use Rattle.scatter.proofs.Merged.{Walked, walked}
+use Rattle.scatter_walk.specs.Walks.{stepsAt}
+use Rattle.scatter_walk.proofs.Merged.{Walked, walked}
 
 module _ (p : ScatterPlan) (b w : List (List ℤ)) (ok : isCompiled p b w ≡ true) where
   pub done : isDone (refusalOf false (heldScatter p)) ≡ true
