@@ -1,6 +1,6 @@
 use borrow.Author.Needs.{needs}
-use Rattle.job_reader.proofs.list_fault.Statement.{statement}
-use Rattle.job_reader.proofs.list_fault.Tie as tie
+use Rattle.job_lists.proofs.list_fault.Statement.{statement}
+use Rattle.job_lists.proofs.list_fault.Tie as tie
 
 no-list-requires : tie.Need-no-list-requires
 no-list-requires c κs = search needs

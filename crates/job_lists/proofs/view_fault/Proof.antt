@@ -1,6 +1,6 @@
 use borrow.Author.Needs.{needs}
-use Rattle.job_reader.proofs.view_fault.Statement.{statement}
-use Rattle.job_reader.proofs.view_fault.Tie as tie
+use Rattle.job_lists.proofs.view_fault.Statement.{statement}
+use Rattle.job_lists.proofs.view_fault.Tie as tie
 
 no-view-requires : tie.Need-no-view-requires
 no-view-requires c κs = search needs

@@ -4,10 +4,10 @@ use Prim.Native.Nat.{_≤_, _-_}
 use mathlib.Core.Path.{_≡_, refl, sym}
 use lib.ListN.{length, take, length-take}
 use lib.Seq.{getD-take}
-use Rattle.job_reader.proofs.Chains.{copied, copy-one, copy-ends, copy-full}
+use Rattle.job_lists.proofs.Chains.{copied, copy-one, copy-ends, copy-full}
 use borrow.Author.Needs.{needs}
-use Rattle.job_reader.proofs.extents_from.Statement.{statement}
-use Rattle.job_reader.proofs.extents_from.Tie as tie
+use Rattle.job_lists.proofs.extents_from.Statement.{statement}
+use Rattle.job_lists.proofs.extents_from.Tie as tie
 
 abbrev Inv-loop : tie.InvT-loop
 Inv-loop n words out₀ i₀ out i = (i ≤ n) × (i ≤ 8) × (out ≡ copied 1 (take n words) i)

@@ -9,10 +9,10 @@ use mir.Syntax.{w64}
 use mir.Val.{SFits}
 use Rattle.integer.specs.Z.{back}
 use Rattle.job_bytes.specs.Fields.{signedOf}
-use Rattle.job_reader.proofs.Chains.{copied, copy-one, copy-ends, copy-full, length-signed, signed-entry}
+use Rattle.job_lists.proofs.Chains.{copied, copy-one, copy-ends, copy-full, length-signed, signed-entry}
 use borrow.Author.Needs.{needs}
-use Rattle.job_reader.proofs.strides_from.Statement.{statement}
-use Rattle.job_reader.proofs.strides_from.Tie as tie
+use Rattle.job_lists.proofs.strides_from.Statement.{statement}
+use Rattle.job_lists.proofs.strides_from.Tie as tie
 
 abbrev Inv-loop : tie.InvT-loop
 Inv-loop n words out₀ i₀ out i = (i ≤ n) × (i ≤ 8) × (out ≡ copied (pos 0) (map signedOf (take n words)) i)

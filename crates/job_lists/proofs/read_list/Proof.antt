@@ -1,11 +1,11 @@
 use mathlib.Core.Path.{refl, sym, ap, _∙_}
 use borrow.Author.Tests.{not-true, not-false}
-use Rattle.job_reader.specs.Held.{heldEntries}
+use Rattle.job_lists.specs.Held.{heldEntries}
 use Rattle.job_bytes.proofs.Reading.{number-read, number-fault, byte-range, words-fault}
-use Rattle.job_reader.proofs.Chains.{list-1, list-2, list-held}
+use Rattle.job_lists.proofs.Chains.{list-1, list-2, list-held}
 use borrow.Author.Needs.{needs}
-use Rattle.job_reader.proofs.read_list.Statement.{statement}
-use Rattle.job_reader.proofs.read_list.Tie as tie
+use Rattle.job_lists.proofs.read_list.Statement.{statement}
+use Rattle.job_lists.proofs.read_list.Tie as tie
 
 read-byte-requires : tie.Need-read-byte-requires
 read-byte-requires c κs = search needs

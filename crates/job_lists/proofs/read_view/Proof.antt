@@ -3,12 +3,12 @@ use borrow.Author.Tests.{not-true, not-false}
 use mir.Syntax.{w64}
 use mir.Val.{SFits}
 use Rattle.integer.specs.Z.{back}
-use Rattle.job_reader.specs.Held.{heldView}
+use Rattle.job_lists.specs.Held.{heldView}
 use Rattle.job_bytes.proofs.Reading.{number-read, number-fault, words-fault, words-read}
-use Rattle.job_reader.proofs.Chains.{view-1, view-2, view-3, view-4, view-held, rank-words}
+use Rattle.job_lists.proofs.Chains.{view-1, view-2, view-3, view-4, view-held, rank-words}
 use borrow.Author.Needs.{needs}
-use Rattle.job_reader.proofs.read_view.Statement.{statement}
-use Rattle.job_reader.proofs.read_view.Tie as tie
+use Rattle.job_lists.proofs.read_view.Statement.{statement}
+use Rattle.job_lists.proofs.read_view.Tie as tie
 
 read-byte-requires : tie.Need-read-byte-requires
 read-byte-requires c κs = search needs

@@ -1,7 +1,7 @@
 use Rattle.job.specs.Format.{sizesAt}
 use borrow.Author.Needs.{needs}
-use Rattle.job_reader.proofs.read_sizes.Statement.{statement}
-use Rattle.job_reader.proofs.read_sizes.Tie as tie
+use Rattle.job_lists.proofs.read_sizes.Statement.{statement}
+use Rattle.job_lists.proofs.read_sizes.Tie as tie
 
 enum-told : tie.Need-enum-told
 enum-told c = search needs
