@@ -29,7 +29,7 @@ use Rattle.gather_plan.proofs.Compare.{and-true, layouts-decide}
 use Rattle.runs.proofs.Turns.{none}
 use Rattle.windows.proofs.Last.{no-cells}
 use Rattle.gather.specs.Calls.{gatherOf, planFits, planRefusal, reachOf, callAnswer, Called}
-use Rattle.gather.specs.Walks.{gatherAt, Reached}
+use Rattle.gather_walk.specs.Walks.{gatherAt, Reached}
 
 pub plan-done : (t : Bool) → isDone (planRefusal t) ≡ true → t ≡ true
 plan-done true e = refl

@@ -29,9 +29,9 @@ use Rattle.gather_plan.specs.Made.{offsetOr, planMade}
 use Rattle.gather_plan.specs.Same.{isCompiled}
 use Rattle.gather_plan.proofs.Compiled.{compiled-plan, compile-is-compiled, held-again}
 use Rattle.gather_plan.proofs.Accepted.{Accepted, accepted, planned, index-strides-read, operand-strides-read}
-use Rattle.gather.specs.declared.GatherWalk.{GatherWalk}
-use Rattle.gather.specs.Walks.{windowStepsOf, batchStepsOf, limitAt, unlessNone, walkOf, gatherAt, Reached}
-use Rattle.gather.proofs.Planned.{padded-entry}
+use Rattle.gather_walk.specs.declared.GatherWalk.{GatherWalk}
+use Rattle.gather_walk.specs.Walks.{windowStepsOf, batchStepsOf, limitAt, unlessNone, walkOf, gatherAt, Reached}
+use Rattle.gather_walk.proofs.Planned.{padded-entry}
 use Rattle.gather_lent.specs.Lent.{placed, reachAt, Stepped, Ready}
 
 -- ---- an array past its list

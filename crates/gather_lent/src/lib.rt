@@ -12,9 +12,9 @@ ghost use Rattle.layout.specs.Reach.{bufferBounds};
 ghost use Rattle.axis_lists.specs.Held.{Decides};
 ghost use Rattle.gather_checks.specs.Refusals.{gatherFrom};
 ghost use Rattle.gather_plan.specs.Plan.{planOf};
-ghost use Rattle.gather.specs.Walks.{limitAt, walkOf};
+ghost use Rattle.gather_walk.specs.Walks.{limitAt, walkOf};
 ghost use Rattle.gather_lent.specs.Lent.{SameView, placed, Lent, Stepped, Ready};
-use gather::GatherWalk;
+use gather_walk::GatherWalk;
 use layout::Answer;
 use layout::RAW_FUSED_RANK_LIMIT;
 use layout::Reach;
@@ -93,7 +93,7 @@ pub fn limits_on(map: &[u64], extents: &[u64], sizes: &[u64]) -> [u64; RAW_FUSED
         let axis = axis_lists::entry_at(map, i as u64);
         let extent = axis_lists::entry_at(extents, axis);
         let window = axis_lists::entry_at(sizes, axis);
-        out[i] = gather::last_start(extent, window);
+        out[i] = gather_walk::last_start(extent, window);
         i += 1;
     }
     out
@@ -123,7 +123,7 @@ fn walk_lent(
     let offsets = component_offsets.entries;
     let strides = strides_on(start_index_map, operand_strides);
     let limits = limits_on(start_index_map, operand_extents, slice_sizes);
-    let stepped = gather::unless_none(start_index_map.len(), batch);
+    let stepped = gather_walk::unless_none(start_index_map.len(), batch);
     let extents = layout::padded_extents(dest_extents);
     let dest_steps = layout::padded_strides(dest_strides);
     GatherWalk {
@@ -191,7 +191,7 @@ fn cells_i32(
         window,
         batch,
     );
-    gather::walked_i32(
+    gather_walk::walked_i32(
         walk,
         source,
         starts,
@@ -332,7 +332,7 @@ fn cells_f64(
         window,
         batch,
     );
-    gather::walked_f64(
+    gather_walk::walked_f64(
         walk,
         source,
         starts,

@@ -1,10 +1,7 @@
 -- Parts of a job as they are handed back by value. Definitions only.
 use mathlib.Core.Bool.{true, false}
-use mathlib.Core.List.{List, []}
-use Prim.Native.Nat.{ℕ}
-use lib.IntN.{pos}
+use mathlib.Core.List.{[]}
 use Rattle.layout.specs.declared.Answer.the-variants as A
-use Rattle.layout.specs.declared.View.{View}
 use Rattle.job_bytes.specs.Fields.{Field, read, fault}
 use Rattle.job.specs.declared.Kind.{Kind}
 use Rattle.job.specs.declared.Kind.the-variants as K
@@ -13,25 +10,15 @@ use Rattle.job.specs.declared.Element.the-variants as E
 use Rattle.job.specs.declared.Views.{Views}
 use Rattle.job.specs.declared.Spec.{Spec}
 use Rattle.job.specs.declared.Job.{Job}
-use Rattle.job_reader.specs.declared.ReadView.{ReadView}
 use Rattle.job_reader.specs.declared.ReadViews.{ReadViews}
-use Rattle.job_reader.specs.declared.ReadList.{ReadList}
 use Rattle.job_reader.specs.declared.ReadSpec.{ReadSpec}
 use Rattle.job_reader.specs.declared.ReadHead.{ReadHead}
 use Rattle.job_reader.specs.declared.ReadJob.{ReadJob}
-use Rattle.job.specs.Jobs.{heldList, viewOf, noViews, specOf, noJob}
-
-abbrev pub heldView : Field View → ReadView
-heldView (read v k) = record { ok = true; at = k; view = v }
-heldView (fault k) = record { ok = false; at = k; view = viewOf [] [] (pos 0) }
+use Rattle.job.specs.Jobs.{noViews, specOf, noJob}
 
 abbrev pub heldViews : Field Views → ReadViews
 heldViews (read vs k) = record { ok = true; at = k; views = vs }
 heldViews (fault k) = record { ok = false; at = k; views = noViews }
-
-abbrev pub heldEntries : Field (List ℕ) → ReadList
-heldEntries (read l k) = record { ok = true; at = k; list = heldList l }
-heldEntries (fault k) = record { ok = false; at = k; list = heldList [] }
 
 abbrev pub heldSpec : Field Spec → ReadSpec
 heldSpec (read s k) = record { ok = true; at = k; spec = s }

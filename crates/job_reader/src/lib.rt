@@ -1,26 +1,16 @@
 // The reader of a stored job.
 ghost use mathlib.Core.Path.{_≡_};
-ghost use mathlib.Core.List.{map};
-ghost use lib.ListN.{take};
-ghost use lib.IntN.{pos};
-ghost use Rattle.layout.specs.Layouts.{rankLimit, padded};
-ghost use Rattle.job_bytes.specs.Fields.{fault, signedOf, heldNumber};
-ghost use Rattle.job.specs.Format.{kindOf, elementOf, viewAt, listAt, sizesAt, specAt, viewsAt, countAt, headAt, jobAt};
-ghost use Rattle.job_reader.specs.Held.{heldView, heldViews, heldEntries, heldSpec, heldHead, readJob};
+ghost use Rattle.job_bytes.specs.Fields.{fault, heldNumber};
+ghost use Rattle.job.specs.Format.{kindOf, elementOf, specAt, viewsAt, countAt, headAt, jobAt};
+ghost use Rattle.job_reader.specs.Held.{heldViews, heldSpec, heldHead, readJob};
 use job::Element;
 use job::Job;
 use job::Kind;
-use job::List16;
 use job::Spec;
 use job::Views;
-use job_bytes::LIST_LIMIT;
 use job_bytes::Number;
-use job_bytes::STORED_RANK_LIMIT;
 use job_bytes::VERSION;
 use layout::Answer;
-use layout::Layout;
-use layout::RAW_FUSED_RANK_LIMIT;
-use layout::View;
 
 pub struct ReadJob {
     pub answer: Answer,
@@ -28,22 +18,10 @@ pub struct ReadJob {
 }
 
 // Parts that were read, with the place after them. Where `ok` is false, the place is that of the field at fault.
-pub struct ReadView {
-    pub ok: bool,
-    pub at: usize,
-    pub view: View,
-}
-
 pub struct ReadViews {
     pub ok: bool,
     pub at: usize,
     pub views: Views,
-}
-
-pub struct ReadList {
-    pub ok: bool,
-    pub at: usize,
-    pub list: List16,
 }
 
 pub struct ReadSpec {
@@ -57,84 +35,6 @@ pub struct ReadHead {
     pub at: usize,
     pub kind: Kind,
     pub element: Element,
-}
-
-// The first words as extents, filled up with 1.
-fn extents_from(words: [u64; LIST_LIMIT], n: usize) -> [u64; RAW_FUSED_RANK_LIMIT]
-    ensures { λ r. ⌜ r ≡ padded rankLimit 1 (take n words) ⌝ }
-{
-    let mut out = [1u64; RAW_FUSED_RANK_LIMIT];
-    let mut i: usize = 0;
-    while i < RAW_FUSED_RANK_LIMIT && i < n {
-        out[i] = words[i];
-        i += 1;
-    }
-    out
-}
-
-// The first words as strides, filled up with 0.
-fn strides_from(words: [u64; LIST_LIMIT], n: usize) -> [i64; RAW_FUSED_RANK_LIMIT]
-    ensures { λ r. ⌜ r ≡ padded rankLimit (pos 0) (map signedOf (take n words)) ⌝ }
-{
-    let mut out = [0i64; RAW_FUSED_RANK_LIMIT];
-    let mut i: usize = 0;
-    while i < RAW_FUSED_RANK_LIMIT && i < n {
-        let stride = job_bytes::signed_word(words[i]);
-        out[i] = stride;
-        i += 1;
-    }
-    out
-}
-
-fn view_fault(at: usize) -> ReadView
-    ensures { λ r. ⌜ r ≡ heldView (fault at) ⌝ }
-{
-    let view = job::no_view();
-    ReadView {
-        ok: false,
-        at,
-        view,
-    }
-}
-
-// A layout with its offset.
-fn read_view(bytes: &[u8], at: usize) -> ReadView
-    ensures { λ r. ⌜ r ≡ heldView (viewAt (now (bytes .entry)) at) ⌝ }
-{
-    let rank = job_bytes::read_byte(bytes, at, 0, STORED_RANK_LIMIT as u64);
-    if !rank.ok {
-        return view_fault(rank.at);
-    }
-    let n = rank.value as usize;
-    let es = job_bytes::read_words(bytes, rank.at, n);
-    if !es.ok {
-        return view_fault(es.at);
-    }
-    let ss = job_bytes::read_words(bytes, es.at, n);
-    if !ss.ok {
-        return view_fault(ss.at);
-    }
-    let o = job_bytes::read_number(bytes, ss.at, 8);
-    if !o.ok {
-        return view_fault(o.at);
-    }
-    let extent_words = es.entries;
-    let stride_words = ss.entries;
-    let extents = extents_from(extent_words, n);
-    let strides = strides_from(stride_words, n);
-    let offset = job_bytes::signed_word(o.value);
-    ReadView {
-        ok: true,
-        at: o.at,
-        view: View {
-            layout: Layout {
-                rank: n,
-                extents,
-                strides,
-            },
-            offset,
-        },
-    }
 }
 
 fn views_fault(at: usize) -> ReadViews
@@ -157,15 +57,15 @@ fn views_fault(at: usize) -> ReadViews
 fn read_views(bytes: &[u8], at: usize) -> ReadViews
     ensures { λ r. ⌜ r ≡ heldViews (viewsAt (now (bytes .entry)) at) ⌝ }
 {
-    let a = read_view(bytes, at);
+    let a = job_lists::read_view(bytes, at);
     if !a.ok {
         return views_fault(a.at);
     }
-    let b = read_view(bytes, a.at);
+    let b = job_lists::read_view(bytes, a.at);
     if !b.ok {
         return views_fault(b.at);
     }
-    let c = read_view(bytes, b.at);
+    let c = job_lists::read_view(bytes, b.at);
     if !c.ok {
         return views_fault(c.at);
     }
@@ -183,50 +83,6 @@ fn read_views(bytes: &[u8], at: usize) -> ReadViews
     }
 }
 
-fn list_fault(at: usize) -> ReadList
-    ensures { λ r. ⌜ r ≡ heldEntries (fault at) ⌝ }
-{
-    let list = job::no_list();
-    ReadList {
-        ok: false,
-        at,
-        list,
-    }
-}
-
-fn read_list(bytes: &[u8], at: usize) -> ReadList
-    ensures { λ r. ⌜ r ≡ heldEntries (listAt (now (bytes .entry)) at) ⌝ }
-{
-    let count = job_bytes::read_byte(bytes, at, 0, LIST_LIMIT as u64);
-    if !count.ok {
-        return list_fault(count.at);
-    }
-    let n = count.value as usize;
-    let words = job_bytes::read_words(bytes, count.at, n);
-    if !words.ok {
-        return list_fault(words.at);
-    }
-    let entries = words.entries;
-    ReadList {
-        ok: true,
-        at: words.at,
-        list: List16 { count: n, entries },
-    }
-}
-
-// Slice sizes, which a scatter has not.
-fn read_sizes(bytes: &[u8], at: usize, kind: Kind) -> ReadList
-    ensures { λ r. ⌜ r ≡ heldEntries (sizesAt kind (now (bytes .entry)) at) ⌝ }
-{
-    match kind {
-        Kind::Gather => read_list(bytes, at),
-        Kind::Scatter => {
-            let list = job::no_list();
-            ReadList { ok: true, at, list }
-        }
-    }
-}
-
 fn spec_fault(at: usize) -> ReadSpec
     ensures { λ r. ⌜ r ≡ heldSpec (fault at) ⌝ }
 {
@@ -241,15 +97,15 @@ fn spec_fault(at: usize) -> ReadSpec
 fn read_spec(bytes: &[u8], at: usize, kind: Kind) -> ReadSpec
     ensures { λ r. ⌜ r ≡ heldSpec (specAt kind (now (bytes .entry)) at) ⌝ }
 {
-    let a = read_list(bytes, at);
+    let a = job_lists::read_list(bytes, at);
     if !a.ok {
         return spec_fault(a.at);
     }
-    let b = read_list(bytes, a.at);
+    let b = job_lists::read_list(bytes, a.at);
     if !b.ok {
         return spec_fault(b.at);
     }
-    let c = read_list(bytes, b.at);
+    let c = job_lists::read_list(bytes, b.at);
     if !c.ok {
         return spec_fault(c.at);
     }
@@ -257,7 +113,7 @@ fn read_spec(bytes: &[u8], at: usize, kind: Kind) -> ReadSpec
     if !vector.ok {
         return spec_fault(vector.at);
     }
-    let d = read_sizes(bytes, vector.at, kind);
+    let d = job_lists::read_sizes(bytes, vector.at, kind);
     if !d.ok {
         return spec_fault(d.at);
     }

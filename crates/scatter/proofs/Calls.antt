@@ -28,13 +28,13 @@ use Rattle.gather_checks.proofs.Made.{or-done}
 use Rattle.gather_plan.specs.Same.{sameLayout}
 use Rattle.gather_plan.proofs.Compare.{and-true, layouts-decide}
 use Rattle.gather.specs.Calls.{planRefusal, reachOf}
-use Rattle.gather.proofs.Covers.{no-zero}
+use Rattle.gather_walk.proofs.Covers.{no-zero}
 use Rattle.gather.proofs.Calls.{plan-done, zero-of}
 use Rattle.scatter_plan.specs.declared.ScatterPlan.{ScatterPlan}
 use Rattle.scatter_plan.specs.Same.{isCompiled}
 use Rattle.scatter.specs.Calls.{scatterOf, planFits, callAnswer, Called}
-use Rattle.scatter.specs.Walks.{scatterAt, Reached}
-use Rattle.scatter.proofs.Walking.{at-valid}
+use Rattle.scatter_walk.specs.Walks.{scatterAt, Reached}
+use Rattle.scatter_walk.proofs.Walking.{at-valid}
 
 -- ---- a destination without cells: then no window has any
 idle : {C : Type 0} (turn : ℕ → C → C) (n : ℕ) (x : C) → ((k : ℕ) (y : C) → turn k y ≡ y) → inOrder turn n x ≡ x

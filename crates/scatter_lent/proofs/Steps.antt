@@ -10,7 +10,7 @@ use Rattle.indexing.specs.Cuts.{getD-tabulate}
 use Rattle.layout.specs.Layouts.{rankLimit}
 use Rattle.replay.specs.declared.WindowReplayAxis.{WindowReplayAxis}
 use Rattle.replay.specs.Replays.{rowOf, rowsOf}
-use Rattle.scatter.specs.Walks.{stepsAt}
+use Rattle.scatter_walk.specs.Walks.{stepsAt}
 
 pub step-at : (axes : List WindowReplayAxis) (d : WindowReplayAxis) (j : ℕ) (f : WindowReplayAxis → ℤ) → ((a : WindowReplayAxis) → getD (rowOf a) j (pos 0) ≡ f a) → length axes ≡ rankLimit → (i : ℕ) → i < rankLimit
     → f (getD axes i d) ≡ getD (stepsAt j (rowsOf axes)) i (pos 0)

@@ -2,7 +2,7 @@
 // refusal, then 9 for each view in turn; otherwise it is done.
 ghost use mathlib.Core.Path.{_≡_};
 ghost use mathlib.Core.Bool.{true};
-ghost use Prim.Native.Nat.{_-_, _≤_};
+ghost use Prim.Native.Nat.{_≤_};
 ghost use lib.Ieee.{nan};
 ghost use lib.IntN.{pos};
 ghost use lib.ListN.{length};
@@ -14,18 +14,17 @@ ghost use Rattle.layout.specs.Reach.{viewReach, bufferBounds};
 ghost use Rattle.replay.specs.Replays.{rowsOf};
 ghost use Rattle.runs.specs.Runs.{ruleI32, ruleF64};
 ghost use Rattle.runs.specs.declared.Rule.the-variants as R;
-ghost use Rattle.gather.specs.Walks.{limitAt};
+ghost use Rattle.gather_walk.specs.Walks.{limitAt};
 ghost use Rattle.scatter_checks.specs.Refusals.{scatterFrom, batchWalk, windowWalk, refusalOf};
-ghost use Rattle.scatter_windows.specs.Scattering.{scatteredBy, Scattering};
 ghost use Rattle.scatter_plan.specs.Made.{made};
-ghost use Rattle.scatter.specs.Walks.{stepsAt, walkOf, scatterAt, Reached};
+ghost use Rattle.scatter_walk.specs.Walks.{stepsAt, walkOf, scatterAt, Reached};
 ghost use Rattle.scatter_lent.specs.Lent.{batchRows, windowRows, Lent};
 use layout::Answer;
 use layout::RAW_FUSED_RANK_LIMIT;
 use layout::Reach;
 use replay::WindowReplay;
 use replay::WindowReplayAxis;
-use scatter::ScatterWalk;
+use scatter_walk::ScatterWalk;
 
 // The steps of a walk's axes, on the source's side and on the destination's.
 fn source_steps(axes: [WindowReplayAxis; RAW_FUSED_RANK_LIMIT]) -> [i64; RAW_FUSED_RANK_LIMIT]
@@ -56,30 +55,7 @@ fn dest_steps(axes: [WindowReplayAxis; RAW_FUSED_RANK_LIMIT]) -> [i64; RAW_FUSED
     out
 }
 
-// The last start on an axis.
-fn last_start(extent: u64, window: u64) -> u64
-    ensures { λ r. ⌜ r ≡ extent - window ⌝ }
-{
-    if extent < window { 0 } else { extent - window }
-}
-
-// The last start of each component.
-fn limits_of(extents: &[u64], windows: &[u64], map: &[u64]) -> [u64; RAW_FUSED_RANK_LIMIT]
-    ensures { λ r. ⌜ r ≡ tabulate rankLimit (limitAt (now (extents .entry)) (now (windows .entry)) (now (map .entry))) ⌝ }
-{
-    let mut out = [0u64; RAW_FUSED_RANK_LIMIT];
-    let mut i: usize = 0;
-    while i < RAW_FUSED_RANK_LIMIT {
-        let axis = axis_lists::entry_at(map, i as u64);
-        let extent = axis_lists::entry_at(extents, axis);
-        let window = axis_lists::entry_at(windows, axis);
-        out[i] = last_start(extent, window);
-        i += 1;
-    }
-    out
-}
-
-// The same, by the windows that the updates have on the axes that are not inserted.
+// The last start of each component, by the windows that the updates have on the axes that are not inserted.
 fn starts_end(
     updates: &[u64],
     dest: &[u64],
@@ -95,7 +71,7 @@ fn starts_end(
     let n = kept.count;
     let sizes = scatter_checks::spread_windows(dest.len(), &axes[0..n], window, updates);
     let m = dest.len();
-    limits_of(dest, &sizes[0..m], map)
+    gather_lent::limits_on(map, dest, &sizes[0..m])
 }
 
 // What the batches and the windows are walked with.
@@ -122,7 +98,7 @@ fn walk_lent(
     let batch_extents = replay::shape_of(batch_axes);
     let window_extents = replay::shape_of(window_axes);
     let index = source_steps(batch_axes);
-    let stepped = gather::unless_none(count, index);
+    let stepped = gather_walk::unless_none(count, index);
     let update_steps = dest_steps(batch_axes);
     let window_steps = source_steps(window_axes);
     let steps = dest_steps(window_axes);
@@ -164,54 +140,7 @@ fn check_views(
 {
     let x = spans::reach_of(index_extents, index_strides, a, starts_len);
     let y = spans::reach_of(updates_extents, updates_strides, b, updates_len);
-    let first = layout::check_reach(x, 1);
-    let second = layout::check_reach(y, 2);
-    let third = layout::check_reach(dest, 3);
-    checks::or_else(first, checks::or_else(second, third))
-}
-
-// The batches of a walk from the places t, u and d.
-fn run_i32(
-    walk: ScatterWalk,
-    starts: &[i64],
-    source: &[i32],
-    into: &mut [i32],
-    t: i64,
-    u: i64,
-    d: i64,
-)
-    requires { ⌜ Scattering (now starts) (walk .offsets) (walk .strides) (walk .limits) (walk .count) t u d (walk .«batch_extents») (walk .«index_steps») (walk .«update_steps») (walk .«batch_rank») (walk .«window_extents») (walk .«window_steps») (walk .«dest_steps») (walk .«window_rank») (length (now source)) (length (now into)) ⌝ }
-    ensures { λ _. ⌜ now (into .exit) ≡ scatteredBy (pos 0) (ruleI32 R.Add) (now (source .entry)) (now (starts .entry)) (walk .offsets) (walk .strides) (walk .limits) (walk .count) t u d (walk .«batch_extents») (walk .«index_steps») (walk .«update_steps») (walk .«batch_rank») (walk .«window_extents») (walk .«window_steps») (walk .«dest_steps») (walk .«window_rank») (now (into .entry)) ⌝ }
-{
-    let batch_extents = walk.batch_extents;
-    let index_steps = walk.index_steps;
-    let update_steps = walk.update_steps;
-    let window_extents = walk.window_extents;
-    let window_steps = walk.window_steps;
-    let steps = walk.dest_steps;
-    let offsets = walk.offsets;
-    let strides = walk.strides;
-    let limits = walk.limits;
-    scatter_windows::scatter_window(
-        source,
-        starts,
-        into,
-        &batch_extents,
-        &index_steps,
-        &update_steps,
-        walk.batch_rank,
-        walk.count,
-        &offsets,
-        &strides,
-        &limits,
-        &window_extents,
-        &window_steps,
-        &steps,
-        walk.window_rank,
-        t,
-        u,
-        d,
-    );
+    gather_lent::bounds_answer(x, y, dest)
 }
 
 // The scatter where the destination has cells, from the index low to the index high: it is lent on as that part.
@@ -255,10 +184,10 @@ fn cells_i32(
         batch,
         cells,
     );
-    let base = gather::start_base(walk.count, t);
+    let base = gather_walk::start_base(walk.count, t);
     let from = low as i64;
     let at = d - from;
-    run_i32(walk, starts, source, &mut into[low..end], base, u, at);
+    scatter_walk::run_i32(walk, starts, source, &mut into[low..end], base, u, at);
 }
 
 // A scatter of i32 on views that begin at `index`, `updates` and `dest`: compile, with 4 tried, and the call.
@@ -347,50 +276,6 @@ pub fn scatter_i32(
     }
 }
 
-// The batches of a walk from the places t, u and d.
-fn run_f64(
-    walk: ScatterWalk,
-    starts: &[i64],
-    source: &[f64],
-    into: &mut [f64],
-    t: i64,
-    u: i64,
-    d: i64,
-)
-    requires { ⌜ Scattering (now starts) (walk .offsets) (walk .strides) (walk .limits) (walk .count) t u d (walk .«batch_extents») (walk .«index_steps») (walk .«update_steps») (walk .«batch_rank») (walk .«window_extents») (walk .«window_steps») (walk .«dest_steps») (walk .«window_rank») (length (now source)) (length (now into)) ⌝ }
-    ensures { λ _. ⌜ now (into .exit) ≡ scatteredBy nan (ruleF64 R.Add) (now (source .entry)) (now (starts .entry)) (walk .offsets) (walk .strides) (walk .limits) (walk .count) t u d (walk .«batch_extents») (walk .«index_steps») (walk .«update_steps») (walk .«batch_rank») (walk .«window_extents») (walk .«window_steps») (walk .«dest_steps») (walk .«window_rank») (now (into .entry)) ⌝ }
-{
-    let batch_extents = walk.batch_extents;
-    let index_steps = walk.index_steps;
-    let update_steps = walk.update_steps;
-    let window_extents = walk.window_extents;
-    let window_steps = walk.window_steps;
-    let steps = walk.dest_steps;
-    let offsets = walk.offsets;
-    let strides = walk.strides;
-    let limits = walk.limits;
-    scatter_windows_f64::scatter_window_f64(
-        source,
-        starts,
-        into,
-        &batch_extents,
-        &index_steps,
-        &update_steps,
-        walk.batch_rank,
-        walk.count,
-        &offsets,
-        &strides,
-        &limits,
-        &window_extents,
-        &window_steps,
-        &steps,
-        walk.window_rank,
-        t,
-        u,
-        d,
-    );
-}
-
 // The scatter where the destination has cells, from the index low to the index high: it is lent on as that part.
 fn cells_f64(
     index_extents: &[u64],
@@ -432,10 +317,10 @@ fn cells_f64(
         batch,
         cells,
     );
-    let base = gather::start_base(walk.count, t);
+    let base = gather_walk::start_base(walk.count, t);
     let from = low as i64;
     let at = d - from;
-    run_f64(walk, starts, source, &mut into[low..end], base, u, at);
+    scatter_walk::run_f64(walk, starts, source, &mut into[low..end], base, u, at);
 }
 
 // A scatter of f64 on views that begin at `index`, `updates` and `dest`: compile, with 4 tried, and the call.

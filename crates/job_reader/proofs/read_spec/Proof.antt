@@ -2,7 +2,8 @@ use mathlib.Core.Path.{sym, ap, _∙_}
 use borrow.Author.Tests.{not-true, not-false}
 use Rattle.job_reader.specs.Held.{heldSpec}
 use Rattle.job_bytes.proofs.Reading.{number-read, number-fault}
-use Rattle.job_reader.proofs.Chains.{got-list, no-list, spec-1, spec-2, spec-3, spec-4, spec-5, spec-6, spec-held}
+use Rattle.job_lists.proofs.Chains.{got-list, no-list}
+use Rattle.job_reader.proofs.Chains.{spec-1, spec-2, spec-3, spec-4, spec-5, spec-6, spec-held}
 use borrow.Author.Needs.{needs}
 use Rattle.job_reader.proofs.read_spec.Statement.{statement}
 use Rattle.job_reader.proofs.read_spec.Tie as tie

@@ -1,7 +1,8 @@
 use mathlib.Core.Path.{sym, ap, _∙_}
 use borrow.Author.Tests.{not-true, not-false}
 use Rattle.job_reader.specs.Held.{heldViews}
-use Rattle.job_reader.proofs.Chains.{got-view, no-view, views-1, views-2, views-3, views-4}
+use Rattle.job_lists.proofs.Chains.{got-view, no-view}
+use Rattle.job_reader.proofs.Chains.{views-1, views-2, views-3, views-4}
 use borrow.Author.Needs.{needs}
 use Rattle.job_reader.proofs.read_views.Statement.{statement}
 use Rattle.job_reader.proofs.read_views.Tie as tie

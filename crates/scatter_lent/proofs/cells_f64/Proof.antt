@@ -11,7 +11,7 @@ use Rattle.runs.specs.Runs.{ruleF64}
 use Rattle.runs.specs.declared.Rule.the-variants as R
 use Rattle.runs.proofs.Place.{read}
 use Rattle.scatter_windows.specs.Scattering.{Scattering}
-use Rattle.scatter.proofs.Parts.{high-in, low-high, low-fits, sub-fits, part-asks, part-leaves}
+use Rattle.scatter_walk.proofs.Parts.{high-in, low-high, low-fits, sub-fits, part-asks, part-leaves}
 use borrow.Author.Needs.{needs}
 use Rattle.scatter_lent.proofs.cells_f64.Statement.{statement}
 use Rattle.scatter_lent.proofs.cells_f64.Tie as tie

@@ -6,7 +6,7 @@ use lib.ListN.{length}
 use Rattle.indexing.specs.Coordinates.{pick, spread, others, tabulate}
 use Rattle.indexing.specs.Axes.{length-spread}
 use Rattle.layout.specs.Layouts.{rankLimit, padded}
-use Rattle.gather.specs.Walks.{limitAt}
+use Rattle.gather_walk.specs.Walks.{limitAt}
 use Rattle.scatter_checks.proofs.Read.{filled-part, others-few, others-part}
 use borrow.Author.Needs.{needs}
 use Rattle.scatter_lent.proofs.starts_end.Statement.{statement}
@@ -27,17 +27,17 @@ part-spread-windows-end c = let s = c .before .before .before .before .before .b
 spread-windows-requires : tie.Need-spread-windows-requires
 spread-windows-requires c κs = let s = c .before .before .before .before .before .before .before .before .before in s .pre .1 ∙ sym (ap length (others-part (length (s .args .dest .now)) (s .args .inserted .now) (c .before .before .before .other-axes .result) (s .pre .0) (c .before .before .before .other-axes .ensures)))
 
-sub-limits-of : tie.Need-sub-limits-of
-sub-limits-of c = search needs
+sub-limits-on : tie.Need-sub-limits-on
+sub-limits-on c = search needs
 
-part-limits-of-start : tie.Need-part-limits-of-start
-part-limits-of-start c = search needs
+part-limits-on-start : tie.Need-part-limits-on-start
+part-limits-on-start c = search needs
 
-part-limits-of-end : tie.Need-part-limits-of-end
-part-limits-of-end c = search needs
+part-limits-on-end : tie.Need-part-limits-on-end
+part-limits-on-end c = search needs
 
-limits-of-requires : tie.Need-limits-of-requires
-limits-of-requires c κs = search needs
+limits-on-requires : tie.Need-limits-on-requires
+limits-on-requires c κs = search needs
 
 returns : tie.Need-returns
 returns c =
@@ -50,7 +50,7 @@ returns c =
     let k = others-part (length (s .args .dest .now)) (s .args .inserted .now) (c .before .before .before .before .before .before .before .other-axes .result) (s .pre .0) (c .before .before .before .before .before .before .before .other-axes .ensures) in
     let m = length-spread 1 n kept shape in
     let e = x .spread-windows .ensures ∙ (λ j. padded rankLimit 1 (spread 1 (q j) (k j) shape)) in
-    c .limits-of .ensures ∙ ap (λ (ws : List ℕ). tabulate rankLimit (limitAt (s .args .dest .now) ws (s .args .map .now))) (filled-part 1 n (x .spread-windows .result) (spread 1 n kept shape) e (sym m) (omega (arith, m, s .pre .0)))
+    c .limits-on .ensures ∙ ap (λ (ws : List ℕ). tabulate rankLimit (limitAt (s .args .dest .now) ws (s .args .map .now))) (filled-part 1 n (x .spread-windows .result) (spread 1 n kept shape) e (sym m) (omega (arith, m, s .pre .0)))
 
 pub starts-end-spec : {M : Type 1} → statement M
 starts-end-spec =
@@ -61,8 +61,8 @@ starts-end-spec =
     part-spread-windows-start
     part-spread-windows-end
     spread-windows-requires
-    sub-limits-of
-    part-limits-of-start
-    part-limits-of-end
-    limits-of-requires
+    sub-limits-on
+    part-limits-on-start
+    part-limits-on-end
+    limits-on-requires
     returns)

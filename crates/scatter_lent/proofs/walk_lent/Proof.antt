@@ -15,11 +15,11 @@ use Rattle.axis_lists.specs.declared.Steps.{Steps}
 use Rattle.replay.specs.declared.WindowReplay.{WindowReplay}
 use Rattle.replay.specs.Replays.{extents, rowsOf}
 use Rattle.gather_plan.specs.Made.{offsetOr}
-use Rattle.gather.specs.Walks.{unlessNone}
+use Rattle.gather_walk.specs.Walks.{unlessNone}
 use Rattle.scatter_checks.specs.Refusals.{scatterFrom}
 use Rattle.scatter_plan.specs.Made.{made}
 use Rattle.scatter_plan.proofs.Accepted.{Accepted}
-use Rattle.scatter.specs.Walks.{stepsAt, walkOf}
+use Rattle.scatter_walk.specs.Walks.{stepsAt, walkOf}
 use Rattle.scatter_lent.proofs.Lent.{known, limits-are}
 use borrow.Author.Needs.{needs}
 use Rattle.scatter_lent.proofs.walk_lent.Statement.{statement}

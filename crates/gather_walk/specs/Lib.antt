@@ -1,0 +1,2 @@
+-- what a plan's walk is run with
+pub mod Walks

@@ -1,0 +1,2 @@
+-- What the reader of views and lists hands back.
+pub mod Held

@@ -1,0 +1,4 @@
+pub mod Merged
+pub mod Planned
+pub mod Walking
+pub mod Parts

@@ -1,0 +1,86 @@
+use borrow.Author.Needs.{needs, sfits-of}
+use mathlib.Core.Path.{_≡_, refl, sym, _∙_}
+use mathlib.Core.List.{[]}
+use Prim.Native.Nat.{_-_, _≤_, zero-le}
+use native.Mathlib.Omega.{arith}
+use lib.ListN.{getD}
+use lib.IntN.{pos}
+use mir.Syntax.{w64}
+use mir.Val.{SFits}
+use Rattle.integer.specs.Z.{back}
+use Rattle.indexing.specs.Cuts.{length-tabulate, getD-tabulate}
+use Rattle.layout.specs.Layouts.{rankLimit}
+use Rattle.axis_lists.proofs.Filling.{written, one-written, all-written}
+use Rattle.gather_walk.proofs.Full.{full}
+use Rattle.scatter_walk.specs.Walks.{stepsAt}
+use Rattle.scatter_walk.proofs.source_steps.Statement.{statement}
+use Rattle.scatter_walk.proofs.source_steps.Tie as tie
+
+abbrev Inv-loop : tie.InvT-loop
+Inv-loop rows out₀ i₀ out i = (i ≤ rankLimit) × (out ≡ written (pos 0) (stepsAt 0 rows) i)
+
+abbrev μ-loop : tie.MeasureT-loop
+μ-loop rows out₀ i₀ out i = rankLimit - i
+
+-- src/lib.rt:41:5
+loop-holds : tie.Need-loop-holds Inv-loop μ-loop
+loop-holds c = (zero-le, refl)
+
+-- src/lib.rt:42:19
+mul-row : tie.Need-mul-row Inv-loop μ-loop
+mul-row c = search needs
+
+-- src/lib.rt:42:19
+array-copy-out-row : tie.Need-array-copy-out-row Inv-loop μ-loop
+array-copy-out-row c = search needs
+
+-- src/lib.rt:43:20
+array-copy-out-step : tie.Need-array-copy-out-step Inv-loop μ-loop
+array-copy-out-step c = search needs
+
+-- src/lib.rt:44:9
+mul-out : tie.Need-mul-out Inv-loop μ-loop
+mul-out c = search needs
+
+-- src/lib.rt:44:9
+array-set-from-out : tie.Need-array-set-from-out Inv-loop μ-loop
+array-set-from-out c = search needs
+
+-- src/lib.rt:45:9
+add-i : tie.Need-add-i Inv-loop μ-loop
+add-i c = search needs
+
+-- src/lib.rt:41:5
+loop-less : tie.Need-loop-less Inv-loop μ-loop
+loop-less c = search needs
+
+-- src/lib.rt:41:5
+loop-again : tie.Need-loop-again Inv-loop μ-loop
+loop-again c =
+    let l = c .before .before .before in
+    let a = l .before .args .t1 in
+    let h = c .before .before .loop-test .taken in
+    let k = length-tabulate rankLimit (λ k. getD (getD a k []) 0 (pos 0)) in
+    let f : SFits w64 (getD (getD a (l .loop .i) []) 0 (pos 0)) = sfits-of (c .step .given) in
+    (omega (arith, h), one-written (pos 0) (stepsAt 0 a) (l .loop .out) (l .loop .i) _ (omega (arith, k, h)) (omega (arith, k)) (l .loop .inv .1) (back f ∙ sym (getD-tabulate rankLimit (λ k. getD (getD a k []) 0 (pos 0)) (l .loop .i) (pos 0) (omega (arith, h)))))
+
+-- src/lib.rt:36:1
+returns : tie.Need-returns Inv-loop μ-loop
+returns c = let l = c .before in let a = l .before .args .t1 in let k = length-tabulate rankLimit (λ k. getD (getD a k []) 0 (pos 0)) in l .loop .inv .1 ∙ all-written (pos 0) (stepsAt 0 a) (l .loop .i) (omega (arith, k, c .loop-test .left)) (omega (arith, k)) ∙ full (pos 0) (stepsAt 0 a) k
+
+pub source-steps-spec : {M : Type 1} → statement M
+source-steps-spec =
+    tie.close
+    (tie.spec
+    Inv-loop
+    μ-loop
+    loop-holds
+    mul-row
+    array-copy-out-row
+    array-copy-out-step
+    mul-out
+    array-set-from-out
+    add-i
+    loop-less
+    loop-again
+    returns)

@@ -1,0 +1,2 @@
+-- what a plan's walks are run with
+pub mod Walks
