@@ -41,8 +41,8 @@ fn main() {
         .unwrap_or(101);
     let some = std::env::args().nth(1).unwrap_or_default();
     println!("The library's time over each, medians of {rounds} rounds");
-    println!("| call | element | cells | Rust, compile and execute | Rust, execute alone | memcpy | plain loop |");
-    println!("|---|---|---|---|---|---|---|");
+    println!("| call | element | cells | Rust, compile and execute | Rust, execute alone | memcpy | plain loop | Rust over memory |");
+    println!("|---|---|---|---|---|---|---|---|");
     gathers(rounds, &some);
     scatters(rounds, &some);
 }

@@ -14,6 +14,7 @@ enum Way {
     Execute,
     Memcpy,
     PlainLoop,
+    Touch,
 }
 
 const WAYS: [Way; 5] = [
@@ -23,6 +24,9 @@ const WAYS: [Way; 5] = [
     Way::Memcpy,
     Way::PlainLoop,
 ];
+
+/// The ways beside which the memory's own time is taken.
+const BESIDE: [Way; 3] = [Way::Library, Way::CompileAndExecute, Way::Touch];
 
 /// What the ways work with besides the destination.
 struct Bench<'a, T, K: Kind> {
@@ -62,7 +66,38 @@ impl<T: Element, K: Kind> Bench<'_, T, K> {
                     }
                 }
             }
+            Way::Touch => {
+                let (from, to) = (self.source.as_ptr(), dest.as_mut_ptr());
+                // SAFETY: as above.
+                unsafe {
+                    if K::ADD {
+                        plain::touch::<T, true>(job, from, to);
+                    } else {
+                        plain::touch::<T, false>(job, from, to);
+                    }
+                }
+            }
         }
+    }
+
+    /// The median time of each way, made in turn on one slice, so that where
+    /// it lies in memory favours none. The ways are a prime number: each comes
+    /// after each other as often.
+    fn time<const N: usize>(&mut self, ways: [Way; N], dest: &mut [T], rounds: usize) -> [f64; N] {
+        let times = (100_000 / self.job.cells()).clamp(1, 1000);
+        let mut taken = [(); N].map(|()| Vec::new());
+        for round in 0..rounds {
+            let step = 1 + round % (N - 1);
+            for turn in 0..N {
+                let which = (round + turn * step) % N;
+                let start = Instant::now();
+                for _ in 0..times {
+                    self.make(ways[which], dest);
+                }
+                taken[which].push(start.elapsed().as_secs_f64());
+            }
+        }
+        taken.map(median)
     }
 }
 
@@ -100,27 +135,17 @@ pub fn measure<T: Element, K: Kind>(name: &str, job: &Job, rounds: usize) {
         let first = left.get_or_insert_with(|| dest.clone());
         assert!(*first == dest, "{name}: the ways leave different slices");
     }
-    // then in turn on one slice, so that where it lies in memory favours
-    // none. The ways are five, a prime: steps of 1 to 4 reach each of them, and
-    // each comes after each other as often.
     let mut dest = vec![T::of(7); to.room()];
-    let times = (100_000 / cells).clamp(1, 1000);
-    let mut taken: [Vec<f64>; WAYS.len()] = Default::default();
-    for round in 0..rounds {
-        let step = 1 + round % (WAYS.len() - 1);
-        for turn in 0..WAYS.len() {
-            let which = (round + turn * step) % WAYS.len();
-            let start = Instant::now();
-            for _ in 0..times {
-                bench.make(WAYS[which], &mut dest);
-            }
-            taken[which].push(start.elapsed().as_secs_f64());
-        }
-    }
-    let [library, others @ ..] = taken.map(median);
+    let [library, others @ ..] = bench.time(WAYS, &mut dest, rounds);
     let [compiled, executed, copied, looped] = others.map(|other| library / other);
+    let memory = if plain::is_touched(job) {
+        let [_, rust, touched] = bench.time(BESIDE, &mut dest, rounds);
+        format!("{:.1}", rust / touched)
+    } else {
+        "–".to_string()
+    };
     println!(
-        "| {name} | {} | {cells} | {compiled:.3} | {executed:.3} | {copied:.2} | {looped:.2} |",
+        "| {name} | {} | {cells} | {compiled:.3} | {executed:.3} | {copied:.2} | {looped:.2} | {memory} |",
         T::NAME
     );
 }

@@ -81,6 +81,36 @@ unsafe fn batch_last<T: Element, const ADD: bool>(job: &Job, source: *const T, d
     }
 }
 
+/// Whether `touch` is made for the job: windows of rows that lie close.
+pub fn is_touched(job: &Job) -> bool {
+    job.order == Order::BatchLast && job.slice_sizes.len() == 2 && job.slice_sizes[0] >= 64
+}
+
+/// One cell in every 64 bytes of each row of each window, a line of the
+/// cache: what the memory alone takes, with next to no work.
+///
+/// # Safety
+/// As for `run`.
+#[inline(never)]
+pub unsafe fn touch<T: Element, const ADD: bool>(job: &Job, source: *const T, dest: *mut T) {
+    let Nest {
+        extents: e,
+        grid: g,
+        windows: w,
+    } = &nest(job);
+    let line = 64 / size_of::<T>();
+    for b in 0..job.batch {
+        let grid = base(job, b);
+        let windows = b as isize * job.windows.steps[job.slice_sizes.len()];
+        for j in 0..e[1] as isize {
+            for i in (0..e[0]).step_by(line) {
+                let i = i as isize;
+                cell::<T, ADD>(source, dest, grid + j * g[1] + i, windows + j * w[1] + i);
+            }
+        }
+    }
+}
+
 #[inline(never)]
 unsafe fn batch_first<T: Element, const ADD: bool>(
     job: &Job,
