@@ -12,7 +12,7 @@ ghost use Rattle.layout.specs.Layouts.{rankLimit, extentsOf};
 ghost use Rattle.axis_lists.specs.Held.{numbersOf};
 ghost use Rattle.runs.specs.Runs.{ruleI32, ruleF64};
 ghost use Rattle.runs.specs.declared.Rule.the-variants as R;
-ghost use Rattle.gather_plan.specs.Same.{isCompiled};
+ghost use Rattle.gather_same.specs.Same.{isCompiled};
 ghost use Rattle.gather_windows.specs.Gathering.{gatheredBy, Gathering};
 ghost use Rattle.gather.specs.Calls.{planFits, planRefusal, callAnswer, Called};
 ghost use Rattle.gather.specs.Walks.{windowStepsOf, batchStepsOf, limitAt, unlessNone, walkOf, gatherAt, Reached, Walked};
@@ -150,19 +150,19 @@ fn plan_fits(plan: GatherPlan, operand: View, index: View, dest: View, known: bo
     let x = plan.operand;
     let y = plan.index;
     let z = plan.dest;
-    if !gather_plan::same_layout(a, x) {
+    if !equality::same_layout(a, x) {
         return false;
     }
-    if !gather_plan::same_layout(b, y) {
+    if !equality::same_layout(b, y) {
         return false;
     }
-    if !gather_plan::same_layout(c, z) {
+    if !equality::same_layout(c, z) {
         return false;
     }
     if known {
         return true;
     }
-    gather_plan::is_compiled(plan)
+    gather_same::is_compiled(plan)
 }
 
 pub fn check_plan(fits: bool) -> Answer

@@ -18,8 +18,8 @@ use Rattle.job_reader.specs.declared.ReadJob.{ReadJob}
 use Rattle.job_reader.specs.Held.{readJob}
 use Rattle.gather_plan.specs.declared.CompiledGather.{CompiledGather}
 use Rattle.gather_plan.specs.Plan.{compiledGather}
-use Rattle.gather_plan.specs.Same.{isCompiled}
-use Rattle.gather_plan.proofs.Compiled.{compile-is-compiled as gather-is-compiled}
+use Rattle.gather_same.specs.Same.{isCompiled}
+use Rattle.gather_same.proofs.Compiled.{compile-is-compiled as gather-is-compiled}
 use Rattle.gather.specs.Calls as gathers
 use Rattle.replay.specs.Replays.{rowsOf}
 use Rattle.scatter_plan.specs.declared.CompiledScatter.{CompiledScatter}

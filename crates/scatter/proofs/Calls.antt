@@ -25,8 +25,8 @@ use Rattle.layout.specs.Reach.{viewReach, bufferBounds}
 use Rattle.runs.specs.Runs.{ruleI32, ruleF64}
 use Rattle.runs.specs.declared.Rule.the-variants as R′
 use Rattle.gather_checks.proofs.Made.{or-done}
-use Rattle.gather_plan.specs.Same.{sameLayout}
-use Rattle.gather_plan.proofs.Compare.{and-true, layouts-decide}
+use Rattle.equality.specs.Same.{sameLayout}
+use Rattle.equality.proofs.Compare.{and-true, layouts-decide}
 use Rattle.gather.specs.Calls.{planRefusal, reachOf}
 use Rattle.gather.proofs.Covers.{no-zero}
 use Rattle.gather.proofs.Calls.{plan-done, zero-of}

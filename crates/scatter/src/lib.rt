@@ -125,13 +125,13 @@ fn plan_fits(
     let x = plan.index;
     let y = plan.updates;
     let z = plan.dest;
-    if !gather_plan::same_layout(a, x) {
+    if !equality::same_layout(a, x) {
         return false;
     }
-    if !gather_plan::same_layout(b, y) {
+    if !equality::same_layout(b, y) {
         return false;
     }
-    if !gather_plan::same_layout(c, z) {
+    if !equality::same_layout(c, z) {
         return false;
     }
     if known {

@@ -17,8 +17,8 @@ use Rattle.layout.specs.Reach.{viewReach}
 use Rattle.axis_lists.specs.Held.{numbersOf}
 use Rattle.axis_lists.proofs.Filling.{read-back}
 use Rattle.replay.specs.Replays.{rowsOf}
-use Rattle.gather_plan.specs.Same.{sameLayout}
-use Rattle.gather_plan.proofs.Compare.{and-both, layouts-decide}
+use Rattle.equality.specs.Same.{sameLayout}
+use Rattle.equality.proofs.Compare.{and-both, layouts-decide}
 use Rattle.gather.specs.Calls.{planRefusal, reachOf}
 use Rattle.gather.specs.Walks.{limitAt}
 use Rattle.scatter_checks.specs.Refusals.{scatterFrom, refusalOf}

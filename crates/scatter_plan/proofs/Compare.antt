@@ -9,8 +9,8 @@ use Rattle.layout.specs.declared.Layout.{Layout}
 use Rattle.axis_lists.specs.declared.Numbers.{Numbers}
 use Rattle.axis_lists.specs.declared.Steps.{Steps}
 use Rattle.axis_lists.specs.Held.{Decides}
-use Rattle.gather_plan.specs.Same.{sameBy}
-use Rattle.gather_plan.proofs.Compare.{and-true, and-both, numbers-decide, ints-decide, lists-decide, layouts-decide, held-decide, steps-decide}
+use Rattle.equality.specs.Same.{sameBy}
+use Rattle.equality.proofs.Compare.{and-true, and-both, numbers-decide, ints-decide, lists-decide, layouts-decide, held-decide, steps-decide}
 use Rattle.replay.specs.declared.WindowReplayAxis.{WindowReplayAxis}
 use Rattle.replay.specs.declared.ReplaySpans.{ReplaySpans}
 use Rattle.replay.specs.declared.WindowReplay.{WindowReplay}

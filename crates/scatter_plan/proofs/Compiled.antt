@@ -14,7 +14,7 @@ use Rattle.layout.specs.Spans.{totalFrom, totalOf, spanFrom, spanned}
 use Rattle.axis_lists.proofs.Filling.{read-back}
 use Rattle.checks.specs.Checks.{totalFits, spanFits}
 use Rattle.gather_checks.specs.Refusals.{layoutsRefusal}
-use Rattle.gather_plan.proofs.Compare.{and-true, and-both}
+use Rattle.equality.proofs.Compare.{and-true, and-both}
 use Rattle.gather_plan.proofs.Compiled.{or-later, or-first}
 use Rattle.replay.specs.Replays.{rowsOf}
 use Rattle.scatter_checks.specs.Refusals.{scatterFrom, numbersRefusal, specRefusal, walksRefusal, refusalOf}

@@ -5,7 +5,7 @@ use lib.Dec.{eqb}
 use lib.IntN.{ℤ}
 use Rattle.integer.specs.Defs.{eqZ}
 use Rattle.layout.specs.Answers.{isDone}
-use Rattle.gather_plan.specs.Same.{sameBy, sameLayout, sameNumbers, sameSteps}
+use Rattle.equality.specs.Same.{sameBy, sameLayout, sameNumbers, sameSteps}
 use Rattle.replay.specs.declared.WindowReplayAxis.{WindowReplayAxis}
 use Rattle.replay.specs.declared.ReplaySpans.{ReplaySpans}
 use Rattle.replay.specs.declared.WindowReplay.{WindowReplay}

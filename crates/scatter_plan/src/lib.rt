@@ -9,7 +9,7 @@ ghost use Rattle.indexing.specs.Coordinates.{pick, spread, others};
 ghost use Rattle.layout.specs.Layouts.{rankLimit};
 ghost use Rattle.axis_lists.specs.Held.{heldNumbers};
 ghost use Rattle.gather_plan.specs.Made.{totalOr};
-ghost use Rattle.gather_plan.specs.Same.{sameBy};
+ghost use Rattle.equality.specs.Same.{sameBy};
 ghost use Rattle.scatter_checks.specs.Refusals.{scatterFrom, batchWalk, windowWalk, Fitting};
 ghost use Rattle.scatter_plan.specs.Plan.{refusedScatter, compiledScatter, heldScatter};
 ghost use Rattle.scatter_plan.specs.Made.{made};
@@ -232,12 +232,12 @@ pub fn compile(
 fn same_step(a: WindowReplayAxis, b: WindowReplayAxis) -> bool
     ensures { λ r. ⌜ r ≡ sameStep a b ⌝ }
 {
-    let c = gather_plan::same_i64(a.source_step, b.source_step);
-    let d = gather_plan::same_i64(a.source_reset, b.source_reset);
-    let e = gather_plan::same_i64(a.dest_step, b.dest_step);
-    let f = gather_plan::same_i64(a.dest_reset, b.dest_reset);
-    let last = gather_plan::both(c, gather_plan::both(d, gather_plan::both(e, f)));
-    gather_plan::both(a.extent == b.extent, last)
+    let c = equality::same_i64(a.source_step, b.source_step);
+    let d = equality::same_i64(a.source_reset, b.source_reset);
+    let e = equality::same_i64(a.dest_step, b.dest_step);
+    let f = equality::same_i64(a.dest_reset, b.dest_reset);
+    let last = equality::both(c, equality::both(d, equality::both(e, f)));
+    equality::both(a.extent == b.extent, last)
 }
 
 fn same_axes(
@@ -261,11 +261,11 @@ fn same_axes(
 fn same_spans(a: ReplaySpans, b: ReplaySpans) -> bool
     ensures { λ r. ⌜ r ≡ sameSpans a b ⌝ }
 {
-    let c = gather_plan::same_i64(a.source_low, b.source_low);
-    let d = gather_plan::same_i64(a.source_high, b.source_high);
-    let e = gather_plan::same_i64(a.dest_low, b.dest_low);
-    let f = gather_plan::same_i64(a.dest_high, b.dest_high);
-    gather_plan::both(c, gather_plan::both(d, gather_plan::both(e, f)))
+    let c = equality::same_i64(a.source_low, b.source_low);
+    let d = equality::same_i64(a.source_high, b.source_high);
+    let e = equality::same_i64(a.dest_low, b.dest_low);
+    let f = equality::same_i64(a.dest_high, b.dest_high);
+    equality::both(c, equality::both(d, equality::both(e, f)))
 }
 
 fn same_replay(a: WindowReplay, b: WindowReplay) -> bool
@@ -277,7 +277,7 @@ fn same_replay(a: WindowReplay, b: WindowReplay) -> bool
     let s = a.spans;
     let t = b.spans;
     let spans = same_spans(s, t);
-    gather_plan::both(a.rank == b.rank, gather_plan::both(axes, spans))
+    equality::both(a.rank == b.rank, equality::both(axes, spans))
 }
 
 fn same_layouts(a: ScatterPlan, b: ScatterPlan) -> bool
@@ -285,14 +285,14 @@ fn same_layouts(a: ScatterPlan, b: ScatterPlan) -> bool
 {
     let x = a.index;
     let y = b.index;
-    let index = gather_plan::same_layout(x, y);
+    let index = equality::same_layout(x, y);
     let s = a.updates;
     let t = b.updates;
-    let updates = gather_plan::same_layout(s, t);
+    let updates = equality::same_layout(s, t);
     let u = a.dest;
     let v = b.dest;
-    let dest = gather_plan::same_layout(u, v);
-    gather_plan::both(index, gather_plan::both(updates, dest))
+    let dest = equality::same_layout(u, v);
+    equality::both(index, equality::both(updates, dest))
 }
 
 fn same_spec(a: ScatterPlan, b: ScatterPlan) -> bool
@@ -300,17 +300,17 @@ fn same_spec(a: ScatterPlan, b: ScatterPlan) -> bool
 {
     let x = a.update_window_dims;
     let y = b.update_window_dims;
-    let window = gather_plan::same_numbers(x, y);
+    let window = equality::same_numbers(x, y);
     let s = a.inserted_window_dims;
     let t = b.inserted_window_dims;
-    let inserted = gather_plan::same_numbers(s, t);
+    let inserted = equality::same_numbers(s, t);
     let u = a.scatter_dims_to_operand_dims;
     let v = b.scatter_dims_to_operand_dims;
-    let map = gather_plan::same_numbers(u, v);
+    let map = equality::same_numbers(u, v);
     let vector = a.index_vector_dim == b.index_vector_dim;
-    gather_plan::both(
+    equality::both(
         window,
-        gather_plan::both(inserted, gather_plan::both(map, vector)),
+        equality::both(inserted, equality::both(map, vector)),
     )
 }
 
@@ -323,8 +323,8 @@ fn same_walks(a: ScatterPlan, b: ScatterPlan) -> bool
     let s = a.window;
     let t = b.window;
     let window = same_replay(s, t);
-    let counts = gather_plan::both(a.batches == b.batches, a.cells == b.cells);
-    gather_plan::both(batch, gather_plan::both(window, counts))
+    let counts = equality::both(a.batches == b.batches, a.cells == b.cells);
+    equality::both(batch, equality::both(window, counts))
 }
 
 fn same_starts(a: ScatterPlan, b: ScatterPlan) -> bool
@@ -332,14 +332,14 @@ fn same_starts(a: ScatterPlan, b: ScatterPlan) -> bool
 {
     let x = a.windows;
     let y = b.windows;
-    let windows = gather_plan::same_numbers(x, y);
+    let windows = equality::same_numbers(x, y);
     let u = a.component_offsets;
     let v = b.component_offsets;
-    let offsets = gather_plan::same_steps(u, v);
+    let offsets = equality::same_steps(u, v);
     let s = a.component_strides;
     let t = b.component_strides;
-    let strides = gather_plan::same_steps(s, t);
-    gather_plan::both(windows, gather_plan::both(offsets, strides))
+    let strides = equality::same_steps(s, t);
+    equality::both(windows, equality::both(offsets, strides))
 }
 
 // Whether two plans are the same in every field, arrays past their counts as well.
@@ -350,10 +350,7 @@ pub fn same_plan(a: ScatterPlan, b: ScatterPlan) -> bool
     let spec = same_spec(a, b);
     let walks = same_walks(a, b);
     let starts = same_starts(a, b);
-    gather_plan::both(
-        layouts,
-        gather_plan::both(spec, gather_plan::both(walks, starts)),
-    )
+    equality::both(layouts, equality::both(spec, equality::both(walks, starts)))
 }
 
 fn same_row(a: [i64; 4], b: [i64; 4]) -> bool
@@ -363,7 +360,7 @@ fn same_row(a: [i64; 4], b: [i64; 4]) -> bool
     while i < 4 {
         let x = a[i];
         let y = b[i];
-        if !gather_plan::same_i64(x, y) {
+        if !equality::same_i64(x, y) {
             return false;
         }
         i += 1;
@@ -403,7 +400,7 @@ fn has_rows(
     let wanted = replay::rows_of(window_axes);
     let first = same_rows(batch_rows, expected);
     let second = same_rows(window_rows, wanted);
-    gather_plan::both(first, second)
+    equality::both(first, second)
 }
 
 // What compile gives for the layouts and spec in a plan, 4 not tried again.
@@ -460,5 +457,5 @@ pub fn is_compiled(
     let done = layout::is_done(answer);
     let same = same_plan(plan, fresh);
     let rows = has_rows(plan, batch_rows, window_rows);
-    gather_plan::both(done, gather_plan::both(same, rows))
+    equality::both(done, equality::both(same, rows))
 }

@@ -13,8 +13,8 @@ use Rattle.layout.specs.Layouts.{layoutFrom}
 use Rattle.gather_checks.specs.Refusals.{gatherFrom}
 use Rattle.gather_plan.specs.declared.CompiledGather.{CompiledGather}
 use Rattle.gather_plan.specs.Plan.{compiledGather}
-use Rattle.gather_plan.specs.Same.{isCompiled}
-use Rattle.gather_plan.proofs.Compiled.{compile-is-compiled}
+use Rattle.gather_same.specs.Same.{isCompiled}
+use Rattle.gather_same.proofs.Compiled.{compile-is-compiled}
 use Rattle.gather.specs.Calls.{gatherOf, callAnswer, Called}
 use Rattle.strided.specs.declared.CallViews.{CallViews}
 use Rattle.strided.specs.Words.{words}

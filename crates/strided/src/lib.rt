@@ -6,7 +6,7 @@ ghost use lib.Ieee.{nan};
 ghost use lib.IntN.{pos};
 ghost use Rattle.gather_checks.specs.Refusals as gathers;
 ghost use Rattle.gather_plan.specs.Plan.{compiledGather};
-ghost use Rattle.gather_plan.specs.Same.{isCompiled};
+ghost use Rattle.gather_same.specs.Same.{isCompiled};
 ghost use Rattle.indexing.specs.Scatter.{scatteredI32, scatteredF64};
 ghost use Rattle.scatter_checks.specs.Refusals as scatters;
 ghost use Rattle.scatter_plan.specs.Plan.{compiledScatter};

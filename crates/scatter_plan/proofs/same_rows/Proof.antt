@@ -4,8 +4,8 @@ use Prim.Native.Nat.{_-_, _≤_, zero-le}
 use native.Mathlib.Omega.{arith}
 use borrow.Author.Tests.{not-true, not-false}
 use lib.ListN.{length, drop}
-use Rattle.gather_plan.specs.Same.{sameBy}
-use Rattle.gather_plan.proofs.Compare.{same-differs, same-next, same-ends}
+use Rattle.equality.specs.Same.{sameBy}
+use Rattle.equality.proofs.Compare.{same-differs, same-next, same-ends}
 use mathlib.Core.List.{[]}
 use Rattle.integer.specs.Defs.{eqZ}
 use Rattle.scatter_plan.proofs.same_rows.Statement.{statement}
