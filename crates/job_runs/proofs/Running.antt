@@ -24,8 +24,8 @@ use Rattle.gather.specs.Calls as gathers
 use Rattle.replay.specs.Replays.{rowsOf}
 use Rattle.scatter_plan.specs.declared.CompiledScatter.{CompiledScatter}
 use Rattle.scatter_plan.specs.Plan.{compiledScatter}
-use Rattle.scatter_plan.specs.Same.{isCompiled as scatter-compiled}
-use Rattle.scatter_plan.proofs.Compiled.{compile-is-compiled as scatter-is-compiled}
+use Rattle.scatter_same.specs.Same.{isCompiled as scatter-compiled}
+use Rattle.scatter_same.proofs.Compiled.{compile-is-compiled as scatter-is-compiled}
 use Rattle.scatter.specs.Calls as scatters
 use Rattle.job_runs.specs.declared.RunAnswer.{RunAnswer}
 use Rattle.job_runs.specs.declared.Step.{Step}

@@ -31,7 +31,7 @@ use Rattle.gather.specs.Calls.{planRefusal, reachOf}
 use Rattle.gather.proofs.Covers.{no-zero}
 use Rattle.gather.proofs.Calls.{plan-done, zero-of}
 use Rattle.scatter_plan.specs.declared.ScatterPlan.{ScatterPlan}
-use Rattle.scatter_plan.specs.Same.{isCompiled}
+use Rattle.scatter_same.specs.Same.{isCompiled}
 use Rattle.scatter.specs.Calls.{scatterOf, planFits, callAnswer, Called}
 use Rattle.scatter.specs.Walks.{scatterAt, Reached}
 use Rattle.scatter.proofs.Walking.{at-valid}

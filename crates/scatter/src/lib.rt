@@ -8,7 +8,7 @@ ghost use lib.ListN.{length};
 ghost use Rattle.indexing.specs.Scatter.{cuts, combined, scatteredI32, scatteredF64};
 ghost use Rattle.runs.specs.Runs.{ruleI32, ruleF64};
 ghost use Rattle.runs.specs.declared.Rule.the-variants as R;
-ghost use Rattle.scatter_plan.specs.Same.{isCompiled};
+ghost use Rattle.scatter_same.specs.Same.{isCompiled};
 ghost use Rattle.scatter_windows.specs.Scattering.{scatteredBy, Scattering};
 ghost use Rattle.scatter.specs.Calls.{planFits, callAnswer, Called};
 ghost use Rattle.scatter.specs.Walks.{stepsAt, walkOf, scatterAt, Reached};
@@ -137,7 +137,7 @@ fn plan_fits(
     if known {
         return true;
     }
-    scatter_plan::is_compiled(plan, batch_rows, window_rows)
+    scatter_same::is_compiled(plan, batch_rows, window_rows)
 }
 
 // What a call answers, given the lengths of the three slices.

@@ -25,9 +25,10 @@ use Rattle.scatter_checks.specs.Refusals.{scatterFrom, refusalOf}
 use Rattle.scatter_plan.specs.declared.ScatterPlan.{ScatterPlan}
 use Rattle.scatter_plan.specs.Plan.{planOf, compiledScatter, heldScatter}
 use Rattle.scatter_plan.specs.Made.{made}
-use Rattle.scatter_plan.specs.Same.{isCompiled}
+use Rattle.scatter_same.specs.Same.{isCompiled}
 use Rattle.scatter_plan.proofs.Accepted.{Accepted, accepted, planned, given-read}
-use Rattle.scatter_plan.proofs.Compiled.{compiled-plan, held-again, compile-is-compiled}
+use Rattle.scatter_plan.proofs.Compiled.{compiled-plan, held-again}
+use Rattle.scatter_same.proofs.Compiled.{compile-is-compiled}
 use Rattle.scatter.specs.Calls.{scatterOf, planFits, callAnswer, Called}
 use Rattle.scatter_lent.specs.Lent.{viewsAnswer, lentAnswer, scatterOn, Lent, batchRows, windowRows}
 

@@ -12,8 +12,8 @@ use Rattle.replay.specs.Replays.{rowsOf}
 use Rattle.scatter_checks.specs.Refusals.{scatterFrom}
 use Rattle.scatter_plan.specs.declared.CompiledScatter.{CompiledScatter}
 use Rattle.scatter_plan.specs.Plan.{compiledScatter}
-use Rattle.scatter_plan.specs.Same.{isCompiled}
-use Rattle.scatter_plan.proofs.Compiled.{compile-is-compiled}
+use Rattle.scatter_same.specs.Same.{isCompiled}
+use Rattle.scatter_same.proofs.Compiled.{compile-is-compiled}
 use Rattle.scatter.specs.Calls.{scatterOf, callAnswer, Called}
 use Rattle.strided.specs.declared.CallViews.{CallViews}
 use Rattle.strided.specs.Words.{words}

@@ -10,7 +10,7 @@ ghost use Rattle.gather_same.specs.Same.{isCompiled};
 ghost use Rattle.indexing.specs.Scatter.{scatteredI32, scatteredF64};
 ghost use Rattle.scatter_checks.specs.Refusals as scatters;
 ghost use Rattle.scatter_plan.specs.Plan.{compiledScatter};
-ghost use Rattle.scatter_plan.specs.Same as S;
+ghost use Rattle.scatter_same.specs.Same as S;
 ghost use Rattle.replay.specs.Replays.{rowsOf};
 ghost use Rattle.layout.specs.Answers.{isDone};
 ghost use Rattle.strided.specs.Words.{words};

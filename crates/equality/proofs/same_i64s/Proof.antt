@@ -27,31 +27,31 @@ at w =
     let fy : SFits w64 (getD (w .before .before .before .before .before .args .t2) (w .before .before .before .before .loop .i) (pos 0)) = record { sfits = w .before .y .given } in
     w .same-i64 .ensures ∙ rw (back fx, back fy)
 
--- src/lib.rt:379:5
+-- src/lib.rt:42:5
 loop-holds : tie.Need-loop-holds Inv-loop μ-loop
 loop-holds c = (zero-le, refl)
 
--- src/lib.rt:380:17
+-- src/lib.rt:43:17
 mul-x : tie.Need-mul-x Inv-loop μ-loop
 mul-x c = search needs
 
--- src/lib.rt:380:17
+-- src/lib.rt:43:17
 array-copy-out-x : tie.Need-array-copy-out-x Inv-loop μ-loop
 array-copy-out-x c = search needs
 
--- src/lib.rt:381:17
+-- src/lib.rt:44:17
 mul-y : tie.Need-mul-y Inv-loop μ-loop
 mul-y c = search needs
 
--- src/lib.rt:381:17
+-- src/lib.rt:44:17
 array-copy-out-y : tie.Need-array-copy-out-y Inv-loop μ-loop
 array-copy-out-y c = search needs
 
--- src/lib.rt:382:13
+-- src/lib.rt:45:13
 same-i64-requires : tie.Need-same-i64-requires Inv-loop μ-loop
 same-i64-requires c κs = search needs
 
--- src/lib.rt:383:13
+-- src/lib.rt:46:13
 returns : tie.Need-returns Inv-loop μ-loop
 returns c =
     let l = c .before .before .before .before .before in
@@ -60,15 +60,15 @@ returns c =
     let f : length (s .args .t2) ≡ 8 = search needs in
     same-differs eqZ (pos 0) (s .args .t1) (s .args .t2) (l .loop .i) (omega arith) (omega arith) (sym (at (c .before)) ∙ not-true _ (c .if1 .taken)) ∙ l .loop .inv .1
 
--- src/lib.rt:385:9
+-- src/lib.rt:48:9
 add-i : tie.Need-add-i Inv-loop μ-loop
 add-i c = search needs
 
--- src/lib.rt:379:5
+-- src/lib.rt:42:5
 loop-less : tie.Need-loop-less Inv-loop μ-loop
 loop-less c = search needs
 
--- src/lib.rt:379:5
+-- src/lib.rt:42:5
 loop-again : tie.Need-loop-again Inv-loop μ-loop
 loop-again c =
     let l = c .before .before .before .before .before in
@@ -77,7 +77,7 @@ loop-again c =
     let f : length (s .args .t2) ≡ 8 = search needs in
     (omega arith, same-next eqZ (pos 0) (s .args .t1) (s .args .t2) (l .loop .i) (omega arith) (omega arith) (sym (at (c .before)) ∙ not-false _ (c .if1 .left)) ∙ l .loop .inv .1)
 
--- src/lib.rt:375:1
+-- src/lib.rt:38:1
 returns-2 : tie.Need-returns-2 Inv-loop μ-loop
 returns-2 c =
     let l = c .before in
