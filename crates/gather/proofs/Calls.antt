@@ -24,8 +24,9 @@ use Rattle.layout.specs.Nested.{hasZero}
 use Rattle.layout.specs.Reach.{viewReach, bufferBounds}
 use Rattle.gather_checks.proofs.Made.{or-done}
 use Rattle.gather_plan.specs.declared.GatherPlan.{GatherPlan}
-use Rattle.gather_plan.specs.Same.{sameLayout, isCompiled}
-use Rattle.gather_plan.proofs.Compare.{and-true, layouts-decide}
+use Rattle.equality.specs.Same.{sameLayout}
+use Rattle.gather_same.specs.Same.{isCompiled}
+use Rattle.equality.proofs.Compare.{and-true, layouts-decide}
 use Rattle.runs.proofs.Turns.{none}
 use Rattle.windows.proofs.Last.{no-cells}
 use Rattle.gather.specs.Calls.{gatherOf, planFits, planRefusal, reachOf, callAnswer, Called}

@@ -16,7 +16,8 @@ use Rattle.layout.specs.Layouts.{extentsOf, stridesOf}
 use Rattle.layout.specs.Reach.{viewReach, bufferBounds}
 use Rattle.gather_plan.specs.declared.GatherPlan.{GatherPlan}
 use Rattle.gather_plan.specs.Plan.{heldGather}
-use Rattle.gather_plan.specs.Same.{sameLayout, isCompiled}
+use Rattle.equality.specs.Same.{sameLayout}
+use Rattle.gather_same.specs.Same.{isCompiled}
 
 -- a view by value as the view that it is
 abbrev pub viewOf : View → C.View

@@ -6,7 +6,7 @@ ghost use lib.Ieee.{nan};
 ghost use lib.IntN.{pos};
 ghost use lib.ListN.{length};
 ghost use Rattle.indexing.specs.Gather.{gathered};
-ghost use Rattle.gather_plan.specs.Same.{isCompiled};
+ghost use Rattle.gather_same.specs.Same.{isCompiled};
 ghost use Rattle.gather_walk.specs.Walks.{gatherAt, Reached};
 ghost use Rattle.gather.specs.Calls.{planFits, planRefusal, callAnswer, Called};
 use gather_plan::GatherPlan;
@@ -25,19 +25,19 @@ fn plan_fits(plan: GatherPlan, operand: View, index: View, dest: View, known: bo
     let x = plan.operand;
     let y = plan.index;
     let z = plan.dest;
-    if !gather_plan::same_layout(a, x) {
+    if !equality::same_layout(a, x) {
         return false;
     }
-    if !gather_plan::same_layout(b, y) {
+    if !equality::same_layout(b, y) {
         return false;
     }
-    if !gather_plan::same_layout(c, z) {
+    if !equality::same_layout(c, z) {
         return false;
     }
     if known {
         return true;
     }
-    gather_plan::is_compiled(plan)
+    gather_same::is_compiled(plan)
 }
 
 pub fn check_plan(fits: bool) -> Answer

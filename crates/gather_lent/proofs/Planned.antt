@@ -26,8 +26,9 @@ use Rattle.gather_plan.specs.declared.Axis.{Axis}
 use Rattle.gather_plan.specs.declared.GatherPlan.{GatherPlan}
 use Rattle.gather_plan.specs.Plan.{noAxis, axisOf, planOf, compiledGather, heldGather}
 use Rattle.gather_plan.specs.Made.{offsetOr, planMade}
-use Rattle.gather_plan.specs.Same.{isCompiled}
-use Rattle.gather_plan.proofs.Compiled.{compiled-plan, compile-is-compiled, held-again}
+use Rattle.gather_same.specs.Same.{isCompiled}
+use Rattle.gather_plan.proofs.Compiled.{compiled-plan, held-again}
+use Rattle.gather_same.proofs.Compiled.{compile-is-compiled}
 use Rattle.gather_plan.proofs.Accepted.{Accepted, accepted, planned, index-strides-read, operand-strides-read}
 use Rattle.gather_walk.specs.declared.GatherWalk.{GatherWalk}
 use Rattle.gather_walk.specs.Walks.{windowStepsOf, batchStepsOf, limitAt, unlessNone, walkOf, gatherAt, Reached}

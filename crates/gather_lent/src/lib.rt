@@ -45,7 +45,7 @@ fn same_strides(a: &[i64], b: &[i64]) -> bool
     while i < a.len() {
         let x = a[i];
         let y = b[i];
-        if !gather_plan::same_i64(x, y) {
+        if !equality::same_i64(x, y) {
             return false;
         }
         i += 1;

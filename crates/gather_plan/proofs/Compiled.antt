@@ -1,47 +1,26 @@
--- A compiled plan is the plan of an accepted gather, and what compile gives is compiled. Assumes nothing.
-use mathlib.Core.Path.{_≡_, refl, sym, ap, _∙_}
+-- What compile gives: the plan of an accepted gather, which holds that gather; 4 is not tried again. Assumes nothing.
+use mathlib.Core.Path.{_≡_, refl, ap, _∙_}
 use mathlib.Core.Bool.{Bool, true, false, cond}
 use mathlib.Core.List.{List}
 use Prim.Native.Nat.{ℕ}
 use lib.ListN.{length}
 use lib.IntN.{ℤ}
-use Rattle.indexing.specs.Coordinates.{rank, othersFrom}
+use Rattle.indexing.specs.Coordinates.{rank}
 use Rattle.indexing.specs.Gather.{Gather}
 use Rattle.layout.specs.declared.Answer.{Answer}
 use Rattle.layout.specs.Answers.{isDone, orElse}
-use Rattle.layout.specs.Lists.{uniqueAxes}
-use Rattle.layout.specs.Spans.{totalFrom, totalOf, spanFrom, spanned}
+use Rattle.layout.specs.Spans.{totalOf, spanned}
 use Rattle.axis_lists.proofs.Filling.{read-back}
-use Rattle.checks.specs.Checks.{totalFits, spanFits, windowsFrom}
-use Rattle.gather_checks.specs.Refusals.{gatherFrom, layoutsRefusal, numbersRefusal, collapsedOne, refusalOf}
+use Rattle.checks.specs.Checks.{totalFits, spanFits}
+use Rattle.gather_checks.specs.Refusals.{gatherFrom, layoutsRefusal, numbersRefusal, refusalOf}
 use Rattle.gather_checks.proofs.Made.{or-done}
-use Rattle.gather_plan.specs.declared.GatherPlan.{GatherPlan}
 use Rattle.gather_plan.specs.Plan.{planOf, refusedPlan, compiledGather, heldGather}
-use Rattle.gather_plan.specs.Same.{isCompiled}
-use Rattle.gather_plan.proofs.Compare.{and-true, and-both, same-plan-decides}
-use Rattle.gather_plan.proofs.Accepted.{Accepted, accepted, operand-extents-read, operand-strides-read, index-extents-read, index-strides-read, dest-extents-read, dest-strides-read}
+use Rattle.gather_plan.proofs.Accepted.{Accepted, operand-extents-read, operand-strides-read, index-extents-read, index-strides-read, dest-extents-read, dest-strides-read}
 
 -- what compile gives for a gather that it does not refuse
 pub compiled-plan : (nested : Bool) (g : Gather) → isDone (refusalOf nested g) ≡ true → compiledGather nested g .plan ≡ planOf g
 unfolding compiledGather
 compiled-plan nested g e = ap (λ (b : Bool). cond b (planOf g) refusedPlan) e
-
--- A COMPILED PLAN is the plan of the gather that it describes, which compile does not refuse
-pub compiled-is : (p : GatherPlan) → isCompiled p ≡ true → (isDone (refusalOf false (heldGather p)) ≡ true) × (p ≡ planOf (heldGather p))
-unfolding isCompiled compiledGather
-compiled-is p e =
-    let t = and-true (isDone (refusalOf false (heldGather p))) _ e in
-    (t .0, same-plan-decides p (compiledGather false (heldGather p) .plan) .yes (t .1) ∙ compiled-plan false (heldGather p) (t .0))
-
-pub is-compiled-by : (p : GatherPlan) → isDone (refusalOf false (heldGather p)) ≡ true → p ≡ planOf (heldGather p) → isCompiled p ≡ true
-unfolding isCompiled compiledGather
-is-compiled-by p e f =
-    and-both (isDone (refusalOf false (heldGather p))) _ e (same-plan-decides p (compiledGather false (heldGather p) .plan) .no (f ∙ sym (compiled-plan false (heldGather p) e)))
-
--- what stands in the place of a plan that is refused is not compiled: its one component has no place in the map
-pub refused-not-compiled : isCompiled refusedPlan ≡ false
-unfolding isCompiled compiledGather refusalOf totalFrom spanFrom uniqueAxes windowsFrom collapsedOne othersFrom
-refused-not-compiled = refl
 
 -- ---- 4 is not tried again
 pub or-later : (x y z : Answer) → (isDone y ≡ true → isDone z ≡ true) → isDone (orElse x y) ≡ true → isDone (orElse x z) ≡ true
@@ -81,12 +60,3 @@ module _ (oe : List ℕ) (os : List ℤ) (ie : List ℕ) (is : List ℤ) (de : L
       let lm = read-back 0 map (p .map-few) in
       let ls = read-back 0 sizes (p .sizes-few) in
       λ i. gatherFrom (eo i) (so i) (ei i) (si i) (ed i) (sd i) (lo i) (lc i) (lm i) vector (ls i)
-
-  -- WHAT COMPILE GIVES is compiled
-  pub compile-is-compiled : (nested : Bool) → isDone (compiledGather nested given .answer) ≡ true → isCompiled (compiledGather nested given .plan) ≡ true
-  unfolding compiledGather
-  compile-is-compiled nested e =
-      let p = accepted oe os ie is de ds offsets collapsed map vector sizes nested e in
-      let h = held-again p in
-      ap isCompiled (compiled-plan nested given e)
-      ∙ is-compiled-by (planOf given) (ap (λ (g : Gather). isDone (refusalOf false g)) h ∙ done-again nested given e) (sym (ap planOf h))

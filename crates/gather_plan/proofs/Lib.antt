@@ -1,4 +1,3 @@
-pub mod Compare
 pub mod Roles
 pub mod Lists
 pub mod Accepted

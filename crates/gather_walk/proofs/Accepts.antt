@@ -33,7 +33,7 @@ use Rattle.checks.specs.Checks.{totalFits, spanFits, nestedIf, sameCount, vecto
 use Rattle.gather_checks.specs.Refusals.{collapsedOne, layoutsRefusal, numbersRefusal, listsRefusal, countsRefusal, shapeFits, shapeRefusal, refusalOf}
 use Rattle.gather_checks.proofs.Made.{or-done, same-length}
 use Rattle.gather_plan.proofs.Lists.{unique-axes}
-use Rattle.gather_plan.proofs.Compare.{and-true}
+use Rattle.equality.proofs.Compare.{and-true}
 
 -- ---- each check
 count-same : (a b : ℕ) → isDone (sameCount a b) ≡ true → a ≡ b

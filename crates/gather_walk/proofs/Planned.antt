@@ -22,8 +22,8 @@ use Rattle.gather_checks.specs.Refusals.{refusalOf}
 use Rattle.gather_plan.specs.declared.Axis.{Axis}
 use Rattle.gather_plan.specs.declared.GatherPlan.{GatherPlan}
 use Rattle.gather_plan.specs.Plan.{noAxis, axisOf, planOf, heldGather}
-use Rattle.gather_plan.specs.Same.{isCompiled}
-use Rattle.gather_plan.proofs.Compiled.{compiled-is}
+use Rattle.gather_same.specs.Same.{isCompiled}
+use Rattle.gather_same.proofs.Compiled.{compiled-is}
 use Rattle.gather_plan.proofs.Accepted.{Accepted, accepted}
 use Rattle.gather_walk.specs.Walks.{windowStepsOf, batchStepsOf, limitAt, unlessNone, walkOf}
 

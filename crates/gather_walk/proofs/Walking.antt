@@ -34,7 +34,7 @@ use Rattle.gather_checks.specs.Refusals.{refusalOf}
 use Rattle.gather_plan.specs.declared.GatherPlan.{GatherPlan}
 use Rattle.gather_plan.specs.declared.Axis.{Axis}
 use Rattle.gather_plan.specs.Plan.{noAxis, heldGather}
-use Rattle.gather_plan.specs.Same.{isCompiled}
+use Rattle.gather_same.specs.Same.{isCompiled}
 use Rattle.runs.specs.Runs.{cellAt}
 use Rattle.runs.proofs.Turns.{same-places, same-turns}
 use Rattle.windows.specs.Windows.{placeAt, Region}

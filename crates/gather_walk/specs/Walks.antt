@@ -16,7 +16,7 @@ use Rattle.axis_lists.specs.Held.{numbersOf}
 use Rattle.gather_plan.specs.declared.Axis.{Axis}
 use Rattle.gather_plan.specs.declared.GatherPlan.{GatherPlan}
 use Rattle.gather_plan.specs.Plan.{noAxis, heldGather}
-use Rattle.gather_plan.specs.Same.{isCompiled}
+use Rattle.gather_same.specs.Same.{isCompiled}
 use Rattle.gather_walk.specs.declared.GatherWalk.{GatherWalk}
 
 -- the steps of the axes in the operand, and in the index view

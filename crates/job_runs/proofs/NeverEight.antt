@@ -22,8 +22,8 @@ use Rattle.job_reader.specs.Held.{readJob}
 use Rattle.replay.specs.Replays.{rowsOf}
 use Rattle.gather_plan.specs.declared.GatherPlan.{GatherPlan}
 use Rattle.gather_plan.specs.Plan as gather-plans
-use Rattle.gather_plan.specs.Same.{sameLayout}
-use Rattle.gather_plan.proofs.Compare.{and-both, layouts-decide}
+use Rattle.equality.specs.Same.{sameLayout}
+use Rattle.equality.proofs.Compare.{and-both, layouts-decide}
 use Rattle.gather_plan.proofs.Compiled.{compiled-plan}
 use Rattle.gather.specs.Calls as gathers
 use Rattle.scatter_plan.specs.declared.ScatterPlan.{ScatterPlan}

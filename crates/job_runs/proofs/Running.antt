@@ -18,14 +18,14 @@ use Rattle.job_reader.specs.declared.ReadJob.{ReadJob}
 use Rattle.job_reader.specs.Held.{readJob}
 use Rattle.gather_plan.specs.declared.CompiledGather.{CompiledGather}
 use Rattle.gather_plan.specs.Plan.{compiledGather}
-use Rattle.gather_plan.specs.Same.{isCompiled}
-use Rattle.gather_plan.proofs.Compiled.{compile-is-compiled as gather-is-compiled}
+use Rattle.gather_same.specs.Same.{isCompiled}
+use Rattle.gather_same.proofs.Compiled.{compile-is-compiled as gather-is-compiled}
 use Rattle.gather.specs.Calls as gathers
 use Rattle.replay.specs.Replays.{rowsOf}
 use Rattle.scatter_plan.specs.declared.CompiledScatter.{CompiledScatter}
 use Rattle.scatter_plan.specs.Plan.{compiledScatter}
-use Rattle.scatter_plan.specs.Same.{isCompiled as scatter-compiled}
-use Rattle.scatter_plan.proofs.Compiled.{compile-is-compiled as scatter-is-compiled}
+use Rattle.scatter_same.specs.Same.{isCompiled as scatter-compiled}
+use Rattle.scatter_same.proofs.Compiled.{compile-is-compiled as scatter-is-compiled}
 use Rattle.scatter.specs.Calls as scatters
 use Rattle.job_runs.specs.declared.RunAnswer.{RunAnswer}
 use Rattle.job_runs.specs.declared.Step.{Step}

@@ -17,8 +17,9 @@ use Rattle.gather_checks.specs.Refusals.{gatherFrom, refusalOf}
 use Rattle.gather_plan.specs.declared.GatherPlan.{GatherPlan}
 use Rattle.gather_plan.specs.declared.CompiledGather.{CompiledGather}
 use Rattle.gather_plan.specs.Plan.{planOf, compiledGather, heldGather}
-use Rattle.gather_plan.specs.Same.{sameLayout, isCompiled}
-use Rattle.gather_plan.proofs.Compare.{and-true, layouts-decide}
+use Rattle.equality.specs.Same.{sameLayout}
+use Rattle.gather_same.specs.Same.{isCompiled}
+use Rattle.equality.proofs.Compare.{and-true, layouts-decide}
 use Rattle.gather_plan.proofs.Compiled.{compiled-plan}
 use Rattle.gather_plan.proofs.Accepted.{strides-yes, rank-yes}
 use Rattle.gather.specs.Calls.{gatherOf, planFits, planRefusal, reachOf, callAnswer}

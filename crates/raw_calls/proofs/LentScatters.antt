@@ -10,8 +10,8 @@ use Rattle.layout.specs.declared.Answer.{Answer}
 use Rattle.layout.specs.declared.Answer.the-variants as N
 use Rattle.layout.specs.Answers.{isDone, orElse}
 use Rattle.layout.specs.Layouts.{layoutOf, layoutFrom}
-use Rattle.gather_plan.specs.Same.{sameLayout}
-use Rattle.gather_plan.proofs.Compare.{and-true}
+use Rattle.equality.specs.Same.{sameLayout}
+use Rattle.equality.proofs.Compare.{and-true}
 use Rattle.replay.specs.Replays.{rowsOf}
 use Rattle.scatter_checks.specs.Refusals.{scatterFrom, refusalOf}
 use Rattle.scatter_plan.specs.declared.CompiledScatter.{CompiledScatter}

@@ -14,8 +14,8 @@ use Rattle.layout.specs.Answers.{isDone, orElse}
 use Rattle.layout.specs.Layouts.{rankLimit, padded, layoutOf, extentsOf, stridesOf, strideLength, rankAtMost, refusedLayout, madeBy, layoutFrom}
 use Rattle.axis_lists.proofs.Filling.{read-back}
 use Rattle.gather_checks.proofs.Made.{or-done, same-length, few-axes}
-use Rattle.gather_plan.specs.Same.{sameLayout}
-use Rattle.gather_plan.proofs.Compare.{and-true, layouts-decide}
+use Rattle.equality.specs.Same.{sameLayout}
+use Rattle.equality.proofs.Compare.{and-true, layouts-decide}
 use Rattle.gather.specs.Calls.{planRefusal}
 use Rattle.gather_lent.specs.Lent.{SameView}
 use Rattle.raw_calls.specs.Calls.{SameLists, SameViews}

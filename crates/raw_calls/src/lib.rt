@@ -48,7 +48,7 @@ fn same_views(
         third_view_extents,
         third_view_strides,
     );
-    gather_plan::both(first, gather_plan::both(second, third))
+    equality::both(first, equality::both(second, third))
 }
 
 // A gather of i32: compile by the first eleven arguments, and the call on the three views and their slices. Views that have other

@@ -25,13 +25,13 @@ use Rattle.layout.specs.Reach.{viewReach, bufferBounds}
 use Rattle.runs.specs.Runs.{ruleI32, ruleF64}
 use Rattle.runs.specs.declared.Rule.the-variants as R′
 use Rattle.gather_checks.proofs.Made.{or-done}
-use Rattle.gather_plan.specs.Same.{sameLayout}
-use Rattle.gather_plan.proofs.Compare.{and-true, layouts-decide}
+use Rattle.equality.specs.Same.{sameLayout}
+use Rattle.equality.proofs.Compare.{and-true, layouts-decide}
 use Rattle.gather.specs.Calls.{planRefusal, reachOf}
 use Rattle.gather_walk.proofs.Covers.{no-zero}
 use Rattle.gather.proofs.Calls.{plan-done, zero-of}
 use Rattle.scatter_plan.specs.declared.ScatterPlan.{ScatterPlan}
-use Rattle.scatter_plan.specs.Same.{isCompiled}
+use Rattle.scatter_same.specs.Same.{isCompiled}
 use Rattle.scatter.specs.Calls.{scatterOf, planFits, callAnswer, Called}
 use Rattle.scatter_walk.specs.Walks.{scatterAt, Reached}
 use Rattle.scatter_walk.proofs.Walking.{at-valid}

@@ -10,11 +10,11 @@ use Rattle.layout.specs.declared.Answer.{Answer}
 use Rattle.layout.specs.declared.View.{View}
 use Rattle.layout.specs.Answers.{isDone, orElse}
 use Rattle.layout.specs.Reach.{bufferBounds}
-use Rattle.gather_plan.specs.Same.{sameLayout}
+use Rattle.equality.specs.Same.{sameLayout}
 use Rattle.gather.specs.Calls.{viewOf, planRefusal, reachOf}
 use Rattle.scatter_plan.specs.declared.ScatterPlan.{ScatterPlan}
 use Rattle.scatter_plan.specs.Plan.{heldScatter}
-use Rattle.scatter_plan.specs.Same.{isCompiled}
+use Rattle.scatter_same.specs.Same.{isCompiled}
 
 -- the scatter of a call: the plan's spec on the call's index, updates and destination
 abbrev pub scatterOf : ScatterPlan → View → View → View → Scatter

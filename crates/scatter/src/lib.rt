@@ -8,7 +8,7 @@ ghost use lib.ListN.{length};
 ghost use Rattle.indexing.specs.Scatter.{cuts, combined, scatteredI32, scatteredF64};
 ghost use Rattle.runs.specs.Runs.{ruleI32, ruleF64};
 ghost use Rattle.runs.specs.declared.Rule.the-variants as R;
-ghost use Rattle.scatter_plan.specs.Same.{isCompiled};
+ghost use Rattle.scatter_same.specs.Same.{isCompiled};
 ghost use Rattle.scatter_walk.specs.Walks.{scatterAt, Reached};
 ghost use Rattle.scatter.specs.Calls.{planFits, callAnswer, Called};
 use layout::Answer;
@@ -36,19 +36,19 @@ fn plan_fits(
     let x = plan.index;
     let y = plan.updates;
     let z = plan.dest;
-    if !gather_plan::same_layout(a, x) {
+    if !equality::same_layout(a, x) {
         return false;
     }
-    if !gather_plan::same_layout(b, y) {
+    if !equality::same_layout(b, y) {
         return false;
     }
-    if !gather_plan::same_layout(c, z) {
+    if !equality::same_layout(c, z) {
         return false;
     }
     if known {
         return true;
     }
-    scatter_plan::is_compiled(plan, batch_rows, window_rows)
+    scatter_same::is_compiled(plan, batch_rows, window_rows)
 }
 
 // What a call answers, given the lengths of the three slices.

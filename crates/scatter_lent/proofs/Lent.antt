@@ -17,17 +17,18 @@ use Rattle.layout.specs.Reach.{viewReach}
 use Rattle.axis_lists.specs.Held.{numbersOf}
 use Rattle.axis_lists.proofs.Filling.{read-back}
 use Rattle.replay.specs.Replays.{rowsOf}
-use Rattle.gather_plan.specs.Same.{sameLayout}
-use Rattle.gather_plan.proofs.Compare.{and-both, layouts-decide}
+use Rattle.equality.specs.Same.{sameLayout}
+use Rattle.equality.proofs.Compare.{and-both, layouts-decide}
 use Rattle.gather.specs.Calls.{planRefusal, reachOf}
 use Rattle.gather_walk.specs.Walks.{limitAt}
 use Rattle.scatter_checks.specs.Refusals.{scatterFrom, refusalOf}
 use Rattle.scatter_plan.specs.declared.ScatterPlan.{ScatterPlan}
 use Rattle.scatter_plan.specs.Plan.{planOf, compiledScatter, heldScatter}
 use Rattle.scatter_plan.specs.Made.{made}
-use Rattle.scatter_plan.specs.Same.{isCompiled}
+use Rattle.scatter_same.specs.Same.{isCompiled}
 use Rattle.scatter_plan.proofs.Accepted.{Accepted, accepted, planned, given-read}
-use Rattle.scatter_plan.proofs.Compiled.{compiled-plan, held-again, compile-is-compiled}
+use Rattle.scatter_plan.proofs.Compiled.{compiled-plan, held-again}
+use Rattle.scatter_same.proofs.Compiled.{compile-is-compiled}
 use Rattle.scatter.specs.Calls.{scatterOf, planFits, callAnswer, Called}
 use Rattle.scatter_lent.specs.Lent.{viewsAnswer, lentAnswer, scatterOn, Lent, batchRows, windowRows}
 

@@ -1,4 +1,3 @@
-pub mod Compare
 pub mod Accepted
 pub mod Valid
 pub mod Compiled

@@ -16,8 +16,8 @@ use Rattle.layout.specs.Answers.{isDone}
 use Rattle.axis_lists.specs.Held.{sameList}
 use Rattle.checks.specs.Checks.{vectorAxis, componentsOf, windowsFrom}
 use Rattle.gather_checks.proofs.Made.{same-length}
-use Rattle.gather_plan.specs.Same.{sameBy}
-use Rattle.gather_plan.proofs.Compare.{numbers-decide, lists-decide}
+use Rattle.equality.specs.Same.{sameBy}
+use Rattle.equality.proofs.Compare.{numbers-decide, lists-decide}
 use Rattle.gather_plan.proofs.Lists.{unique-axes}
 use Rattle.gather_plan.proofs.Accepted.{same-count}
 use Rattle.scatter_checks.specs.Refusals.{batchRefusal, refusalOf}

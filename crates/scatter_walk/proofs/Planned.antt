@@ -20,8 +20,8 @@ use Rattle.replay.specs.Replays.{extents}
 use Rattle.scatter_checks.specs.Refusals.{batchWalk, windowWalk, refusalOf}
 use Rattle.scatter_plan.specs.declared.ScatterPlan.{ScatterPlan}
 use Rattle.scatter_plan.specs.Plan.{planOf, heldScatter}
-use Rattle.scatter_plan.specs.Same.{isCompiled}
-use Rattle.scatter_plan.proofs.Compiled.{compiled-is}
+use Rattle.scatter_same.specs.Same.{isCompiled}
+use Rattle.scatter_same.proofs.Compiled.{compiled-is}
 use Rattle.scatter_plan.proofs.Accepted.{Accepted, accepted}
 use Rattle.gather_walk.specs.Walks.{limitAt}
 use Rattle.gather_walk.proofs.Planned.{padded-entry}

@@ -37,7 +37,7 @@ use Rattle.scatter_checks.specs.Refusals.{batchWalk, windowWalk, refusalOf}
 use Rattle.scatter_windows.specs.Scattering.{scatteredBy, Batches, Scattering}
 use Rattle.scatter_plan.specs.declared.ScatterPlan.{ScatterPlan}
 use Rattle.scatter_plan.specs.Plan.{heldScatter}
-use Rattle.scatter_plan.specs.Same.{isCompiled}
+use Rattle.scatter_same.specs.Same.{isCompiled}
 use Rattle.scatter_plan.proofs.Valid.{valid}
 use Rattle.gather_walk.specs.Walks.{limitAt, unlessNone}
 use Rattle.gather_walk.proofs.Planned.{unless-some}

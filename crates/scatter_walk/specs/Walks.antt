@@ -16,7 +16,7 @@ use Rattle.replay.specs.Replays.{extents}
 use Rattle.gather_walk.specs.Walks.{limitAt, unlessNone}
 use Rattle.scatter_plan.specs.declared.ScatterPlan.{ScatterPlan}
 use Rattle.scatter_plan.specs.Plan.{heldScatter}
-use Rattle.scatter_plan.specs.Same.{isCompiled}
+use Rattle.scatter_same.specs.Same.{isCompiled}
 use Rattle.scatter_walk.specs.declared.ScatterWalk.{ScatterWalk}
 
 -- number j of each row: 0 is the source step, 2 the destination step

@@ -12,7 +12,7 @@ use mir.Syntax.{w64}
 use mir.Val.{SFits}
 use Rattle.integer.specs.Defs.{eqZ}
 use Rattle.integer.specs.Z.{back}
-use Rattle.gather_plan.proofs.Compare.{ints-decide}
+use Rattle.equality.proofs.Compare.{ints-decide}
 use Rattle.gather_lent.proofs.same_strides.Statement.{statement}
 use Rattle.gather_lent.proofs.same_strides.Tie as tie
 

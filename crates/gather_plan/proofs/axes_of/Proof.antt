@@ -30,59 +30,59 @@ at w =
     let fb : SFits w64 (w .before .step-at3 .result) = search needs in
     rw (w .axis-with .ensures, back fs, back fw, back fb, w .before .step-at3 .ensures, w .before .before .step-at2 .ensures, w .before .before .before .step-at .ensures, w .before .before .before .before .number-at .ensures, w .before .before .before .before .before .role-at .ensures)
 
--- src/lib.rt:196:9
+-- src/lib.rt:191:9
 axis-count-requires : tie.Need-axis-count-requires Inv-loop μ-loop
 axis-count-requires c κs = search needs
 
--- src/lib.rt:197:9
+-- src/lib.rt:192:9
 no-axis-requires : tie.Need-no-axis-requires Inv-loop μ-loop
 no-axis-requires c κs = search needs
 
--- src/lib.rt:200:5
+-- src/lib.rt:195:5
 loop-holds : tie.Need-loop-holds Inv-loop μ-loop
 loop-holds c = (zero-le, ap (replicate 8) (c .no-axis .ensures))
 
--- src/lib.rt:202:13
+-- src/lib.rt:197:13
 role-at-requires : tie.Need-role-at-requires Inv-loop μ-loop
 role-at-requires c κs = search needs
 
--- src/lib.rt:203:13
+-- src/lib.rt:198:13
 number-at-requires : tie.Need-number-at-requires Inv-loop μ-loop
 number-at-requires c κs = search needs
 
--- src/lib.rt:204:13
+-- src/lib.rt:199:13
 step-at-requires : tie.Need-step-at-requires Inv-loop μ-loop
 step-at-requires c κs = search needs
 
--- src/lib.rt:205:13
+-- src/lib.rt:200:13
 step-at-requires-2 : tie.Need-step-at-requires-2 Inv-loop μ-loop
 step-at-requires-2 c κs = search needs
 
--- src/lib.rt:206:13
+-- src/lib.rt:201:13
 step-at-requires-3 : tie.Need-step-at-requires-3 Inv-loop μ-loop
 step-at-requires-3 c κs = search needs
 
--- src/lib.rt:207:18
+-- src/lib.rt:202:18
 axis-with-requires : tie.Need-axis-with-requires Inv-loop μ-loop
 axis-with-requires c κs = search needs
 
--- src/lib.rt:207:9
+-- src/lib.rt:202:9
 mul-out : tie.Need-mul-out Inv-loop μ-loop
 mul-out c = search needs
 
--- src/lib.rt:207:9
+-- src/lib.rt:202:9
 array-set-from-out : tie.Need-array-set-from-out Inv-loop μ-loop
 array-set-from-out c = search needs
 
--- src/lib.rt:208:9
+-- src/lib.rt:203:9
 add-i : tie.Need-add-i Inv-loop μ-loop
 add-i c = omega (arith, c .before .before .before .before .before .before .loop-test .taken, c .before .before .before .before .before .before .before .before .before .axis-count .ensures)
 
--- src/lib.rt:200:5
+-- src/lib.rt:195:5
 loop-less : tie.Need-loop-less Inv-loop μ-loop
 loop-less c = omega (arith, c .before .before .before .before .before .before .loop-test .taken)
 
--- src/lib.rt:200:5
+-- src/lib.rt:195:5
 loop-again : tie.Need-loop-again Inv-loop μ-loop
 loop-again c =
     let l = c .before .before .before .before .before .before .before in
@@ -93,7 +93,7 @@ loop-again c =
     let k = length-tabulate n (axisFrom (numbersOf (s .args .extents)) (stepsOf (s .args .dest)) (stepsOf (s .args .window)) (stepsOf (s .args .batch)) (s .args .offset-dims .now) (numbersOf (s .args .shown))) in
     (omega (arith, t), one-written noAxis (tabulate n (axisFrom (numbersOf (s .args .extents)) (stepsOf (s .args .dest)) (stepsOf (s .args .window)) (stepsOf (s .args .batch)) (s .args .offset-dims .now) (numbersOf (s .args .shown)))) (l .loop .out) (l .loop .i) (c .axis-with .result) (omega (arith, k, t)) (omega (arith, k, m)) (l .loop .inv .1) (at c ∙ sym (getD-tabulate n (axisFrom (numbersOf (s .args .extents)) (stepsOf (s .args .dest)) (stepsOf (s .args .window)) (stepsOf (s .args .batch)) (s .args .offset-dims .now) (numbersOf (s .args .shown))) (l .loop .i) noAxis t)))
 
--- src/lib.rt:186:1
+-- src/lib.rt:181:1
 returns : tie.Need-returns Inv-loop μ-loop
 unfolding axesFrom
 returns c =

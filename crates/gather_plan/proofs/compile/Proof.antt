@@ -8,41 +8,41 @@ use borrow.Author.Needs.{needs}
 use Rattle.gather_plan.proofs.compile.Statement.{statement}
 use Rattle.gather_plan.proofs.compile.Tie as tie
 
--- src/lib.rt:314:9
+-- src/lib.rt:309:9
 gather-refusal-requires : tie.Need-gather-refusal-requires
 gather-refusal-requires c κs = search needs
 
--- src/lib.rt:328:9
+-- src/lib.rt:323:9
 is-done-requires : tie.Need-is-done-requires
 is-done-requires c κs = search needs
 
--- src/lib.rt:329:9
+-- src/lib.rt:324:9
 refused-requires : tie.Need-refused-requires
 refused-requires c κs = search needs
 
--- src/lib.rt:329:9
+-- src/lib.rt:324:9
 returns : tie.Need-returns
 returns c =
     let s = c .before .before .before .before .before .before .before .before .before .before .before in
     refused-with (s .args .nested) (gatherFrom (s .args .operand-extents .now) (s .args .operand-strides .now) (s .args .index-extents .now) (s .args .index-strides .now) (s .args .dest-extents .now) (s .args .dest-strides .now) (s .args .offset-dims .now) (s .args .collapsed-slice-dims .now) (s .args .start-index-map .now) (s .args .index-vector-dim) (s .args .slice-sizes .now)) (c .refused .result) (c .before .before .before .gather-refusal .result) (c .refused .ensures) (c .before .before .before .gather-refusal .ensures) (sym (c .before .before .is-done .ensures) ∙ not-true _ (c .before .if1 .taken))
 
--- src/lib.rt:331:9
+-- src/lib.rt:326:9
 make-layout-requires : tie.Need-make-layout-requires
 make-layout-requires c κs = search needs
 
--- src/lib.rt:332:9
+-- src/lib.rt:327:9
 make-layout-requires-2 : tie.Need-make-layout-requires-2
 make-layout-requires-2 c κs = search needs
 
--- src/lib.rt:333:9
+-- src/lib.rt:328:9
 make-layout-requires-3 : tie.Need-make-layout-requires-3
 make-layout-requires-3 c κs = search needs
 
--- src/lib.rt:337:9
+-- src/lib.rt:332:9
 plan-of-requires : tie.Need-plan-of-requires
 plan-of-requires c κs = search needs
 
--- src/lib.rt:298:1
+-- src/lib.rt:293:1
 returns-2 : tie.Need-returns-2
 returns-2 c =
     let s = c .before .before .before .before .before .before .before .before .before .before .before .before .before .before .before .before .before in

@@ -13,19 +13,19 @@ use borrow.Author.Needs.{needs}
 use Rattle.gather_plan.proofs.component_strides.Statement.{statement}
 use Rattle.gather_plan.proofs.component_strides.Tie as tie
 
--- src/lib.rt:252:9
+-- src/lib.rt:248:9
 numbers-from-requires : tie.Need-numbers-from-requires
 numbers-from-requires c κs = search needs
 
--- src/lib.rt:253:9
+-- src/lib.rt:249:9
 strides-of-requires : tie.Need-strides-of-requires
 strides-of-requires c κs = search needs
 
--- src/lib.rt:254:5
+-- src/lib.rt:250:5
 pick-steps-requires : tie.Need-pick-steps-requires
 pick-steps-requires c κs = search needs
 
--- src/lib.rt:249:1
+-- src/lib.rt:245:1
 returns : tie.Need-returns
 returns c =
     let s = c .before .before .before .before in

@@ -20,31 +20,31 @@ use Rattle.gather_plan.proofs.dest_axes.Tie as tie
 eights : (s : tie.Start) → (length (s .args .operand .extents) ≡ 8) × (length (s .args .dest .extents) ≡ 8) × (length (s .args .dest .strides) ≡ 8)
 eights s = (search needs, search needs, search needs)
 
--- src/lib.rt:224:9
+-- src/lib.rt:219:9
 other-axes-requires : tie.Need-other-axes-requires
 other-axes-requires c κs = search needs
 
--- src/lib.rt:225:9
+-- src/lib.rt:220:9
 window-steps-requires : tie.Need-window-steps-requires
 window-steps-requires c κs = search needs
 
--- src/lib.rt:226:9
+-- src/lib.rt:221:9
 batch-steps-requires : tie.Need-batch-steps-requires
 batch-steps-requires c κs = search needs
 
--- src/lib.rt:227:9
+-- src/lib.rt:222:9
 extents-of-requires : tie.Need-extents-of-requires
 extents-of-requires c κs = search needs
 
--- src/lib.rt:228:9
+-- src/lib.rt:223:9
 strides-of-requires : tie.Need-strides-of-requires
 strides-of-requires c κs = search needs
 
--- src/lib.rt:229:5
+-- src/lib.rt:224:5
 axes-of-requires : tie.Need-axes-of-requires
 axes-of-requires c κs = search needs
 
--- src/lib.rt:214:1
+-- src/lib.rt:209:1
 returns : tie.Need-returns
 returns c =
     let s = c .before .before .before .before .before .before .before .before in

@@ -19,47 +19,47 @@ eight s = search needs
 fit : (w : tie.After-step-at) → SFits w64 (w .step-at .result)
 fit w = search needs
 
--- src/lib.rt:271:9
+-- src/lib.rt:266:9
 dest-axes-requires : tie.Need-dest-axes-requires
 dest-axes-requires c κs = search needs
 
--- src/lib.rt:272:9
+-- src/lib.rt:267:9
 strides-of-requires : tie.Need-strides-of-requires
 strides-of-requires c κs = search needs
 
--- src/lib.rt:273:9
+-- src/lib.rt:268:9
 step-at-requires : tie.Need-step-at-requires
 step-at-requires c κs = search needs
 
--- src/lib.rt:274:9
+-- src/lib.rt:269:9
 component-offsets-requires : tie.Need-component-offsets-requires
 component-offsets-requires c κs = search needs
 
--- src/lib.rt:275:9
+-- src/lib.rt:270:9
 component-strides-requires : tie.Need-component-strides-requires
 component-strides-requires c κs = search needs
 
--- src/lib.rt:276:9
+-- src/lib.rt:271:9
 numbers-from-requires : tie.Need-numbers-from-requires
 numbers-from-requires c κs = search needs
 
--- src/lib.rt:277:9
+-- src/lib.rt:272:9
 numbers-from-requires-2 : tie.Need-numbers-from-requires-2
 numbers-from-requires-2 c κs = search needs
 
--- src/lib.rt:278:9
+-- src/lib.rt:273:9
 numbers-from-requires-3 : tie.Need-numbers-from-requires-3
 numbers-from-requires-3 c κs = search needs
 
--- src/lib.rt:279:9
+-- src/lib.rt:274:9
 numbers-from-requires-4 : tie.Need-numbers-from-requires-4
 numbers-from-requires-4 c κs = search needs
 
--- src/lib.rt:280:9
+-- src/lib.rt:275:9
 total-value-requires : tie.Need-total-value-requires
 total-value-requires c κs = search needs
 
--- src/lib.rt:259:1
+-- src/lib.rt:254:1
 returns : tie.Need-returns
 unfolding planMade
 returns c =

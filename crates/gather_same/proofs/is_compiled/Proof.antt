@@ -1,0 +1,38 @@
+use mathlib.Core.Path.{ap, ap₂, _∙_}
+use mathlib.Core.Bool.{_&&_}
+use Rattle.layout.specs.Answers.{isDone}
+use Rattle.gather_plan.specs.declared.CompiledGather.{CompiledGather}
+use Rattle.gather_same.specs.Same.{samePlan, isCompiled}
+use borrow.Author.Needs.{needs}
+use Rattle.gather_same.proofs.is_compiled.Statement.{statement}
+use Rattle.gather_same.proofs.is_compiled.Tie as tie
+
+-- src/lib.rt:183:9
+compiled-again-requires : tie.Need-compiled-again-requires
+compiled-again-requires c κs = search needs
+
+-- src/lib.rt:186:9
+is-done-requires : tie.Need-is-done-requires
+is-done-requires c κs = search needs
+
+-- src/lib.rt:187:9
+same-plan-requires : tie.Need-same-plan-requires
+same-plan-requires c κs = search needs
+
+-- src/lib.rt:188:5
+both-requires : tie.Need-both-requires
+both-requires c κs = search needs
+
+-- src/lib.rt:180:1
+returns : tie.Need-returns
+unfolding isCompiled
+returns c =
+    let s = c .before .before .before .before .before in
+    let e = c .before .before .before .before .compiled-again .ensures in
+    c .both .ensures
+    ∙ ap₂ _&&_ (c .before .before .is-done .ensures ∙ ap (λ (r : CompiledGather). isDone (r .answer)) e) (c .before .same-plan .ensures ∙ ap (λ (r : CompiledGather). samePlan (s .args .plan) (r .plan)) e)
+
+pub is-compiled-spec : {M : Type 1} → statement M
+is-compiled-spec =
+    tie.close
+    (tie.spec compiled-again-requires is-done-requires same-plan-requires both-requires returns)

@@ -1,0 +1,95 @@
+use borrow.Author.Needs.{needs}
+use mathlib.Core.Path.{_≡_, refl, sym, _∙_}
+use Prim.Native.Nat.{_-_, _≤_, zero-le}
+use native.Mathlib.Omega.{arith}
+use borrow.Author.Tests.{not-true, not-false}
+use lib.ListN.{length, drop}
+use Rattle.equality.specs.Same.{sameBy}
+use Rattle.equality.proofs.Compare.{same-differs, same-next, same-ends}
+use Rattle.gather_same.specs.Same.{sameAxis}
+use Rattle.gather_plan.specs.Plan.{noAxis}
+use Rattle.gather_same.proofs.same_axes.Statement.{statement}
+use Rattle.gather_same.proofs.same_axes.Tie as tie
+
+abbrev Inv-loop : tie.InvT-loop
+Inv-loop a b i₀ i = (i ≤ 8) × (sameBy sameAxis (drop i a) (drop i b) ≡ sameBy sameAxis a b)
+
+abbrev μ-loop : tie.MeasureT-loop
+μ-loop a b i₀ i = 8 - i
+
+-- src/lib.rt:56:5
+loop-holds : tie.Need-loop-holds Inv-loop μ-loop
+loop-holds c = (zero-le, refl)
+
+-- src/lib.rt:57:17
+mul-x : tie.Need-mul-x Inv-loop μ-loop
+mul-x c = search needs
+
+-- src/lib.rt:57:17
+array-copy-out-x : tie.Need-array-copy-out-x Inv-loop μ-loop
+array-copy-out-x c = search needs
+
+-- src/lib.rt:58:17
+mul-y : tie.Need-mul-y Inv-loop μ-loop
+mul-y c = search needs
+
+-- src/lib.rt:58:17
+array-copy-out-y : tie.Need-array-copy-out-y Inv-loop μ-loop
+array-copy-out-y c = search needs
+
+-- src/lib.rt:59:13
+same-axis-requires : tie.Need-same-axis-requires Inv-loop μ-loop
+same-axis-requires c κs = search needs
+
+-- src/lib.rt:60:13
+returns : tie.Need-returns Inv-loop μ-loop
+returns c =
+    let l = c .before .before .before .before .before in
+    let s = l .before in
+    let e : length (s .args .t1) ≡ 8 = search needs in
+    let f : length (s .args .t2) ≡ 8 = search needs in
+    same-differs sameAxis noAxis (s .args .t1) (s .args .t2) (l .loop .i) (omega arith) (omega arith) (sym (c .before .same-axis .ensures) ∙ not-true _ (c .if1 .taken)) ∙ l .loop .inv .1
+
+-- src/lib.rt:62:9
+add-i : tie.Need-add-i Inv-loop μ-loop
+add-i c = search needs
+
+-- src/lib.rt:56:5
+loop-less : tie.Need-loop-less Inv-loop μ-loop
+loop-less c = search needs
+
+-- src/lib.rt:56:5
+loop-again : tie.Need-loop-again Inv-loop μ-loop
+loop-again c =
+    let l = c .before .before .before .before .before in
+    let s = l .before in
+    let e : length (s .args .t1) ≡ 8 = search needs in
+    let f : length (s .args .t2) ≡ 8 = search needs in
+    (omega arith, same-next sameAxis noAxis (s .args .t1) (s .args .t2) (l .loop .i) (omega arith) (omega arith) (sym (c .before .same-axis .ensures) ∙ not-false _ (c .if1 .left)) ∙ l .loop .inv .1)
+
+-- src/lib.rt:52:1
+returns-2 : tie.Need-returns-2 Inv-loop μ-loop
+returns-2 c =
+    let l = c .before in
+    let s = l .before in
+    let e : length (s .args .t1) ≡ 8 = search needs in
+    let f : length (s .args .t2) ≡ 8 = search needs in
+    same-ends sameAxis noAxis (s .args .t1) (s .args .t2) (l .loop .i) (omega arith) (omega arith) ∙ l .loop .inv .1
+
+pub same-axes-spec : {M : Type 1} → statement M
+same-axes-spec =
+    tie.close
+    (tie.spec
+    Inv-loop
+    μ-loop
+    loop-holds
+    mul-x
+    array-copy-out-x
+    mul-y
+    array-copy-out-y
+    same-axis-requires
+    returns
+    add-i
+    loop-less
+    loop-again
+    returns-2)

@@ -1,0 +1,97 @@
+use mir.Syntax.{w64}
+use mir.Val.{SFits}
+use Rattle.integer.specs.Z.{back}
+use Rattle.gather_same.specs.Same.{sameAxis}
+use borrow.Author.Needs.{needs}
+use Rattle.gather_same.proofs.same_axis.Statement.{statement}
+use Rattle.gather_same.proofs.same_axis.Tie as tie
+
+-- src/lib.rt:33:9
+same-role-requires : tie.Need-same-role-requires
+same-role-requires c κs = search needs
+
+-- src/lib.rt:34:9
+same-i64-requires : tie.Need-same-i64-requires
+same-i64-requires c κs = search needs
+
+-- src/lib.rt:35:9
+same-i64-requires-2 : tie.Need-same-i64-requires-2
+same-i64-requires-2 c κs = search needs
+
+-- src/lib.rt:36:9
+same-i64-requires-3 : tie.Need-same-i64-requires-3
+same-i64-requires-3 c κs = search needs
+
+-- src/lib.rt:37:9
+same-i64-requires-4 : tie.Need-same-i64-requires-4
+same-i64-requires-4 c κs = search needs
+
+-- src/lib.rt:38:9
+same-i64-requires-5 : tie.Need-same-i64-requires-5
+same-i64-requires-5 c κs = search needs
+
+-- src/lib.rt:39:9
+same-i64-requires-6 : tie.Need-same-i64-requires-6
+same-i64-requires-6 c κs = search needs
+
+-- src/lib.rt:46:53
+both-requires : tie.Need-both-requires
+both-requires c κs = search needs
+
+-- src/lib.rt:46:35
+both-requires-2 : tie.Need-both-requires-2
+both-requires-2 c κs = search needs
+
+-- src/lib.rt:46:17
+both-requires-3 : tie.Need-both-requires-3
+both-requires-3 c κs = search needs
+
+-- src/lib.rt:44:13
+both-requires-4 : tie.Need-both-requires-4
+both-requires-4 c κs = search needs
+
+-- src/lib.rt:42:9
+both-requires-5 : tie.Need-both-requires-5
+both-requires-5 c κs = search needs
+
+-- src/lib.rt:40:5
+both-requires-6 : tie.Need-both-requires-6
+both-requires-6 c κs = search needs
+
+-- src/lib.rt:28:1
+returns : tie.Need-returns
+unfolding sameAxis
+returns c =
+    let s = c .before .before .before .before .before .before .before .before .before .before .before .before .before .before .before .before .before .before .before .before .before .before .before .before .before in
+    let f0 : SFits w64 (s .args .a .«dest_step») = search needs in
+    let g0 : SFits w64 (s .args .b .«dest_step») = search needs in
+    let f1 : SFits w64 (s .args .a .«dest_reset») = search needs in
+    let g1 : SFits w64 (s .args .b .«dest_reset») = search needs in
+    let f2 : SFits w64 (s .args .a .«window_step») = search needs in
+    let g2 : SFits w64 (s .args .b .«window_step») = search needs in
+    let f3 : SFits w64 (s .args .a .«window_reset») = search needs in
+    let g3 : SFits w64 (s .args .b .«window_reset») = search needs in
+    let f4 : SFits w64 (s .args .a .«batch_step») = search needs in
+    let g4 : SFits w64 (s .args .b .«batch_step») = search needs in
+    let f5 : SFits w64 (s .args .a .«batch_reset») = search needs in
+    let g5 : SFits w64 (s .args .b .«batch_reset») = search needs in
+    rw (c .both6 .ensures, c .before .both5 .ensures, c .before .before .both4 .ensures, c .before .before .before .both3 .ensures, c .before .before .before .before .both2 .ensures, c .before .before .before .before .before .both .ensures, c .before .before .before .before .before .before .same-i646 .ensures, c .before .before .before .before .before .before .before .before .before .same-i645 .ensures, c .before .before .before .before .before .before .before .before .before .before .before .before .same-i644 .ensures, c .before .before .before .before .before .before .before .before .before .before .before .before .before .before .before .same-i643 .ensures, c .before .before .before .before .before .before .before .before .before .before .before .before .before .before .before .before .before .before .same-i642 .ensures, c .before .before .before .before .before .before .before .before .before .before .before .before .before .before .before .before .before .before .before .before .before .same-i64 .ensures, c .before .before .before .before .before .before .before .before .before .before .before .before .before .before .before .before .before .before .before .before .before .before .before .before .same-role .ensures, back f0, back g0, back f1, back g1, back f2, back g2, back f3, back g3, back f4, back g4, back f5, back g5)
+
+pub same-axis-spec : {M : Type 1} → statement M
+same-axis-spec =
+    tie.close
+    (tie.spec
+    same-role-requires
+    same-i64-requires
+    same-i64-requires-2
+    same-i64-requires-3
+    same-i64-requires-4
+    same-i64-requires-5
+    same-i64-requires-6
+    both-requires
+    both-requires-2
+    both-requires-3
+    both-requires-4
+    both-requires-5
+    both-requires-6
+    returns)

@@ -1,0 +1,47 @@
+use mathlib.Core.Path.{ap, ap₂, _∙_}
+use mathlib.Core.Bool.{_&&_}
+use Rattle.layout.specs.Answers.{isDone}
+use Rattle.scatter_plan.specs.declared.CompiledScatter.{CompiledScatter}
+use Rattle.scatter_same.specs.Same.{samePlan, isCompiled}
+use borrow.Author.Needs.{needs}
+use Rattle.scatter_same.proofs.is_compiled.Statement.{statement}
+use Rattle.scatter_same.proofs.is_compiled.Tie as tie
+
+compiled-again-requires : tie.Need-compiled-again-requires
+compiled-again-requires c κs = search needs
+
+is-done-requires : tie.Need-is-done-requires
+is-done-requires c κs = search needs
+
+same-plan-requires : tie.Need-same-plan-requires
+same-plan-requires c κs = search needs
+
+has-rows-requires : tie.Need-has-rows-requires
+has-rows-requires c κs = search needs
+
+both-requires : tie.Need-both-requires
+both-requires c κs = search needs
+
+both-requires-2 : tie.Need-both-requires-2
+both-requires-2 c κs = search needs
+
+returns : tie.Need-returns
+unfolding isCompiled
+returns c =
+    let s = c .before .before .before .before .before .before .before in
+    let e = c .before .before .before .before .before .before .compiled-again .ensures in
+    c .both2 .ensures
+    ∙ ap₂ _&&_ (c .before .before .before .before .is-done .ensures ∙ ap (λ (r : CompiledScatter). isDone (r .answer)) e)
+    (c .before .both .ensures ∙ ap₂ _&&_ (c .before .before .before .same-plan .ensures ∙ ap (λ (r : CompiledScatter). samePlan (s .args .plan) (r .plan)) e) (c .before .before .has-rows .ensures))
+
+pub is-compiled-spec : {M : Type 1} → statement M
+is-compiled-spec =
+    tie.close
+    (tie.spec
+    compiled-again-requires
+    is-done-requires
+    same-plan-requires
+    has-rows-requires
+    both-requires
+    both-requires-2
+    returns)

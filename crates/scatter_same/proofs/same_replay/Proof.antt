@@ -1,0 +1,25 @@
+use Rattle.scatter_same.specs.Same.{sameReplay}
+use borrow.Author.Needs.{needs}
+use Rattle.scatter_same.proofs.same_replay.Statement.{statement}
+use Rattle.scatter_same.proofs.same_replay.Tie as tie
+
+same-axes-requires : tie.Need-same-axes-requires
+same-axes-requires c κs = search needs
+
+same-spans-requires : tie.Need-same-spans-requires
+same-spans-requires c κs = search needs
+
+both-requires : tie.Need-both-requires
+both-requires c κs = search needs
+
+both-requires-2 : tie.Need-both-requires-2
+both-requires-2 c κs = search needs
+
+returns : tie.Need-returns
+unfolding sameReplay
+returns c = rw (c .both2 .ensures, c .before .both .ensures, c .before .before .before .before .same-spans .ensures, c .before .before .before .before .before .before .before .same-axes .ensures)
+
+pub same-replay-spec : {M : Type 1} → statement M
+same-replay-spec =
+    tie.close
+    (tie.spec same-axes-requires same-spans-requires both-requires both-requires-2 returns)

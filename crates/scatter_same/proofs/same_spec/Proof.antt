@@ -1,0 +1,38 @@
+use Rattle.scatter_same.specs.Same.{sameSpec}
+use borrow.Author.Needs.{needs}
+use Rattle.scatter_same.proofs.same_spec.Statement.{statement}
+use Rattle.scatter_same.proofs.same_spec.Tie as tie
+
+same-numbers-requires : tie.Need-same-numbers-requires
+same-numbers-requires c κs = search needs
+
+same-numbers-requires-2 : tie.Need-same-numbers-requires-2
+same-numbers-requires-2 c κs = search needs
+
+same-numbers-requires-3 : tie.Need-same-numbers-requires-3
+same-numbers-requires-3 c κs = search needs
+
+both-requires : tie.Need-both-requires
+both-requires c κs = search needs
+
+both-requires-2 : tie.Need-both-requires-2
+both-requires-2 c κs = search needs
+
+both-requires-3 : tie.Need-both-requires-3
+both-requires-3 c κs = search needs
+
+returns : tie.Need-returns
+unfolding sameSpec
+returns c = rw (c .both3 .ensures, c .before .both2 .ensures, c .before .before .both .ensures, c .before .before .before .before .before .same-numbers3 .ensures, c .before .before .before .before .before .before .before .before .same-numbers2 .ensures, c .before .before .before .before .before .before .before .before .before .before .before .same-numbers .ensures)
+
+pub same-spec-spec : {M : Type 1} → statement M
+same-spec-spec =
+    tie.close
+    (tie.spec
+    same-numbers-requires
+    same-numbers-requires-2
+    same-numbers-requires-3
+    both-requires
+    both-requires-2
+    both-requires-3
+    returns)
