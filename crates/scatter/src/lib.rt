@@ -265,7 +265,8 @@ pub fn call_f64(
     }
 }
 
-// The scatter of a plan on these views.
+// The scatter of a plan on these views. Whole numbers whose magnitudes total at most 2^53 are summed exactly: `exact-f64` in
+// indexing's Exact.
 pub fn scatter_f64(
     plan: ScatterPlan,
     batch_rows: [[i64; 4]; RAW_FUSED_RANK_LIMIT],
