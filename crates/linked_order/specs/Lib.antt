@@ -1,0 +1,2 @@
+pub mod Ships
+pub mod Linked
