@@ -1,12 +1,12 @@
 -- Demand 3 of the exported calls, by their contracts alone. Assumes nothing.
 use mathlib.Core.Path.{_≡_, refl, sym, ap, ap₂, _∙_}
 use mathlib.Core.Bool.{Bool, true, false, cond}
-use mathlib.Core.List.{List, []}
+use mathlib.Core.List.{List}
 use Prim.Native.Nat.{ℕ}
 use lib.ListN.{length, getD}
 use lib.IntN.{ℤ, pos}
 use Rattle.indexing.specs.Gather.{Gather, gathered}
-use Rattle.indexing.specs.Scatter.{Scatter, Cut, cuts, combined, addI32, scatteredI32}
+use Rattle.indexing.specs.Scatter.{Scatter, combined, addI32, scatteredI32}
 use Rattle.indexing.specs.Cuts.{length-combined}
 use Rattle.indexing.specs.Demand3.{cuts-either-order, cuts-two, cuts-two-i32, unseen}
 use Rattle.layout.specs.declared.Answer.{Answer}
@@ -18,6 +18,7 @@ use Rattle.job_runs.specs.declared.OpenedGather.{OpenedGather}
 use Rattle.job_runs.specs.declared.OpenedScatter.{OpenedScatter}
 use Rattle.job_runs.specs.declared.RunAnswer.{RunAnswer}
 use Rattle.job_runs.specs.Runs.{GatherRun, ScatterRun}
+use Rattle.order.proofs.Laws.{as-cuts}
 use Rattle.strided.specs.Words.{words}
 use Rattle.strided.specs.Calls.{HandedBack}
 use Rattle.strided.specs.Scatters.{ScatterHandedBack}
@@ -43,11 +44,6 @@ pub job-sees : (o : OpenedGather) (starts grid into after : List ℤ) (answer : 
 job-sees o starts grid into after answer h = record { answered = h .answered ∙ ap (λ (r : RunAnswer). words (r .answer)) (h .does .answered); left = h .does .left }
 
 -- ---- a ship puts its cuts on the grid
-as-cuts : (t : Bool) (s : Scatter) (starts updates grid : List ℤ) → cond t (scatteredI32 s starts updates grid) grid ≡ combined addI32 (pos 0) (cond t (cuts (pos 0) s starts updates) []) grid
-unfolding scatteredI32 combined
-as-cuts true s starts updates grid = refl
-as-cuts false s starts updates grid = refl
-
 works-cuts : (s : Ship) (grid after : List ℤ) (answer : List ℕ) → Works s grid after answer → after ≡ combined addI32 (pos 0) (shipCuts s (length grid)) grid
 works-cuts s grid after answer w = w .left ∙ as-cuts (isDone (s .answer (length grid))) (s .scatter) (s .starts) (s .updates) grid
 

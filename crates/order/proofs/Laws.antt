@@ -30,7 +30,7 @@ abbrev pub Works : Ship → List ℤ → List ℤ → Answer → Type 0
 Works s grid after answer = S.Called scatteredI32 (s .work .plan) (s .batch-rows) (s .window-rows) (s .work .index) (s .work .updates) (s .work .dest) (s .starts) (s .updates) grid after answer
 
 -- is to put its cuts on the grid
-as-cuts : (t : Bool) (s : Scatter) (starts updates grid : List ℤ) → cond t (scatteredI32 s starts updates grid) grid ≡ combined addI32 (pos 0) (cond t (cuts (pos 0) s starts updates) []) grid
+pub as-cuts : (t : Bool) (s : Scatter) (starts updates grid : List ℤ) → cond t (scatteredI32 s starts updates grid) grid ≡ combined addI32 (pos 0) (cond t (cuts (pos 0) s starts updates) []) grid
 unfolding scatteredI32 combined
 as-cuts true s starts updates grid = refl
 as-cuts false s starts updates grid = refl
