@@ -20,10 +20,10 @@ use Rattle.windows.proofs.Last.{no-cells}
 use Rattle.gather.proofs.Calls.{zero-of}
 use Rattle.gather_lent.specs.Lent.{placed, reachAt, boundsAnswer, lentAnswer, Lent}
 
-stops : (x y : Answer) → isDone x ≡ false → orElse x y ≡ x
+pub stops : (x y : Answer) → isDone x ≡ false → orElse x y ≡ x
 stops x y e = ap (λ (t : Bool). cond t y x) e
 
-goes : (x y : Answer) → isDone x ≡ true → orElse x y ≡ y
+pub goes : (x y : Answer) → isDone x ≡ true → orElse x y ≡ y
 goes x y e = ap (λ (t : Bool). cond t y x) e
 
 module _ {A : Type 0} (z : A) (g : Gather) (a b c : ℤ) (operand : List A) (starts : List ℤ) (before : List A) (refusal : Answer) (e : refusal ≡ refusalOf true g) where

@@ -27,7 +27,8 @@ use Rattle.gather_lent.specs.Lent.{placed, boundsAnswer, lentAnswer, Lent}
 use Rattle.gather_lent.proofs.Planned.{given, fits, held, compiled}
 use Rattle.raw_calls.specs.Calls.{CallViews}
 use Rattle.raw_calls.specs.Calls.{viewAt, viewsFrom, rawAnswer, Ran, SameLists}
-use Rattle.raw_calls.proofs.Others.{stops, goes, skip, mismatch-not-done, view-lists, eight}
+use Rattle.gather_lent.proofs.Answers.{stops, goes}
+use Rattle.raw_calls.proofs.Others.{skip, mismatch-not-done, view-lists, eight}
 
 -- a layout that neither 1 nor 2 refuses
 pub made-layout : (es : List ℕ) (ss : List ℤ) → isDone (strideLength (length es) (length ss)) ≡ true → isDone (rankAtMost (length es)) ≡ true → layoutFrom es ss ≡ record { answer = N.Done; layout = layoutOf es ss }

@@ -24,7 +24,8 @@ use Rattle.scatter_lent.specs.Lent.{Lent}
 use Rattle.scatter_lent.proofs.Ran.{answers-same, leaves-same}
 use Rattle.raw_calls.specs.Calls.{CallViews, viewAt, viewsFrom, SameLists}
 use Rattle.raw_calls.specs.Scatters.{scatterAnswer, ScatterRan}
-use Rattle.raw_calls.proofs.Others.{stops, goes, skip, mismatch-not-done, view-lists, eight}
+use Rattle.gather_lent.proofs.Answers.{stops, goes}
+use Rattle.raw_calls.proofs.Others.{skip, mismatch-not-done, view-lists, eight}
 
 -- THE TWO ARE ONE
 pub lent-scattered : {A : Type 0} (leaves : Scatter → List ℤ → List A → List A → List A) (ie : List ℕ) (is : List ℤ) (ue : List ℕ) (us : List ℤ) (de : List ℕ) (ds : List ℤ) (window inserted map : List ℕ) (vector : ℕ) (a b c : ℤ) (starts : List ℤ) (source before after : List A) (answer : Answer)

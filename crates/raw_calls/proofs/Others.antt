@@ -15,17 +15,11 @@ use Rattle.layout.specs.Layouts.{rankLimit, padded, layoutOf, extentsOf, stride
 use Rattle.axis_lists.proofs.Filling.{read-back}
 use Rattle.gather_checks.proofs.Made.{or-done, same-length, few-axes}
 use Rattle.equality.specs.Same.{sameLayout}
-use Rattle.equality.proofs.Compare.{and-true, layouts-decide}
+use Rattle.equality.proofs.Compare.{and-true, and-both, layouts-decide}
 use Rattle.gather.specs.Calls.{planRefusal}
 use Rattle.gather_lent.specs.Lent.{SameView}
+use Rattle.gather_lent.proofs.Answers.{stops, goes}
 use Rattle.raw_calls.specs.Calls.{SameLists, SameViews}
-
--- ---- the first refusal of several
-pub stops : (x y : Answer) → isDone x ≡ false → orElse x y ≡ x
-stops x y e = ap (λ (t : Bool). cond t y x) e
-
-pub goes : (x y : Answer) → isDone x ≡ true → orElse x y ≡ y
-goes x y e = ap (λ (t : Bool). cond t y x) e
 
 -- ---- lists that a layout was made of are read back
 read-extents : (es : List ℕ) (ss : List ℤ) → length es ≤ rankLimit → extentsOf (layoutOf es ss) ≡ es
@@ -74,11 +68,6 @@ pub skip : {A : Type 0} (t : Bool) (x z : A) → t ≡ false → cond t x z ≡ 
 skip t x z e = ap (λ (b : Bool). cond b x z) e
 
 -- ---- three views, each compared with the lists compiled for
-both-true : (a b : Bool) → a ≡ true → b ≡ true → (a && b) ≡ true
-both-true true true e f = refl
-both-true true false e f = f
-both-true false b e f = e
-
 pub all-same : (oe : List ℕ) (os : List ℤ) (xe : List ℕ) (xs : List ℤ) (ie : List ℕ) (is : List ℤ) (ye : List ℕ) (ys : List ℤ) (de : List ℕ) (ds : List ℤ) (ze : List ℕ) (zs : List ℤ) (a b c r s : Bool)
     → SameView a oe os xe xs → SameView b ie is ye ys → SameView c de ds ze zs → s ≡ (b && c) → r ≡ (a && s) → SameViews r (SameLists oe os xe xs ie is ye ys de ds ze zs)
 all-same oe os xe xs ie is ye ys de ds ze zs a b c r s u v w es er =
@@ -89,5 +78,5 @@ all-same oe os xe xs ie is ye ys de ds ze zs a b c r s u v w es er =
           (u .extents (p .0), u .strides (p .0), v .extents (q .0), v .strides (q .0), w .extents (q .1), w .strides (q .1));
       no = λ h.
           let (ho, hos, hi, his, hd, hds) = h in
-          er ∙ both-true a s (u .no ho hos) (es ∙ both-true b c (v .no hi his) (w .no hd hds));
+          er ∙ and-both a s (u .no ho hos) (es ∙ and-both b c (v .no hi his) (w .no hd hds));
     }
