@@ -101,7 +101,16 @@ fn cells_i32(
     let base = gather_walk::start_base(walk.count, t);
     let from = low as i64;
     let at = d - from;
-    scatter_walk::run_i32(walk, starts, source, &mut into[low..end], base, u, at);
+    scatter_walk::run_i32(
+        walk,
+        batch_rows,
+        starts,
+        source,
+        &mut into[low..end],
+        base,
+        u,
+        at,
+    );
 }
 
 // A scatter of i32 with a plan and rows that are known to be what compile gives, or with any.
@@ -208,7 +217,16 @@ fn cells_f64(
     let base = gather_walk::start_base(walk.count, t);
     let from = low as i64;
     let at = d - from;
-    scatter_walk::run_f64(walk, starts, source, &mut into[low..end], base, u, at);
+    scatter_walk::run_f64(
+        walk,
+        batch_rows,
+        starts,
+        source,
+        &mut into[low..end],
+        base,
+        u,
+        at,
+    );
 }
 
 // A scatter of f64 with a plan and rows that are known to be what compile gives, or with any.

@@ -187,7 +187,9 @@ fn cells_i32(
     let base = gather_walk::start_base(walk.count, t);
     let from = low as i64;
     let at = d - from;
-    scatter_walk::run_i32(walk, starts, source, &mut into[low..end], base, u, at);
+    let axes = batch.axes;
+    let rows = replay::rows_of(axes);
+    scatter_walk::run_i32(walk, rows, starts, source, &mut into[low..end], base, u, at);
 }
 
 // A scatter of i32 on views that begin at `index`, `updates` and `dest`: compile, with 4 tried, and the call.
@@ -320,7 +322,9 @@ fn cells_f64(
     let base = gather_walk::start_base(walk.count, t);
     let from = low as i64;
     let at = d - from;
-    scatter_walk::run_f64(walk, starts, source, &mut into[low..end], base, u, at);
+    let axes = batch.axes;
+    let rows = replay::rows_of(axes);
+    scatter_walk::run_f64(walk, rows, starts, source, &mut into[low..end], base, u, at);
 }
 
 // A scatter of f64 on views that begin at `index`, `updates` and `dest`: compile, with 4 tried, and the call.

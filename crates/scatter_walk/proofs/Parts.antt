@@ -1,5 +1,5 @@
 -- The walks into the part of the destination that holds its cells are the scatter into the whole. Assumes nothing.
-use mathlib.Core.Path.{_≡_, refl, sym, ap, ap₂, subst, _∙_}
+use mathlib.Core.Path.{_≡_, refl, sym, ap, ap₂, subst, subst₂, _∙_}
 use mathlib.Core.Bool.{true}
 use mathlib.Core.List.{List, _++_}
 use Prim.Native.Nat.{ℕ, _+_, _-_, _<_, _≤_, _^_}
@@ -24,6 +24,8 @@ use Rattle.scatter_plan.specs.declared.ScatterPlan.{ScatterPlan}
 use Rattle.gather_walk.specs.Walks.{unlessNone}
 use Rattle.scatter_walk.specs.Walks.{walkOf, scatterAt, Reached}
 use Rattle.scatter_walk.specs.declared.ScatterWalk.{ScatterWalk}
+use Rattle.driven.specs.Driving.{Rowed}
+use Rattle.scatter_walk.proofs.Rowed.{plan-rowed}
 use Rattle.scatter_walk.proofs.Walking.{startBase, at-valid, scattering, walk-is}
 
 pub back-end : {A : Type 0} (z : A) (rule : A → A → A) (src : List A) (starts offsets strides : List ℤ) (limits : List ℕ) (count : ℕ) (t u d : ℤ) (bs : List ℕ) (ts us : List ℤ) (br : ℕ) (ws : List ℕ) (ss ds : List ℤ) (wr : ℕ) (x y : List A) → SFits w64 t → SFits w64 u → SFits w64 d
@@ -110,6 +112,13 @@ module _ (p : ScatterPlan) (br wr : List (List ℤ)) (a b c : ℤ) (low high : �
     part-asks room =
         subst (λ (z : ℤ). Scattering starts (w .offsets) (w .strides) (w .limits) (w .count) (read base) z (read (read c -ℤ toZ w64 low)) (w .«batch_extents») (w .«index_steps») (w .«update_steps») (w .«batch_rank») (w .«window_extents») (w .«window_steps») (w .«dest_steps») (w .«window_rank») un n) (sym (back fb))
         (part-scattering n e w ew (read base) (read (read c -ℤ toZ w64 low)) base-is place-is room)
+
+    -- by the rows of the batches
+    pub part-rowed : un < 2 ^ 63 → length starts < 2 ^ 63 → Rowed (read base) (read b) (w .«batch_extents») (w .«index_steps») (w .«update_steps») br (w .«batch_rank») (w .count) (w .«window_extents») (w .«window_rank»)
+    part-rowed k room =
+        subst (λ (v : ScatterWalk). Rowed (read base) (read b) (v .«batch_extents») (v .«index_steps») (v .«update_steps») br (v .«batch_rank») (v .count) (v .«window_extents») (v .«window_rank»)) (sym ew)
+        (subst₂ (λ (x y : ℤ). Rowed x y (walkOf p br wr .«batch_extents») (walkOf p br wr .«index_steps») (walkOf p br wr .«update_steps») br (walkOf p br wr .«batch_rank») (walkOf p br wr .count) (walkOf p br wr .«window_extents») (walkOf p br wr .«window_rank»)) (sym base-is) (sym (back fb))
+        (plan-rowed p br wr (r .compiled) a b (c -ℤ pos low) starts un n k (scattering p br wr (r .compiled) a b (c -ℤ pos low) starts un n (r .index) (r .updates) (covered-here n e) room)))
 
     pub part-leaves : {A : Type 0} (z : A) (rule : A → A → A) (src xs : List A) → length xs ≡ dn → (ys : List A)
         → ys ≡ scatteredBy z rule src starts (w .offsets) (w .strides) (w .limits) (w .count) (read base) (read b) (read (read c -ℤ toZ w64 low)) (w .«batch_extents») (w .«index_steps») (w .«update_steps») (w .«batch_rank») (w .«window_extents») (w .«window_steps») (w .«dest_steps») (w .«window_rank») (take n (drop low xs))

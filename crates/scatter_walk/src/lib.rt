@@ -6,6 +6,7 @@ ghost use lib.ListN.{length};
 ghost use Rattle.runs.specs.Runs.{ruleI32, ruleF64};
 ghost use Rattle.runs.specs.declared.Rule.the-variants as R;
 ghost use Rattle.scatter_windows.specs.Scattering.{scatteredBy, Scattering};
+ghost use Rattle.driven.specs.Driving.{Rowed};
 ghost use Rattle.scatter_walk.specs.Walks.{stepsAt, walkOf};
 use layout::RAW_FUSED_RANK_LIMIT;
 use scatter_plan::ScatterPlan;
@@ -101,6 +102,7 @@ pub fn walk_of(
 // The batches of a walk from the places t, u and d.
 pub fn run_i32(
     walk: ScatterWalk,
+    rows: [[i64; 4]; RAW_FUSED_RANK_LIMIT],
     starts: &[i64],
     source: &[i32],
     into: &mut [i32],
@@ -108,7 +110,7 @@ pub fn run_i32(
     u: i64,
     d: i64,
 )
-    requires { ⌜ Scattering (now starts) (walk .offsets) (walk .strides) (walk .limits) (walk .count) t u d (walk .«batch_extents») (walk .«index_steps») (walk .«update_steps») (walk .«batch_rank») (walk .«window_extents») (walk .«window_steps») (walk .«dest_steps») (walk .«window_rank») (length (now source)) (length (now into)) ⌝ }
+    requires { ⌜ Scattering (now starts) (walk .offsets) (walk .strides) (walk .limits) (walk .count) t u d (walk .«batch_extents») (walk .«index_steps») (walk .«update_steps») (walk .«batch_rank») (walk .«window_extents») (walk .«window_steps») (walk .«dest_steps») (walk .«window_rank») (length (now source)) (length (now into)) × Rowed t u (walk .«batch_extents») (walk .«index_steps») (walk .«update_steps») rows (walk .«batch_rank») (walk .count) (walk .«window_extents») (walk .«window_rank») ⌝ }
     ensures { λ _. ⌜ now (into .exit) ≡ scatteredBy (pos 0) (ruleI32 R.Add) (now (source .entry)) (now (starts .entry)) (walk .offsets) (walk .strides) (walk .limits) (walk .count) t u d (walk .«batch_extents») (walk .«index_steps») (walk .«update_steps») (walk .«batch_rank») (walk .«window_extents») (walk .«window_steps») (walk .«dest_steps») (walk .«window_rank») (now (into .entry)) ⌝ }
 {
     let batch_extents = walk.batch_extents;
@@ -120,13 +122,14 @@ pub fn run_i32(
     let offsets = walk.offsets;
     let strides = walk.strides;
     let limits = walk.limits;
-    scatter_windows::scatter_window(
+    driven::scatter_rows(
         source,
         starts,
         into,
         &batch_extents,
         &index_steps,
         &update_steps,
+        rows,
         walk.batch_rank,
         walk.count,
         &offsets,
@@ -145,6 +148,7 @@ pub fn run_i32(
 // The batches of a walk from the places t, u and d.
 pub fn run_f64(
     walk: ScatterWalk,
+    rows: [[i64; 4]; RAW_FUSED_RANK_LIMIT],
     starts: &[i64],
     source: &[f64],
     into: &mut [f64],
@@ -152,7 +156,7 @@ pub fn run_f64(
     u: i64,
     d: i64,
 )
-    requires { ⌜ Scattering (now starts) (walk .offsets) (walk .strides) (walk .limits) (walk .count) t u d (walk .«batch_extents») (walk .«index_steps») (walk .«update_steps») (walk .«batch_rank») (walk .«window_extents») (walk .«window_steps») (walk .«dest_steps») (walk .«window_rank») (length (now source)) (length (now into)) ⌝ }
+    requires { ⌜ Scattering (now starts) (walk .offsets) (walk .strides) (walk .limits) (walk .count) t u d (walk .«batch_extents») (walk .«index_steps») (walk .«update_steps») (walk .«batch_rank») (walk .«window_extents») (walk .«window_steps») (walk .«dest_steps») (walk .«window_rank») (length (now source)) (length (now into)) × Rowed t u (walk .«batch_extents») (walk .«index_steps») (walk .«update_steps») rows (walk .«batch_rank») (walk .count) (walk .«window_extents») (walk .«window_rank») ⌝ }
     ensures { λ _. ⌜ now (into .exit) ≡ scatteredBy nan (ruleF64 R.Add) (now (source .entry)) (now (starts .entry)) (walk .offsets) (walk .strides) (walk .limits) (walk .count) t u d (walk .«batch_extents») (walk .«index_steps») (walk .«update_steps») (walk .«batch_rank») (walk .«window_extents») (walk .«window_steps») (walk .«dest_steps») (walk .«window_rank») (now (into .entry)) ⌝ }
 {
     let batch_extents = walk.batch_extents;
@@ -164,13 +168,14 @@ pub fn run_f64(
     let offsets = walk.offsets;
     let strides = walk.strides;
     let limits = walk.limits;
-    scatter_windows_f64::scatter_window_f64(
+    driven_f64::scatter_rows_f64(
         source,
         starts,
         into,
         &batch_extents,
         &index_steps,
         &update_steps,
+        rows,
         walk.batch_rank,
         walk.count,
         &offsets,

@@ -11,7 +11,7 @@ use Rattle.runs.specs.Runs.{ruleF64}
 use Rattle.runs.specs.declared.Rule.the-variants as R
 use Rattle.runs.proofs.Place.{read}
 use Rattle.scatter_windows.specs.Scattering.{Scattering}
-use Rattle.scatter_walk.proofs.Parts.{high-in, low-high, low-fits, sub-fits, part-asks, part-leaves}
+use Rattle.scatter_walk.proofs.Parts.{high-in, low-high, low-fits, sub-fits, part-asks, part-rowed, part-leaves}
 use borrow.Author.Needs.{needs}
 use Rattle.scatter.proofs.cells_f64.Statement.{statement}
 use Rattle.scatter.proofs.cells_f64.Tie as tie
@@ -21,6 +21,9 @@ dst-room a = omega (arith, a .good .1 .1 .1 .1 .1 .0 .1)
 
 starts-room : (a : tie.Start) → length (a .args .starts .now) < 2 ^ 63
 starts-room a = omega (arith, a .good .1 .1 .1 .0 .1)
+
+source-room : (a : tie.Start) → length (a .args .source .now) < 2 ^ 63
+source-room a = omega (arith, a .good .1 .1 .1 .1 .0 .1)
 
 base-fits : (b : tie.After-start-base) → SFits w64 (b .start-base .result)
 base-fits b = search needs
@@ -69,10 +72,12 @@ run-f64-requires : tie.Need-run-f64-requires
 run-f64-requires c κs =
     let b = c .before in
     let w = b .before in
-    let a = w .before .before .before in
-    subst (Scattering (a .args .starts .now) (w .walk-of .result .offsets) (w .walk-of .result .strides) (w .walk-of .result .limits) (w .walk-of .result .count) (read (b .start-base .result)) (read (a .args .u)) (read (read (a .args .d) -ℤ toZ w64 (a .args .low))) (w .walk-of .result .«batch_extents») (w .walk-of .result .«index_steps») (w .walk-of .result .«update_steps») (w .walk-of .result .«batch_rank») (w .walk-of .result .«window_extents») (w .walk-of .result .«window_steps») (w .walk-of .result .«dest_steps») (w .walk-of .result .«window_rank») (length (a .args .source .now)))
-    (sym (part-length a))
-    (part-asks _ _ _ _ _ _ _ _ (a .args .starts .now) _ _ (a .pre) _ refl _ (w .walk-of .ensures) _ (b .start-base .ensures) (a .fits .t) (a .fits .u) (a .fits .d) (base-fits b) (dst-room a) (starts-room a))
+    let a = w .before .before .before in (
+      subst (Scattering (a .args .starts .now) (w .walk-of .result .offsets) (w .walk-of .result .strides) (w .walk-of .result .limits) (w .walk-of .result .count) (read (b .start-base .result)) (read (a .args .u)) (read (read (a .args .d) -ℤ toZ w64 (a .args .low))) (w .walk-of .result .«batch_extents») (w .walk-of .result .«index_steps») (w .walk-of .result .«update_steps») (w .walk-of .result .«batch_rank») (w .walk-of .result .«window_extents») (w .walk-of .result .«window_steps») (w .walk-of .result .«dest_steps») (w .walk-of .result .«window_rank») (length (a .args .source .now)))
+          (sym (part-length a))
+          (part-asks _ _ _ _ _ _ _ _ (a .args .starts .now) _ _ (a .pre) _ refl _ (w .walk-of .ensures) _ (b .start-base .ensures) (a .fits .t) (a .fits .u) (a .fits .d) (base-fits b) (dst-room a) (starts-room a)),
+      part-rowed _ _ _ _ _ _ _ _ (a .args .starts .now) _ _ (a .pre) _ refl _ (w .walk-of .ensures) _ (b .start-base .ensures) (a .fits .t) (a .fits .u) (a .fits .d) (base-fits b) (dst-room a) (source-room a) (starts-room a),
+    )
 
 -- src/lib.rt:236:1
 same-length : tie.Need-same-length
