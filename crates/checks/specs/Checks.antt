@@ -1,10 +1,12 @@
 -- The checks that gather's compile and scatter's share, in document 01's words. Definitions only.
-use mathlib.Core.Bool.{Bool, cond}
+use mathlib.Core.Bool.{cond}
 use mathlib.Core.List.{List, [], _∷_}
 use Prim.Native.Nat.{ℕ, zero, suc, _+_}
 use lib.Dec.{eqb, leb}
 use lib.ListN.{length, getD}
-use lib.IntN.{ℤ}
+use lib.IntN.{ℤ, pos}
+use Rattle.integer.specs.declared.Checked.{Checked}
+use Rattle.integer.specs.declared.Checked.the-variants as C
 use Rattle.integer.specs.declared.CheckedU.{CheckedU}
 use Rattle.integer.specs.declared.CheckedU.the-variants as U
 use Rattle.layout.specs.declared.Answer.{Answer}
@@ -12,12 +14,25 @@ use Rattle.layout.specs.declared.Answer.the-variants as A
 use Rattle.layout.specs.declared.OffsetSpan.{OffsetSpan}
 use Rattle.layout.specs.declared.OffsetSpan.the-variants as S
 use Rattle.layout.specs.Answers.{orElse}
+use Rattle.layout.specs.Layouts.{strideLength, rankAtMost}
 use Rattle.layout.specs.Nested.{nested}
+use Rattle.layout.specs.Spans.{offsetAdd}
+use Rattle.indexing.specs.Coordinates.{View}
 
 -- "first hit counts": of f i, f (i + 1), .., so many of them, the first that refuses
 unfoldable pub firstOf : (ℕ → Answer) → ℕ → ℕ → Answer
 firstOf f zero i = A.Done
 firstOf f (suc n) i = orElse (f i) (firstOf f n (suc i))
+
+-- a view from its layout; where it begins does not matter to a plan
+abbrev pub viewFrom : List ℕ → List ℤ → View
+viewFrom es ss = record { extents = es; strides = ss; offset = pos 0 }
+
+-- "1; 2": for three views in turn, given the counts of extents and of strides
+abbrev pub layoutsRefusal : ℕ → ℕ → ℕ → ℕ → ℕ → ℕ → Answer
+layoutsRefusal xe xs ye ys ze zs =
+    orElse (strideLength xe xs) (orElse (strideLength ye ys) (orElse (strideLength ze zs)
+    (orElse (rankAtMost xe) (orElse (rankAtMost ye) (rankAtMost ze)))))
 
 -- 3: "a product, span .. does not fit"
 abbrev pub totalFits : CheckedU → Answer
@@ -28,9 +43,18 @@ abbrev pub spanFits : OffsetSpan → Answer
 spanFits (S.Fits l h) = A.Done
 spanFits S.Overflow = A.OffsetOverflow
 
--- 4: "destination not nested"; at a call it is not tried again
-abbrev pub nestedIf : Bool → List ℕ → List ℤ → Answer
-nestedIf asked ds ss = cond asked (cond (nested ds ss) A.Done A.NonInjectiveOutputLayout) A.Done
+-- 3 where a number does not fit
+abbrev pub numberFits : Checked → Answer
+numberFits (C.Fits z) = A.Done
+numberFits C.Overflow = A.OffsetOverflow
+
+-- the offset of component c: the vector axis's stride times c
+abbrev pub offsetFits : ℤ → ℕ → Answer
+offsetFits stride c = numberFits (offsetAdd (pos 0) stride c)
+
+-- 4: "destination not nested"
+abbrev pub nestedRefusal : List ℕ → List ℤ → Answer
+nestedRefusal ds ss = cond (nested ds ss) A.Done A.NonInjectiveOutputLayout
 
 -- 5: "two counts differ"
 abbrev pub sameCount : ℕ → ℕ → Answer

@@ -4,7 +4,7 @@ ghost use Prim.Native.Nat.{_+_};
 ghost use lib.ListN.{length};
 ghost use Rattle.layout.specs.Answers.{orElse};
 ghost use Rattle.layout.specs.Spans.{totalOf, spanned};
-ghost use Rattle.checks.specs.Checks.{totalFits, spanFits, nestedIf, sameCount, vectorAxis, componentsOf, windowsFit};
+ghost use Rattle.checks.specs.Checks.{layoutsRefusal, totalFits, spanFits, nestedRefusal, sameCount, vectorAxis, componentsOf, windowsFit};
 use integer::CheckedU;
 use layout::Answer;
 use layout::OffsetSpan;
@@ -14,6 +14,27 @@ pub fn or_else(a: Answer, b: Answer) -> Answer
     ensures { λ r. ⌜ r ≡ orElse a b ⌝ }
 {
     if layout::is_done(a) { b } else { a }
+}
+
+// 1 for three views, then 2: the counts of extents and of strides.
+pub fn check_layouts(
+    first_extents: usize,
+    first_strides: usize,
+    second_extents: usize,
+    second_strides: usize,
+    third_extents: usize,
+    third_strides: usize,
+) -> Answer
+    ensures { λ r. ⌜ r ≡ layoutsRefusal «first_extents» «first_strides» «second_extents» «second_strides» «third_extents» «third_strides» ⌝ }
+{
+    let a = layout::check_stride_length(first_extents, first_strides);
+    let b = layout::check_stride_length(second_extents, second_strides);
+    let c = layout::check_stride_length(third_extents, third_strides);
+    let d = layout::check_rank(first_extents);
+    let e = layout::check_rank(second_extents);
+    let f = layout::check_rank(third_extents);
+    let ranks = or_else(d, or_else(e, f));
+    or_else(a, or_else(b, or_else(c, ranks)))
 }
 
 // 3 where the product of the extents does not fit.
@@ -39,19 +60,15 @@ pub fn check_span(extents: &[u64], strides: &[i64]) -> Answer
     }
 }
 
-// 4 where the axes are not nested, if that is asked.
-pub fn check_nested(extents: &[u64], strides: &[i64], asked: bool) -> Answer
+// 4 where the axes are not nested.
+pub fn check_nested(extents: &[u64], strides: &[i64]) -> Answer
     requires { ⌜ length (now strides) ≡ length (now extents) ⌝ }
-    ensures { λ r. ⌜ r ≡ nestedIf asked (now (extents .entry)) (now (strides .entry)) ⌝ }
+    ensures { λ r. ⌜ r ≡ nestedRefusal (now (extents .entry)) (now (strides .entry)) ⌝ }
 {
-    if asked {
-        if spans::nested_in(extents, strides) {
-            Answer::Done
-        } else {
-            Answer::NonInjectiveOutputLayout
-        }
-    } else {
+    if spans::nested_in(extents, strides) {
         Answer::Done
+    } else {
+        Answer::NonInjectiveOutputLayout
     }
 }
 

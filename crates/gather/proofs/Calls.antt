@@ -22,7 +22,7 @@ use Rattle.layout.specs.Answers.{isDone, orElse}
 use Rattle.layout.specs.Layouts.{extentsOf, stridesOf}
 use Rattle.layout.specs.Nested.{hasZero}
 use Rattle.layout.specs.Reach.{viewReach, bufferBounds}
-use Rattle.gather_checks.proofs.Made.{or-done}
+use Rattle.checks.proofs.Made.{or-done}
 use Rattle.gather_plan.specs.declared.GatherPlan.{GatherPlan}
 use Rattle.equality.specs.Same.{sameLayout}
 use Rattle.gather_same.specs.Same.{isCompiled}

@@ -17,7 +17,7 @@ use Rattle.layout.specs.Lists.{uniqueAxes}
 use Rattle.axis_lists.specs.Held.{sameList}
 use Rattle.checks.specs.Checks.{sameCount, componentsOf}
 use Rattle.gather_checks.specs.declared.Examined.{Examined}
-use Rattle.gather_checks.specs.Refusals.{refusalOf, numbersRefusal, listsRefusal, resetsRefusal}
+use Rattle.gather_checks.specs.Refusals.{refusalOf, listsRefusal, resetsRefusal}
 
 -- `countsRefusal`, given the counts of components, of the operand's axes that are shown and of batch axes
 abbrev pub countsBy : ℕ → ℕ → ℕ → List ℕ → List ℕ → Answer
@@ -34,7 +34,7 @@ abbrev pub shapeAnswer : List ℕ → List ℕ → List ℕ → List ℕ → Lis
 shapeAnswer shown starts others ie de offsets sizes =
     cond (shapeBy shown starts others ie de offsets sizes) A.Done (A.ShapeMismatch (length de) (length starts + length offsets))
 
--- lists that neither 1 nor 2 refuses, and no more than eight batch axes
+-- lists that neither 1 nor 2 refuses, and no more batch axes than the rank limit
 pub record Made (oe : List ℕ) (os : List ℤ) (ie : List ℕ) (is : List ℤ) (de : List ℕ) (ds : List ℤ) (starts : List ℕ) : Type 0 where
   pub operand : length os ≡ length oe
   pub index : length is ≡ length ie
@@ -46,22 +46,27 @@ pub record Made (oe : List ℕ) (os : List ℤ) (ie : List ℕ) (is : List ℤ) 
 abbrev pub stepsBy : ℕ → List ℕ → List ℕ → List ℤ → List ℤ
 stepsBy n places axes strides = spread (pos 0) n places (pick (pos 0) axes strides)
 
-abbrev pub answerBy : List ℕ → List ℤ → List ℕ → List ℤ → List ℕ → List ℤ → List ℕ → List ℕ → List ℕ → ℕ → List ℕ → Bool → List ℕ → List ℕ → List ℕ → Answer
-answerBy oe os ie is de ds offsets collapsed map vector sizes nested shown starts others =
-    orElse (numbersRefusal nested oe os ie is de ds) (orElse (listsRefusal oe ie collapsed map vector sizes)
+abbrev pub answerBy : List ℕ → List ℤ → List ℕ → List ℤ → List ℕ → List ℤ → List ℕ → List ℕ → List ℕ → ℕ → List ℕ → Answer → List ℕ → List ℕ → List ℕ → Answer
+answerBy oe os ie is de ds offsets collapsed map vector sizes four shown starts others =
+    orElse four (orElse (listsRefusal oe ie collapsed map vector sizes)
     (orElse (countsBy (componentsOf ie vector) (length shown) (length starts) offsets map) (orElse (shapeAnswer shown starts others ie de offsets sizes)
     (resetsRefusal de ds (stepsBy (length de) offsets shown os) (stepsBy (length de) others starts is) (getD is vector (pos 0)) (length map)))))
 
-unfoldable pub examinedBy : List ℕ → List ℤ → List ℕ → List ℤ → List ℕ → List ℤ → List ℕ → List ℕ → List ℕ → ℕ → List ℕ → Bool → List ℕ → List ℕ → List ℕ → Examined
-examinedBy oe os ie is de ds offsets collapsed map vector sizes nested shown starts others =
+unfoldable pub examinedBy : List ℕ → List ℤ → List ℕ → List ℤ → List ℕ → List ℤ → List ℕ → List ℕ → List ℕ → ℕ → List ℕ → Answer → List ℕ → List ℕ → List ℕ → Examined
+examinedBy oe os ie is de ds offsets collapsed map vector sizes four shown starts others =
     record {
-      answer = answerBy oe os ie is de ds offsets collapsed map vector sizes nested shown starts others;
+      answer = answerBy oe os ie is de ds offsets collapsed map vector sizes four shown starts others;
       window = padded rankLimit (pos 0) (stepsBy (length de) offsets shown os);
       batch = padded rankLimit (pos 0) (stepsBy (length de) others starts is);
     }
 
--- WHAT IS FOUND OF A GATHER: its first refusal, and where there is none the steps of the destination's axes in the operand and in the index view
-pub record Examines (r : Examined) (nested : Bool) (g : Gather) : Type 0 where
-  pub answered : r .answer ≡ refusalOf nested g
-  pub window : isDone (r .answer) ≡ true → r .window ≡ padded rankLimit (pos 0) (windowSteps g)
-  pub batch : isDone (r .answer) ≡ true → r .batch ≡ padded rankLimit (pos 0) (batchSteps g)
+-- a gather that is not refused, with the steps of its destination's axes in the operand and in the index view
+pub record Found (g : Gather) (window batch : List ℤ) : Type 0 where
+  pub accepted : isDone (refusalOf A.Done g) ≡ true
+  pub window-is : window ≡ padded rankLimit (pos 0) (windowSteps g)
+  pub batch-is : batch ≡ padded rankLimit (pos 0) (batchSteps g)
+
+-- WHAT IS FOUND OF A GATHER: its first refusal, and where there is none the steps
+pub record Examines (r : Examined) (four : Answer) (g : Gather) : Type 0 where
+  pub answered : r .answer ≡ refusalOf four g
+  pub found : isDone (r .answer) ≡ true → Found g (r .window) (r .batch)

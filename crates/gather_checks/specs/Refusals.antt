@@ -5,25 +5,19 @@ use Prim.Native.Nat.{ℕ, _+_}
 use lib.Dec.{eqb}
 use lib.ListN.{length, getD}
 use lib.IntN.{ℤ, pos}
-use Rattle.integer.specs.declared.Checked.{Checked}
-use Rattle.integer.specs.declared.Checked.the-variants as C
-use Rattle.indexing.specs.Coordinates.{View, rank, pick, others}
+use Rattle.indexing.specs.Coordinates.{pick, others}
 use Rattle.indexing.specs.Start.{without}
 use Rattle.indexing.specs.Gather.{Gather}
 use Rattle.indexing.specs.Steps.{vectorStride, windowSteps, batchSteps}
 use Rattle.layout.specs.declared.Answer.{Answer}
 use Rattle.layout.specs.declared.Answer.the-variants as A
 use Rattle.layout.specs.Answers.{orElse}
-use Rattle.layout.specs.Layouts.{strideLength, rankAtMost}
 use Rattle.layout.specs.Lists.{uniqueAxes}
-use Rattle.layout.specs.Spans.{totalOf, spanned, resetOf, offsetAdd}
+use Rattle.layout.specs.Spans.{totalOf, spanned, resetOf}
 use Rattle.axis_lists.specs.Held.{sameList}
-use Rattle.checks.specs.Checks.{firstOf, totalFits, spanFits, nestedIf, sameCount, vectorAxis, componentsOf, windowsFit}
+use Rattle.checks.specs.Checks.{viewFrom, layoutsRefusal, firstOf, totalFits, spanFits, numberFits, offsetFits, nestedRefusal, sameCount, vectorAxis, componentsOf, windowsFit}
 
 -- a gather from its layouts and its spec's lists; where its views begin does not matter to a plan
-abbrev pub viewFrom : List ℕ → List ℤ → View
-viewFrom es ss = record { extents = es; strides = ss; offset = pos 0 }
-
 abbrev pub gatherFrom : List ℕ → List ℤ → List ℕ → List ℤ → List ℕ → List ℤ → List ℕ → List ℕ → List ℕ → ℕ → List ℕ → Gather
 gatherFrom oe os ie is de ds offsets collapsed map vector sizes =
     record {
@@ -33,17 +27,15 @@ gatherFrom oe os ie is de ds offsets collapsed map vector sizes =
       result = viewFrom de ds;
     }
 
--- "1; 2": for the operand, the index and the destination, given the counts of extents and of strides
-abbrev pub layoutsRefusal : ℕ → ℕ → ℕ → ℕ → ℕ → ℕ → Answer
-layoutsRefusal oe os ie is de ds =
-    orElse (strideLength oe os) (orElse (strideLength ie is) (orElse (strideLength de ds)
-    (orElse (rankAtMost oe) (orElse (rankAtMost ie) (rankAtMost de)))))
-
--- "products of operand, index, destination; their spans; 4"
-abbrev pub numbersRefusal : Bool → List ℕ → List ℤ → List ℕ → List ℤ → List ℕ → List ℤ → Answer
-numbersRefusal nested oe os ie is de ds =
+-- "products of operand, index, destination; their spans"
+abbrev pub numbersRefusal : List ℕ → List ℤ → List ℕ → List ℤ → List ℕ → List ℤ → Answer
+numbersRefusal oe os ie is de ds =
     orElse (totalFits (totalOf oe)) (orElse (totalFits (totalOf ie)) (orElse (totalFits (totalOf de))
-    (orElse (spanFits (spanned oe os)) (orElse (spanFits (spanned ie is)) (orElse (spanFits (spanned de ds)) (nestedIf nested de ds))))))
+    (orElse (spanFits (spanned oe os)) (orElse (spanFits (spanned ie is)) (spanFits (spanned de ds))))))
+
+-- what comes before 4: "1; 2" and those
+unfoldable pub sizesRefusal : List ℕ → List ℤ → List ℕ → List ℤ → List ℕ → List ℤ → Answer
+sizesRefusal oe os ie is de ds = orElse (layoutsRefusal (length oe) (length os) (length ie) (length is) (length de) (length ds)) (numbersRefusal oe os ie is de ds)
 
 -- "first collapsed axis with window not 1 (6)", in list order
 unfoldable pub collapsedOne : ℕ → List ℕ → List ℕ → Answer
@@ -76,11 +68,6 @@ abbrev pub shapeRefusal : List ℕ → List ℕ → List ℕ → List ℕ → Li
 shapeRefusal oe ie de offsets collapsed vector sizes =
     cond (shapeFits oe ie de offsets collapsed vector sizes) A.Done (A.ShapeMismatch (length de) (length (without vector ie) + length offsets))
 
--- 3 where a number does not fit
-abbrev pub numberFits : Checked → Answer
-numberFits (C.Fits z) = A.Done
-numberFits C.Overflow = A.OffsetOverflow
-
 -- "resets (3)": on each axis of the result those of its own step, of the window's and of the batch's
 abbrev pub axisResets : ℕ → ℤ → ℤ → ℤ → Answer
 axisResets d s w b = orElse (numberFits (resetOf d s)) (orElse (numberFits (resetOf d w)) (numberFits (resetOf d b)))
@@ -89,18 +76,23 @@ abbrev pub resetsAt : List ℕ → List ℤ → List ℤ → List ℤ → ℕ �
 resetsAt ds ss ws bs i = axisResets (getD ds i 0) (getD ss i (pos 0)) (getD ws i (pos 0)) (getD bs i (pos 0))
 
 -- and the offsets of the components, the vector axis's stride times c
-abbrev pub offsetFits : ℤ → ℕ → Answer
-offsetFits stride c = numberFits (offsetAdd (pos 0) stride c)
-
 abbrev pub resetsRefusal : List ℕ → List ℤ → List ℤ → List ℤ → ℤ → ℕ → Answer
 resetsRefusal de ds window batch stride components = orElse (firstOf (resetsAt de ds window batch) (length de) 0) (firstOf (offsetFits stride) components 0)
 
--- THE REFUSAL of a gather; 4 is tried where `nested` says so
-unfoldable pub refusalOf : Bool → Gather → Answer
-refusalOf nested g =
-    orElse (layoutsRefusal (rank (g .operand)) (length (g .operand .strides)) (rank (g .indices)) (length (g .indices .strides)) (rank (g .result)) (length (g .result .strides)))
-    (orElse (numbersRefusal nested (g .operand .extents) (g .operand .strides) (g .indices .extents) (g .indices .strides) (g .result .extents) (g .result .strides))
-    (orElse (listsRefusal (g .operand .extents) (g .indices .extents) (g .spec .collapsed-slice-dims) (g .spec .start-index-map) (g .spec .index-vector-dim) (g .spec .slice-sizes))
+-- what comes after 4
+unfoldable pub specRefusal : Gather → Answer
+specRefusal g =
+    orElse (listsRefusal (g .operand .extents) (g .indices .extents) (g .spec .collapsed-slice-dims) (g .spec .start-index-map) (g .spec .index-vector-dim) (g .spec .slice-sizes))
     (orElse (countsRefusal (g .operand .extents) (g .indices .extents) (g .spec .offset-dims) (g .spec .collapsed-slice-dims) (g .spec .start-index-map) (g .spec .index-vector-dim))
     (orElse (shapeRefusal (g .operand .extents) (g .indices .extents) (g .result .extents) (g .spec .offset-dims) (g .spec .collapsed-slice-dims) (g .spec .index-vector-dim) (g .spec .slice-sizes))
-    (resetsRefusal (g .result .extents) (g .result .strides) (windowSteps g) (batchSteps g) (vectorStride (g .indices) (g .spec .index-vector-dim)) (length (g .spec .start-index-map)))))))
+    (resetsRefusal (g .result .extents) (g .result .strides) (windowSteps g) (batchSteps g) (vectorStride (g .indices) (g .spec .index-vector-dim)) (length (g .spec .start-index-map)))))
+
+-- THE REFUSAL of a gather, given what is answered in the place of 4
+abbrev pub refusalOf : Answer → Gather → Answer
+refusalOf four g =
+    orElse (sizesRefusal (g .operand .extents) (g .operand .strides) (g .indices .extents) (g .indices .strides) (g .result .extents) (g .result .strides))
+    (orElse four (specRefusal g))
+
+-- compile's: 4 where the destination is not nested. "4 not tried again" at a call: `refusalOf A.Done`
+abbrev pub compileRefusal : Gather → Answer
+compileRefusal g = refusalOf (nestedRefusal (g .result .extents) (g .result .strides)) g

@@ -1,21 +1,17 @@
-// Gather: a plan from layouts and a spec, by the checks of document 01 in its order.
+// Gather: compile's checks in the order of document 01, over lent lists, and the steps of the destination's axes.
 ghost use mathlib.Core.Path.{_≡_};
-ghost use mathlib.Core.Bool.{_&&_};
+ghost use mathlib.Core.Bool.{true, _&&_};
 ghost use Prim.Native.Nat.{_≤_};
 ghost use lib.ListN.{length};
-ghost use lib.IntN.{pos};
-ghost use Rattle.indexing.specs.Coordinates.{pick, spread, others};
-ghost use Rattle.indexing.specs.Start.{without};
-ghost use Rattle.layout.specs.Layouts.{rankLimit, extentsOf, stridesOf};
+ghost use Rattle.layout.specs.declared.Answer.the-variants as Ans;
+ghost use Rattle.layout.specs.Answers.{isDone};
+ghost use Rattle.layout.specs.Layouts.{rankLimit};
 ghost use Rattle.layout.specs.Spans.{resetOf};
-ghost use Rattle.axis_lists.specs.Held.{heldSteps};
-ghost use Rattle.checks.specs.Checks.{firstOf, componentsOf};
-ghost use Rattle.gather_checks.specs.Refusals.{gatherFrom, refusalOf, layoutsRefusal, numbersRefusal, listsRefusal, resetsRefusal, collapsedOne, numberFits, axisResets, resetsAt, offsetFits};
+ghost use Rattle.checks.specs.Checks.{firstOf, numberFits, nestedRefusal, componentsOf};
+ghost use Rattle.gather_checks.specs.Refusals.{gatherFrom, numbersRefusal, sizesRefusal, compileRefusal, listsRefusal, resetsRefusal, collapsedOne, axisResets, resetsAt};
 ghost use Rattle.gather_checks.specs.Given.{countsBy, shapeBy, shapeAnswer, Made, examinedBy, Examines};
-use axis_lists::Steps;
 use integer::Checked;
 use layout::Answer;
-use layout::Layout;
 use layout::RAW_FUSED_RANK_LIMIT;
 
 // What compile answers; where that is Done, what each axis of the destination adds to the place in the operand and in the index view,
@@ -37,28 +33,7 @@ fn unexamined(answer: Answer) -> Examined
     }
 }
 
-// 1 for all views, then 2: the counts of extents and of strides.
-pub fn check_layouts(
-    operand_extents: usize,
-    operand_strides: usize,
-    index_extents: usize,
-    index_strides: usize,
-    dest_extents: usize,
-    dest_strides: usize,
-) -> Answer
-    ensures { λ r. ⌜ r ≡ layoutsRefusal «operand_extents» «operand_strides» «index_extents» «index_strides» «dest_extents» «dest_strides» ⌝ }
-{
-    let a = layout::check_stride_length(operand_extents, operand_strides);
-    let b = layout::check_stride_length(index_extents, index_strides);
-    let c = layout::check_stride_length(dest_extents, dest_strides);
-    let d = layout::check_rank(operand_extents);
-    let e = layout::check_rank(index_extents);
-    let f = layout::check_rank(dest_extents);
-    let ranks = checks::or_else(d, checks::or_else(e, f));
-    checks::or_else(a, checks::or_else(b, checks::or_else(c, ranks)))
-}
-
-// 3 for products and spans, then 4, if that is asked.
+// 3 for products and spans.
 fn check_numbers(
     oe: &[u64],
     os: &[i64],
@@ -66,10 +41,9 @@ fn check_numbers(
     is: &[i64],
     de: &[u64],
     ds: &[i64],
-    nested: bool,
 ) -> Answer
     requires { ⌜ (length (now os) ≡ length (now oe)) × (length (now is) ≡ length (now ie)) × (length (now ds) ≡ length (now de)) ⌝ }
-    ensures { λ r. ⌜ r ≡ numbersRefusal nested (now (oe .entry)) (now (os .entry)) (now (ie .entry)) (now (is .entry)) (now (de .entry)) (now (ds .entry)) ⌝ }
+    ensures { λ r. ⌜ r ≡ numbersRefusal (now (oe .entry)) (now (os .entry)) (now (ie .entry)) (now (is .entry)) (now (de .entry)) (now (ds .entry)) ⌝ }
 {
     let a = checks::check_total(oe);
     let b = checks::check_total(ie);
@@ -77,9 +51,26 @@ fn check_numbers(
     let d = checks::check_span(oe, os);
     let e = checks::check_span(ie, is);
     let f = checks::check_span(de, ds);
-    let g = checks::check_nested(de, ds, nested);
-    let spans = checks::or_else(d, checks::or_else(e, checks::or_else(f, g)));
+    let spans = checks::or_else(d, checks::or_else(e, f));
     checks::or_else(a, checks::or_else(b, checks::or_else(c, spans)))
+}
+
+// 1 and 2, then 3 for products and spans: what is asked before 4.
+fn check_sizes(
+    oe: &[u64],
+    os: &[i64],
+    ie: &[u64],
+    is: &[i64],
+    de: &[u64],
+    ds: &[i64],
+) -> Answer
+    ensures { λ r. ⌜ r ≡ sizesRefusal (now (oe .entry)) (now (os .entry)) (now (ie .entry)) (now (is .entry)) (now (de .entry)) (now (ds .entry)) ⌝ }
+{
+    let lengths = checks::check_layouts(oe.len(), os.len(), ie.len(), is.len(), de.len(), ds.len());
+    if !layout::is_done(lengths) {
+        return lengths;
+    }
+    check_numbers(oe, os, ie, is, de, ds)
 }
 
 // 6 for the first collapsed axis, in list order, whose window is not 1.
@@ -107,16 +98,6 @@ fn check_reset(extent: u64, step: i64) -> Answer
     }
 }
 
-fn check_offset(stride: i64, component: u64) -> Answer
-    ensures { λ r. ⌜ r ≡ offsetFits stride component ⌝ }
-{
-    let offset = layout::checked_offset_add(0, stride, component);
-    match offset {
-        Checked::Fits(_) => Answer::Done,
-        Checked::Overflow => Answer::OffsetOverflow,
-    }
-}
-
 fn check_axis(extent: u64, dest: i64, window: i64, batch: i64) -> Answer
     ensures { λ r. ⌜ r ≡ axisResets extent dest window batch ⌝ }
 {
@@ -134,21 +115,6 @@ fn check_axes(de: &[u64], ds: &[i64], window: &[i64], batch: &[i64]) -> Answer
     let mut i: usize = 0;
     while i < de.len() {
         let answer = check_axis(de[i], ds[i], window[i], batch[i]);
-        if !layout::is_done(answer) {
-            return answer;
-        }
-        i += 1;
-    }
-    Answer::Done
-}
-
-// 3 for the offsets of the components.
-pub fn check_components(stride: i64, count: u64) -> Answer
-    ensures { λ r. ⌜ r ≡ firstOf (offsetFits stride) count 0 ⌝ }
-{
-    let mut i: u64 = 0;
-    while i < count {
-        let answer = check_offset(stride, i);
         if !layout::is_done(answer) {
             return answer;
         }
@@ -246,27 +212,6 @@ fn check_shape(
     Answer::ShapeMismatch(de.len() as u64, expected)
 }
 
-// What each axis of the destination adds to the place in the operand: the stride of the axis that it shows, or 0.
-pub fn window_steps(operand: Layout, dest: Layout, offset_dims: &[u64], collapsed: &[u64]) -> Steps
-    ensures { λ r. ⌜ r ≡ heldSteps (spread (pos 0) (length (extentsOf dest)) (now («offset_dims» .entry)) (pick (pos 0) (others (length (extentsOf operand)) (now (collapsed .entry))) (stridesOf operand))) ⌝ }
-{
-    let kept = axis_lists::other_axes(operand.rank, collapsed);
-    let strides = axis_lists::strides_of(operand);
-    let shown = axis_lists::pick_steps(kept, strides);
-    let axes = axis_lists::numbers_from(offset_dims);
-    axis_lists::spread_steps(dest.rank, axes, shown)
-}
-
-// What each axis of the destination adds to the place in the index view: the stride of its batch axis, or 0.
-pub fn batch_steps(index: Layout, dest: Layout, offset_dims: &[u64], vector: u64) -> Steps
-    ensures { λ r. ⌜ r ≡ heldSteps (spread (pos 0) (length (extentsOf dest)) (others (length (extentsOf dest)) (now («offset_dims» .entry))) (without vector (stridesOf index))) ⌝ }
-{
-    let axes = axis_lists::other_axes(dest.rank, offset_dims);
-    let strides = axis_lists::strides_of(index);
-    let batch = axis_lists::without_step(vector, strides);
-    axis_lists::spread_steps(dest.rank, axes, batch)
-}
-
 // 3 for resets and component offsets.
 fn check_resets(
     de: &[u64],
@@ -280,11 +225,11 @@ fn check_resets(
     ensures { λ r. ⌜ r ≡ resetsRefusal (now (de .entry)) (now (ds .entry)) (now (window .entry)) (now (batch .entry)) stride components ⌝ }
 {
     let axes = check_axes(de, ds, window, batch);
-    let offsets = check_components(stride, components);
+    let offsets = components::check_components(stride, components);
     checks::or_else(axes, offsets)
 }
 
-// What is asked of layouts that neither 1 nor 2 refuses, given the operand's axes that are shown, the index view's batch axes and the
+// What is asked from 4 on, given what is answered in its place, the operand's axes that are shown, the index view's batch axes and the
 // destination's other axes.
 fn examine_axes(
     oe: &[u64],
@@ -298,17 +243,16 @@ fn examine_axes(
     map: &[u64],
     vector: u64,
     sizes: &[u64],
-    nested: bool,
+    four: Answer,
     shown: &[u64],
     starts: &[u64],
     others: &[u64],
 ) -> Examined
     requires { ⌜ Made (now oe) (now os) (now ie) (now is) (now de) (now ds) (now starts) ⌝ }
-    ensures { λ r. ⌜ r ≡ examinedBy (now (oe .entry)) (now (os .entry)) (now (ie .entry)) (now (is .entry)) (now (de .entry)) (now (ds .entry)) (now («offset_dims» .entry)) (now (collapsed .entry)) (now (map .entry)) vector (now (sizes .entry)) nested (now (shown .entry)) (now (starts .entry)) (now (others .entry)) ⌝ }
+    ensures { λ r. ⌜ r ≡ examinedBy (now (oe .entry)) (now (os .entry)) (now (ie .entry)) (now (is .entry)) (now (de .entry)) (now (ds .entry)) (now («offset_dims» .entry)) (now (collapsed .entry)) (now (map .entry)) vector (now (sizes .entry)) four (now (shown .entry)) (now (starts .entry)) (now (others .entry)) ⌝ }
 {
     let window = axis_lists::spread_picked(de.len(), offset_dims, shown, os);
     let batch = axis_lists::spread_picked(de.len(), others, starts, is);
-    let a = check_numbers(oe, os, ie, is, de, ds, nested);
     let b = check_lists(oe, ie, collapsed, map, vector, sizes);
     let c = check_counts(ie, shown.len(), starts.len(), offset_dims, map, vector);
     let d = check_shape(shown, starts, others, ie, de, offset_dims, sizes);
@@ -323,7 +267,7 @@ fn examine_axes(
         map.len() as u64,
     );
     let shape = checks::or_else(c, checks::or_else(d, e));
-    let answer = checks::or_else(a, checks::or_else(b, shape));
+    let answer = checks::or_else(four, checks::or_else(b, shape));
     Examined {
         answer,
         window,
@@ -331,9 +275,8 @@ fn examine_axes(
     }
 }
 
-// The first refusal of a gather in document 01's order, or Done, with what each axis of the destination adds to the places in the
-// operand and in the index view; 4 is tried where `nested` says so.
-pub fn examine(
+// The rest of a gather whose sizes are not refused, given what is answered in the place of 4.
+fn examine_from(
     operand_extents: &[u64],
     operand_strides: &[i64],
     index_extents: &[u64],
@@ -345,21 +288,11 @@ pub fn examine(
     start_index_map: &[u64],
     index_vector_dim: u64,
     slice_sizes: &[u64],
-    nested: bool,
+    four: Answer,
 ) -> Examined
-    ensures { λ r. ⌜ Examines r nested (gatherFrom (now («operand_extents» .entry)) (now («operand_strides» .entry)) (now («index_extents» .entry)) (now («index_strides» .entry)) (now («dest_extents» .entry)) (now («dest_strides» .entry)) (now («offset_dims» .entry)) (now («collapsed_slice_dims» .entry)) (now («start_index_map» .entry)) «index_vector_dim» (now («slice_sizes» .entry))) ⌝ }
+    requires { ⌜ isDone (sizesRefusal (now «operand_extents») (now «operand_strides») (now «index_extents») (now «index_strides») (now «dest_extents») (now «dest_strides»)) ≡ true ⌝ }
+    ensures { λ r. ⌜ Examines r four (gatherFrom (now («operand_extents» .entry)) (now («operand_strides» .entry)) (now («index_extents» .entry)) (now («index_strides» .entry)) (now («dest_extents» .entry)) (now («dest_strides» .entry)) (now («offset_dims» .entry)) (now («collapsed_slice_dims» .entry)) (now («start_index_map» .entry)) «index_vector_dim» (now («slice_sizes» .entry))) ⌝ }
 {
-    let lengths = check_layouts(
-        operand_extents.len(),
-        operand_strides.len(),
-        index_extents.len(),
-        index_strides.len(),
-        dest_extents.len(),
-        dest_strides.len(),
-    );
-    if !layout::is_done(lengths) {
-        return unexamined(lengths);
-    }
     let vectors = [index_vector_dim];
     let kept = axis_lists::other_axes(operand_extents.len(), collapsed_slice_dims);
     let batch = axis_lists::other_axes(index_extents.len(), &vectors);
@@ -382,14 +315,102 @@ pub fn examine(
         start_index_map,
         index_vector_dim,
         slice_sizes,
-        nested,
+        four,
         &shown[0..k],
         &starts[0..m],
         &others[0..n],
     )
 }
 
-// The first refusal of a gather in document 01's order, or Done; 4 is tried where `nested` says so.
+// The first refusal of a gather in document 01's order, or Done, with what each axis of the destination adds to the places in the
+// operand and in the index view.
+pub fn examine(
+    operand_extents: &[u64],
+    operand_strides: &[i64],
+    index_extents: &[u64],
+    index_strides: &[i64],
+    dest_extents: &[u64],
+    dest_strides: &[i64],
+    offset_dims: &[u64],
+    collapsed_slice_dims: &[u64],
+    start_index_map: &[u64],
+    index_vector_dim: u64,
+    slice_sizes: &[u64],
+) -> Examined
+    ensures { λ r. ⌜ Examines r (nestedRefusal (now («dest_extents» .entry)) (now («dest_strides» .entry))) (gatherFrom (now («operand_extents» .entry)) (now («operand_strides» .entry)) (now («index_extents» .entry)) (now («index_strides» .entry)) (now («dest_extents» .entry)) (now («dest_strides» .entry)) (now («offset_dims» .entry)) (now («collapsed_slice_dims» .entry)) (now («start_index_map» .entry)) «index_vector_dim» (now («slice_sizes» .entry))) ⌝ }
+{
+    let sizes = check_sizes(
+        operand_extents,
+        operand_strides,
+        index_extents,
+        index_strides,
+        dest_extents,
+        dest_strides,
+    );
+    if !layout::is_done(sizes) {
+        return unexamined(sizes);
+    }
+    let four = checks::check_nested(dest_extents, dest_strides);
+    examine_from(
+        operand_extents,
+        operand_strides,
+        index_extents,
+        index_strides,
+        dest_extents,
+        dest_strides,
+        offset_dims,
+        collapsed_slice_dims,
+        start_index_map,
+        index_vector_dim,
+        slice_sizes,
+        four,
+    )
+}
+
+// The same at a call, where 4 is not tried again.
+pub fn examine_again(
+    operand_extents: &[u64],
+    operand_strides: &[i64],
+    index_extents: &[u64],
+    index_strides: &[i64],
+    dest_extents: &[u64],
+    dest_strides: &[i64],
+    offset_dims: &[u64],
+    collapsed_slice_dims: &[u64],
+    start_index_map: &[u64],
+    index_vector_dim: u64,
+    slice_sizes: &[u64],
+) -> Examined
+    ensures { λ r. ⌜ Examines r Ans.Done (gatherFrom (now («operand_extents» .entry)) (now («operand_strides» .entry)) (now («index_extents» .entry)) (now («index_strides» .entry)) (now («dest_extents» .entry)) (now («dest_strides» .entry)) (now («offset_dims» .entry)) (now («collapsed_slice_dims» .entry)) (now («start_index_map» .entry)) «index_vector_dim» (now («slice_sizes» .entry))) ⌝ }
+{
+    let sizes = check_sizes(
+        operand_extents,
+        operand_strides,
+        index_extents,
+        index_strides,
+        dest_extents,
+        dest_strides,
+    );
+    if !layout::is_done(sizes) {
+        return unexamined(sizes);
+    }
+    examine_from(
+        operand_extents,
+        operand_strides,
+        index_extents,
+        index_strides,
+        dest_extents,
+        dest_strides,
+        offset_dims,
+        collapsed_slice_dims,
+        start_index_map,
+        index_vector_dim,
+        slice_sizes,
+        Answer::Done,
+    )
+}
+
+// The first refusal of a gather in document 01's order, or Done.
 pub fn gather_refusal(
     operand_extents: &[u64],
     operand_strides: &[i64],
@@ -402,9 +423,8 @@ pub fn gather_refusal(
     start_index_map: &[u64],
     index_vector_dim: u64,
     slice_sizes: &[u64],
-    nested: bool,
 ) -> Answer
-    ensures { λ r. ⌜ r ≡ refusalOf nested (gatherFrom (now («operand_extents» .entry)) (now («operand_strides» .entry)) (now («index_extents» .entry)) (now («index_strides» .entry)) (now («dest_extents» .entry)) (now («dest_strides» .entry)) (now («offset_dims» .entry)) (now («collapsed_slice_dims» .entry)) (now («start_index_map» .entry)) «index_vector_dim» (now («slice_sizes» .entry))) ⌝ }
+    ensures { λ r. ⌜ r ≡ compileRefusal (gatherFrom (now («operand_extents» .entry)) (now («operand_strides» .entry)) (now («index_extents» .entry)) (now («index_strides» .entry)) (now («dest_extents» .entry)) (now («dest_strides» .entry)) (now («offset_dims» .entry)) (now («collapsed_slice_dims» .entry)) (now («start_index_map» .entry)) «index_vector_dim» (now («slice_sizes» .entry))) ⌝ }
 {
     let examined = examine(
         operand_extents,
@@ -418,7 +438,6 @@ pub fn gather_refusal(
         start_index_map,
         index_vector_dim,
         slice_sizes,
-        nested,
     );
     examined.answer
 }

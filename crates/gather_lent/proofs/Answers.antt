@@ -14,7 +14,7 @@ use Rattle.layout.specs.declared.Reach.the-variants as R
 use Rattle.layout.specs.Answers.{isDone, orElse}
 use Rattle.layout.specs.Reach.{bufferBounds}
 use Rattle.gather_checks.specs.Refusals.{refusalOf}
-use Rattle.gather_checks.proofs.Made.{or-done}
+use Rattle.checks.proofs.Made.{or-done}
 use Rattle.runs.proofs.Turns.{none}
 use Rattle.windows.proofs.Last.{no-cells}
 use Rattle.gather.proofs.Calls.{zero-of}

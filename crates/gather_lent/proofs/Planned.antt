@@ -21,18 +21,20 @@ use Rattle.layout.specs.declared.Reach.the-variants as R
 use Rattle.axis_lists.specs.declared.Steps.{Steps}
 use Rattle.axis_lists.specs.Held.{heldSteps}
 use Rattle.gather_checks.specs.Refusals.{gatherFrom, refusalOf}
-use Rattle.gather_checks.proofs.Found.{length-padded}
+use Rattle.checks.proofs.Held.{length-padded}
 use Rattle.gather_plan.specs.declared.Axis.{Axis}
 use Rattle.gather_plan.specs.declared.GatherPlan.{GatherPlan}
 use Rattle.gather_plan.specs.Plan.{noAxis, axisOf, planOf, compiledGather, heldGather}
-use Rattle.gather_plan.specs.Made.{offsetOr, planMade}
+use Rattle.checks.specs.Values.{offsetOr}
+use Rattle.gather_plan.specs.Made.{planMade}
 use Rattle.gather_same.specs.Same.{isCompiled}
 use Rattle.gather_plan.proofs.Compiled.{compiled-plan, held-again}
 use Rattle.gather_same.proofs.Compiled.{compile-is-compiled}
 use Rattle.gather_plan.proofs.Accepted.{Accepted, accepted, planned, index-strides-read, operand-strides-read}
 use Rattle.gather_walk.specs.declared.GatherWalk.{GatherWalk}
-use Rattle.gather_walk.specs.Walks.{windowStepsOf, batchStepsOf, limitAt, unlessNone, walkOf, gatherAt, Reached}
-use Rattle.gather_walk.proofs.Planned.{padded-entry}
+use Rattle.gather_walk.specs.Walks.{windowStepsOf, batchStepsOf, walkOf, gatherAt, Reached}
+use Rattle.components.specs.Components.{limitAt, unlessNone}
+use Rattle.components.proofs.Padded.{padded-entry}
 use Rattle.gather_lent.specs.Lent.{placed, reachAt, Stepped, Ready}
 
 -- ---- an array past its list

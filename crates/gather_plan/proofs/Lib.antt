@@ -1,4 +1,4 @@
 pub mod Roles
-pub mod Lists
 pub mod Accepted
 pub mod Compiled
+pub mod Planned

@@ -1,5 +1,5 @@
 -- The plan of a gather by value, and what compile gives: document 01, "The window read". Definitions only.
-use mathlib.Core.Bool.{Bool, cond}
+use mathlib.Core.Bool.{cond}
 use mathlib.Core.List.{List, [], _∷_}
 use Prim.Native.Nat.{ℕ, _-_}
 use lib.Dec.{eqb}
@@ -9,13 +9,14 @@ use Rattle.indexing.specs.Coordinates.{rank, product, pick, tabulate}
 use Rattle.indexing.specs.Gather.{Gather, shownDims}
 use Rattle.indexing.specs.Steps.{vectorStride, windowSteps, batchSteps}
 use Rattle.layout.specs.declared.Answer.{Answer}
+use Rattle.layout.specs.declared.Answer.the-variants as A
 use Rattle.layout.specs.declared.Layout.{Layout}
 use Rattle.layout.specs.Answers.{isDone}
 use Rattle.layout.specs.Layouts.{rankLimit, padded, layoutOf, extentsOf, stridesOf}
 use Rattle.axis_lists.specs.Held.{numbersOf, heldNumbers, heldSteps}
 use Rattle.axis_lists.specs.declared.Numbers.{Numbers}
 use Rattle.axis_lists.specs.declared.Steps.{Steps}
-use Rattle.gather_checks.specs.Refusals.{gatherFrom, refusalOf}
+use Rattle.gather_checks.specs.Refusals.{gatherFrom, refusalOf, compileRefusal}
 use Rattle.gather_plan.specs.declared.Role.{Role}
 use Rattle.gather_plan.specs.declared.Role.the-variants.{Batch, Window}
 use Rattle.gather_plan.specs.declared.Axis.{Axis}
@@ -102,9 +103,16 @@ refusedPlan =
 abbrev pub refusedGather : Answer → CompiledGather
 refusedGather x = record { answer = x; plan = refusedPlan }
 
--- what compile gives: the first refusal, or done with the plan; 4 is tried where `nested` says so
-unfoldable pub compiledGather : Bool → Gather → CompiledGather
-compiledGather nested g = record { answer = refusalOf nested g; plan = cond (isDone (refusalOf nested g)) (planOf g) refusedPlan }
+-- what compile gives, by its refusal: that, and the plan where there is none
+unfoldable pub compiledBy : Answer → Gather → CompiledGather
+compiledBy x g = record { answer = x; plan = cond (isDone x) (planOf g) refusedPlan }
+
+abbrev pub compiledGather : Gather → CompiledGather
+compiledGather g = compiledBy (compileRefusal g) g
+
+-- "4 not tried again"
+abbrev pub compiledAgain : Gather → CompiledGather
+compiledAgain g = compiledBy (refusalOf A.Done g) g
 
 -- the gather that the layouts and the spec in a plan describe
 abbrev pub heldGather : GatherPlan → Gather

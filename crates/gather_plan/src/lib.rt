@@ -1,17 +1,19 @@
 // The plan of a gather by value, and compile.
 ghost use mathlib.Core.Path.{_≡_};
-ghost use Prim.Native.Nat.{min};
-ghost use lib.ListN.{length, take};
-ghost use lib.IntN.{pos};
-ghost use Rattle.indexing.specs.Coordinates.{pick, spread, others, tabulate};
-ghost use Rattle.indexing.specs.Start.{without};
-ghost use Rattle.layout.specs.Layouts.{rankLimit, extentsOf, stridesOf};
-ghost use Rattle.axis_lists.specs.Held.{numbersOf, stepsOf, heldSteps};
+ghost use mathlib.Core.Bool.{true};
+ghost use Prim.Native.Nat.{_≤_};
+ghost use lib.ListN.{length};
+ghost use Rattle.layout.specs.Answers.{isDone};
+ghost use Rattle.layout.specs.Layouts.{rankLimit};
+ghost use Rattle.axis_lists.specs.Held.{numbersOf, stepsOf};
+ghost use Rattle.checks.specs.Values.{resetOr, totalOr};
 ghost use Rattle.gather_checks.specs.Refusals.{gatherFrom};
-ghost use Rattle.gather_plan.specs.Plan.{roleOf, axisWith, noAxis, refusedGather, compiledGather};
-ghost use Rattle.gather_plan.specs.Made.{resetOr, offsetOr, totalOr, axesFrom, planMade};
+ghost use Rattle.gather_checks.specs.Given.{Found};
+ghost use Rattle.gather_plan.specs.Plan.{roleOf, axisWith, noAxis, planOf, refusedGather, compiledBy, compiledGather, compiledAgain};
+ghost use Rattle.gather_plan.specs.Made.{axesFrom};
 use axis_lists::Numbers;
 use axis_lists::Steps;
+use gather_checks::Examined;
 use integer::Checked;
 use integer::CheckedU;
 use layout::Answer;
@@ -121,23 +123,11 @@ fn reset_value(extent: u64, step: i64) -> i64
     }
 }
 
-// Stride times component, and 0 where it does not fit.
-fn offset_value(stride: i64, component: u64) -> i64
-    ensures { λ r. ⌜ r ≡ offsetOr stride component ⌝ }
+// The product of the extents, and 0 where it does not fit.
+fn total_value(extents: &[u64]) -> u64
+    ensures { λ r. ⌜ r ≡ totalOr (now (extents .entry)) ⌝ }
 {
-    let offset = layout::checked_offset_add(0, stride, component);
-    match offset {
-        Checked::Fits(z) => z,
-        Checked::Overflow => 0,
-    }
-}
-
-// The cells of a layout, and 0 where their count does not fit.
-fn total_value(layout: Layout) -> u64
-    ensures { λ r. ⌜ r ≡ totalOr (extentsOf layout) ⌝ }
-{
-    let extents = layout.extents;
-    let total = spans::checked_total_len(extents, layout.rank);
+    let total = spans::total_of(extents);
     match total {
         CheckedU::Fits(n) => n,
         CheckedU::Overflow => 0,
@@ -179,100 +169,79 @@ fn axis_with(role: Role, extent: u64, dest: i64, window: i64, batch: i64) -> Axi
 
 // The destination's axes, by its extents and the three lists of steps.
 fn axes_of(
-    extents: Numbers,
-    dest: Steps,
+    extents: &[u64],
+    dest: &[i64],
     window: Steps,
     batch: Steps,
     offset_dims: &[u64],
     shown: Numbers,
 ) -> [Axis; RAW_FUSED_RANK_LIMIT]
-    ensures { λ r. ⌜ r ≡ axesFrom (numbersOf extents) (stepsOf dest) (stepsOf window) (stepsOf batch) (now («offset_dims» .entry)) (numbersOf shown) ⌝ }
+    requires { ⌜ length (now extents) ≤ rankLimit ⌝ }
+    ensures { λ r. ⌜ r ≡ axesFrom (now (extents .entry)) (now (dest .entry)) (stepsOf window) (stepsOf batch) (now («offset_dims» .entry)) (numbersOf shown) ⌝ }
 {
-    let n = layout::axis_count(extents.count);
     let none = no_axis();
     let mut out = [none; RAW_FUSED_RANK_LIMIT];
     let mut i: usize = 0;
-    while i < n {
+    while i < extents.len() {
         let k = i as u64;
         let role = role_at(offset_dims, shown, k);
-        let d = axis_lists::number_at(extents, k);
-        let s = axis_lists::step_at(dest, k);
+        let s = axis_lists::stride_at(dest, k);
         let w = axis_lists::step_at(window, k);
         let b = axis_lists::step_at(batch, k);
-        out[i] = axis_with(role, d, s, w, b);
+        out[i] = axis_with(role, extents[i], s, w, b);
         i += 1;
     }
     out
 }
 
-// The same by the three layouts and the spec.
-fn dest_axes(
-    operand: Layout,
-    index: Layout,
-    dest: Layout,
-    offset_dims: &[u64],
-    collapsed: &[u64],
-    vector: u64,
-) -> [Axis; RAW_FUSED_RANK_LIMIT]
-    ensures { λ r. ⌜ r ≡ axesFrom (extentsOf dest) (stridesOf dest) (spread (pos 0) (length (extentsOf dest)) (now («offset_dims» .entry)) (pick (pos 0) (others (length (extentsOf operand)) (now (collapsed .entry))) (stridesOf operand))) (spread (pos 0) (length (extentsOf dest)) (others (length (extentsOf dest)) (now («offset_dims» .entry))) (without vector (stridesOf index))) (now («offset_dims» .entry)) (others (length (extentsOf operand)) (now (collapsed .entry))) ⌝ }
-{
-    let shown = axis_lists::other_axes(operand.rank, collapsed);
-    let window = gather_checks::window_steps(operand, dest, offset_dims, collapsed);
-    let batch = gather_checks::batch_steps(index, dest, offset_dims, vector);
-    let extents = axis_lists::extents_of(dest);
-    let strides = axis_lists::strides_of(dest);
-    axes_of(extents, strides, window, batch, offset_dims, shown)
-}
-
-// The vector axis's stride times each component, of at most eight.
-pub fn component_offsets(stride: i64, count: usize) -> Steps
-    ensures { λ r. ⌜ r ≡ heldSteps (tabulate (min count rankLimit) (offsetOr stride)) ⌝ }
-{
-    let n = layout::axis_count(count);
-    let mut out = [0i64; RAW_FUSED_RANK_LIMIT];
-    let mut i: usize = 0;
-    while i < n {
-        out[i] = offset_value(stride, i as u64);
-        i += 1;
-    }
-    Steps {
-        count: n,
-        entries: out,
-    }
-}
-
-// The operand's stride on the axis of each component, of at most eight.
-pub fn component_strides(operand: Layout, map: &[u64]) -> Steps
-    ensures { λ r. ⌜ r ≡ heldSteps (pick (pos 0) (take rankLimit (now (map .entry))) (stridesOf operand)) ⌝ }
-{
-    let axes = axis_lists::numbers_from(map);
-    let strides = axis_lists::strides_of(operand);
-    axis_lists::pick_steps(axes, strides)
-}
-
-// The plan by the three layouts and the spec, whatever they are.
+// The plan of a gather that is not refused, with the steps that compile's checks found.
 fn plan_of(
-    operand: Layout,
-    index: Layout,
-    dest: Layout,
+    operand_extents: &[u64],
+    operand_strides: &[i64],
+    index_extents: &[u64],
+    index_strides: &[i64],
+    dest_extents: &[u64],
+    dest_strides: &[i64],
     offset_dims: &[u64],
-    collapsed: &[u64],
-    map: &[u64],
-    vector: u64,
-    sizes: &[u64],
+    collapsed_slice_dims: &[u64],
+    start_index_map: &[u64],
+    index_vector_dim: u64,
+    slice_sizes: &[u64],
+    window: [i64; RAW_FUSED_RANK_LIMIT],
+    batch: [i64; RAW_FUSED_RANK_LIMIT],
 ) -> GatherPlan
-    ensures { λ r. ⌜ r ≡ planMade operand index dest (now («offset_dims» .entry)) (now (collapsed .entry)) (now (map .entry)) vector (now (sizes .entry)) ⌝ }
+    requires { ⌜ Found (gatherFrom (now «operand_extents») (now «operand_strides») (now «index_extents») (now «index_strides») (now «dest_extents») (now «dest_strides») (now «offset_dims») (now «collapsed_slice_dims») (now «start_index_map») «index_vector_dim» (now «slice_sizes»)) window batch ⌝ }
+    ensures { λ r. ⌜ r ≡ planOf (gatherFrom (now («operand_extents» .entry)) (now («operand_strides» .entry)) (now («index_extents» .entry)) (now («index_strides» .entry)) (now («dest_extents» .entry)) (now («dest_strides» .entry)) (now («offset_dims» .entry)) (now («collapsed_slice_dims» .entry)) (now («start_index_map» .entry)) «index_vector_dim» (now («slice_sizes» .entry))) ⌝ }
 {
-    let axes = dest_axes(operand, index, dest, offset_dims, collapsed, vector);
-    let starts = axis_lists::strides_of(index);
-    let stride = axis_lists::step_at(starts, vector);
-    let offsets = component_offsets(stride, map.len());
-    let strides = component_strides(operand, map);
+    let first = layout::make_layout(operand_extents, operand_strides);
+    let second = layout::make_layout(index_extents, index_strides);
+    let third = layout::make_layout(dest_extents, dest_strides);
+    let operand = first.layout;
+    let index = second.layout;
+    let dest = third.layout;
+    let shown = axis_lists::other_axes(operand_extents.len(), collapsed_slice_dims);
+    let n = dest_extents.len();
+    let moves = Steps {
+        count: n,
+        entries: window,
+    };
+    let starts = Steps {
+        count: n,
+        entries: batch,
+    };
+    let axes = axes_of(dest_extents, dest_strides, moves, starts, offset_dims, shown);
+    let stride = axis_lists::stride_at(index_strides, index_vector_dim);
+    let offsets = components::component_offsets(stride, start_index_map.len());
+    let entries = components::strides_on(start_index_map, operand_strides);
+    let strides = Steps {
+        count: start_index_map.len(),
+        entries,
+    };
     let a = axis_lists::numbers_from(offset_dims);
-    let b = axis_lists::numbers_from(collapsed);
-    let c = axis_lists::numbers_from(map);
-    let d = axis_lists::numbers_from(sizes);
-    let total = total_value(dest);
+    let b = axis_lists::numbers_from(collapsed_slice_dims);
+    let c = axis_lists::numbers_from(start_index_map);
+    let d = axis_lists::numbers_from(slice_sizes);
+    let total = total_value(dest_extents);
     GatherPlan {
         operand,
         index,
@@ -280,7 +249,7 @@ fn plan_of(
         offset_dims: a,
         collapsed_slice_dims: b,
         start_index_map: c,
-        index_vector_dim: vector,
+        index_vector_dim,
         slice_sizes: d,
         axes,
         component_offsets: offsets,
@@ -289,7 +258,49 @@ fn plan_of(
     }
 }
 
-// The plan of a gather, or its first refusal; 4 is tried where `nested` says so.
+// What compile gives, by what its checks found.
+fn compiled_from(
+    found: Examined,
+    operand_extents: &[u64],
+    operand_strides: &[i64],
+    index_extents: &[u64],
+    index_strides: &[i64],
+    dest_extents: &[u64],
+    dest_strides: &[i64],
+    offset_dims: &[u64],
+    collapsed_slice_dims: &[u64],
+    start_index_map: &[u64],
+    index_vector_dim: u64,
+    slice_sizes: &[u64],
+) -> CompiledGather
+    requires { ⌜ (isDone (found .answer) ≡ true → Found (gatherFrom (now «operand_extents») (now «operand_strides») (now «index_extents») (now «index_strides») (now «dest_extents») (now «dest_strides») (now «offset_dims») (now «collapsed_slice_dims») (now «start_index_map») «index_vector_dim» (now «slice_sizes»)) (found .window) (found .batch)) ⌝ }
+    ensures { λ r. ⌜ r ≡ compiledBy (found .answer) (gatherFrom (now («operand_extents» .entry)) (now («operand_strides» .entry)) (now («index_extents» .entry)) (now («index_strides» .entry)) (now («dest_extents» .entry)) (now («dest_strides» .entry)) (now («offset_dims» .entry)) (now («collapsed_slice_dims» .entry)) (now («start_index_map» .entry)) «index_vector_dim» (now («slice_sizes» .entry))) ⌝ }
+{
+    let answer = found.answer;
+    if !layout::is_done(answer) {
+        return refused(answer);
+    }
+    let window = found.window;
+    let batch = found.batch;
+    let plan = plan_of(
+        operand_extents,
+        operand_strides,
+        index_extents,
+        index_strides,
+        dest_extents,
+        dest_strides,
+        offset_dims,
+        collapsed_slice_dims,
+        start_index_map,
+        index_vector_dim,
+        slice_sizes,
+        window,
+        batch,
+    );
+    CompiledGather { answer, plan }
+}
+
+// The plan of a gather, or its first refusal.
 pub fn compile(
     operand_extents: &[u64],
     operand_strides: &[i64],
@@ -302,11 +313,10 @@ pub fn compile(
     start_index_map: &[u64],
     index_vector_dim: u64,
     slice_sizes: &[u64],
-    nested: bool,
 ) -> CompiledGather
-    ensures { λ r. ⌜ r ≡ compiledGather nested (gatherFrom (now («operand_extents» .entry)) (now («operand_strides» .entry)) (now («index_extents» .entry)) (now («index_strides» .entry)) (now («dest_extents» .entry)) (now («dest_strides» .entry)) (now («offset_dims» .entry)) (now («collapsed_slice_dims» .entry)) (now («start_index_map» .entry)) «index_vector_dim» (now («slice_sizes» .entry))) ⌝ }
+    ensures { λ r. ⌜ r ≡ compiledGather (gatherFrom (now («operand_extents» .entry)) (now («operand_strides» .entry)) (now («index_extents» .entry)) (now («index_strides» .entry)) (now («dest_extents» .entry)) (now («dest_strides» .entry)) (now («offset_dims» .entry)) (now («collapsed_slice_dims» .entry)) (now («start_index_map» .entry)) «index_vector_dim» (now («slice_sizes» .entry))) ⌝ }
 {
-    let answer = gather_checks::gather_refusal(
+    let found = gather_checks::examine(
         operand_extents,
         operand_strides,
         index_extents,
@@ -318,26 +328,64 @@ pub fn compile(
         start_index_map,
         index_vector_dim,
         slice_sizes,
-        nested,
     );
-    if !layout::is_done(answer) {
-        return refused(answer);
-    }
-    let first = layout::make_layout(operand_extents, operand_strides);
-    let second = layout::make_layout(index_extents, index_strides);
-    let third = layout::make_layout(dest_extents, dest_strides);
-    let operand = first.layout;
-    let index = second.layout;
-    let dest = third.layout;
-    let plan = plan_of(
-        operand,
-        index,
-        dest,
+    compiled_from(
+        found,
+        operand_extents,
+        operand_strides,
+        index_extents,
+        index_strides,
+        dest_extents,
+        dest_strides,
+        offset_dims,
+        collapsed_slice_dims,
+        start_index_map,
+        index_vector_dim,
+        slice_sizes,
+    )
+}
+
+// The same at a call, where 4 is not tried again.
+pub fn compile_again(
+    operand_extents: &[u64],
+    operand_strides: &[i64],
+    index_extents: &[u64],
+    index_strides: &[i64],
+    dest_extents: &[u64],
+    dest_strides: &[i64],
+    offset_dims: &[u64],
+    collapsed_slice_dims: &[u64],
+    start_index_map: &[u64],
+    index_vector_dim: u64,
+    slice_sizes: &[u64],
+) -> CompiledGather
+    ensures { λ r. ⌜ r ≡ compiledAgain (gatherFrom (now («operand_extents» .entry)) (now («operand_strides» .entry)) (now («index_extents» .entry)) (now («index_strides» .entry)) (now («dest_extents» .entry)) (now («dest_strides» .entry)) (now («offset_dims» .entry)) (now («collapsed_slice_dims» .entry)) (now («start_index_map» .entry)) «index_vector_dim» (now («slice_sizes» .entry))) ⌝ }
+{
+    let found = gather_checks::examine_again(
+        operand_extents,
+        operand_strides,
+        index_extents,
+        index_strides,
+        dest_extents,
+        dest_strides,
         offset_dims,
         collapsed_slice_dims,
         start_index_map,
         index_vector_dim,
         slice_sizes,
     );
-    CompiledGather { answer, plan }
+    compiled_from(
+        found,
+        operand_extents,
+        operand_strides,
+        index_extents,
+        index_strides,
+        dest_extents,
+        dest_strides,
+        offset_dims,
+        collapsed_slice_dims,
+        start_index_map,
+        index_vector_dim,
+        slice_sizes,
+    )
 }

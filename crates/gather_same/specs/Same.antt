@@ -8,7 +8,7 @@ use Rattle.gather_plan.specs.declared.Role.{Role}
 use Rattle.gather_plan.specs.declared.Role.the-variants.{Batch, Window}
 use Rattle.gather_plan.specs.declared.Axis.{Axis}
 use Rattle.gather_plan.specs.declared.GatherPlan.{GatherPlan}
-use Rattle.gather_plan.specs.Plan.{compiledGather, heldGather}
+use Rattle.gather_plan.specs.Plan.{compiledAgain, heldGather}
 
 -- field by field, arrays past their counts as well
 abbrev pub sameRole : Role → Role → Bool
@@ -47,4 +47,4 @@ samePlan a b = sameLayouts a b && (sameSpec a b && sameWalk a b)
 
 -- "the plan is .. what compile gives for the layouts and spec in it, 4 not tried again"
 unfoldable pub isCompiled : GatherPlan → Bool
-isCompiled p = isDone (compiledGather false (heldGather p) .answer) && samePlan p (compiledGather false (heldGather p) .plan)
+isCompiled p = isDone (compiledAgain (heldGather p) .answer) && samePlan p (compiledAgain (heldGather p) .plan)

@@ -1,8 +1,7 @@
 // Whether a plan of a gather is what compile gives: the test for the same plan, and compiling again what a plan holds.
 ghost use mathlib.Core.Path.{_≡_};
-ghost use mathlib.Core.Bool.{false};
 ghost use Rattle.equality.specs.Same.{sameBy};
-ghost use Rattle.gather_plan.specs.Plan.{compiledGather, heldGather};
+ghost use Rattle.gather_plan.specs.Plan.{compiledAgain, heldGather};
 ghost use Rattle.gather_same.specs.Same.{sameRole, sameAxis, sameLayouts, sameSpec, sameWalk, samePlan, isCompiled};
 use gather_plan::Axis;
 use gather_plan::CompiledGather;
@@ -134,7 +133,7 @@ pub fn same_plan(a: GatherPlan, b: GatherPlan) -> bool
 
 // What compile gives for the layouts and spec in a plan, 4 not tried again.
 pub fn compiled_again(plan: GatherPlan) -> CompiledGather
-    ensures { λ r. ⌜ r ≡ compiledGather false (heldGather plan) ⌝ }
+    ensures { λ r. ⌜ r ≡ compiledAgain (heldGather plan) ⌝ }
 {
     let operand = plan.operand;
     let index = plan.index;
@@ -160,7 +159,7 @@ pub fn compiled_again(plan: GatherPlan) -> CompiledGather
     let v = layout::axis_count(collapsed.count);
     let w = layout::axis_count(map.count);
     let x = layout::axis_count(sizes.count);
-    gather_plan::compile(
+    gather_plan::compile_again(
         &operand_extents[0..n],
         &operand_strides[0..n],
         &index_extents[0..m],
@@ -172,7 +171,6 @@ pub fn compiled_again(plan: GatherPlan) -> CompiledGather
         &mapped_axes[0..w],
         plan.index_vector_dim,
         &windows[0..x],
-        false,
     )
 }
 

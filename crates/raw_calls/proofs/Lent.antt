@@ -21,12 +21,11 @@ use Rattle.equality.specs.Same.{sameLayout}
 use Rattle.gather_same.specs.Same.{isCompiled}
 use Rattle.equality.proofs.Compare.{and-true, layouts-decide}
 use Rattle.gather_plan.proofs.Compiled.{compiled-plan}
-use Rattle.gather_plan.proofs.Accepted.{strides-yes, rank-yes}
+use Rattle.checks.proofs.Fits.{strides-yes, rank-yes}
 use Rattle.gather.specs.Calls.{gatherOf, planFits, planRefusal, reachOf, callAnswer}
 use Rattle.gather_lent.specs.Lent.{placed, boundsAnswer, lentAnswer, Lent}
 use Rattle.gather_lent.proofs.Planned.{given, fits, held, compiled}
-use Rattle.raw_calls.specs.Calls.{CallViews}
-use Rattle.raw_calls.specs.Calls.{viewAt, viewsFrom, rawAnswer, Ran, SameLists}
+use Rattle.raw_calls.specs.Calls.{CallViews, viewAt, viewsFrom, rawAnswer, Ran, SameLists}
 use Rattle.gather_lent.proofs.Answers.{stops, goes}
 use Rattle.raw_calls.proofs.Others.{skip, mismatch-not-done, view-lists, eight}
 

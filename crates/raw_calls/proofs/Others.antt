@@ -13,7 +13,7 @@ use Rattle.layout.specs.declared.MadeLayout.{MadeLayout}
 use Rattle.layout.specs.Answers.{isDone, orElse}
 use Rattle.layout.specs.Layouts.{rankLimit, padded, layoutOf, extentsOf, stridesOf, strideLength, rankAtMost, refusedLayout, madeBy, layoutFrom}
 use Rattle.axis_lists.proofs.Filling.{read-back}
-use Rattle.gather_checks.proofs.Made.{or-done, same-length, few-axes}
+use Rattle.checks.proofs.Made.{or-done, same-length, few-axes}
 use Rattle.equality.specs.Same.{sameLayout}
 use Rattle.equality.proofs.Compare.{and-true, and-both, layouts-decide}
 use Rattle.gather.specs.Calls.{planRefusal}

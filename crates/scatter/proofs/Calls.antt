@@ -24,7 +24,7 @@ use Rattle.layout.specs.Nested.{hasZero}
 use Rattle.layout.specs.Reach.{viewReach, bufferBounds}
 use Rattle.runs.specs.Runs.{ruleI32, ruleF64}
 use Rattle.runs.specs.declared.Rule.the-variants as R′
-use Rattle.gather_checks.proofs.Made.{or-done}
+use Rattle.checks.proofs.Made.{or-done}
 use Rattle.equality.specs.Same.{sameLayout}
 use Rattle.equality.proofs.Compare.{and-true, layouts-decide}
 use Rattle.gather.specs.Calls.{planRefusal, reachOf}

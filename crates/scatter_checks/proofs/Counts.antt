@@ -16,7 +16,7 @@ use Rattle.layout.specs.Answers.{isDone}
 use Rattle.axis_lists.specs.Held.{sameList}
 use Rattle.axis_lists.proofs.Filling.{length-without}
 use Rattle.checks.specs.Checks.{sameCount}
-use Rattle.gather_checks.proofs.Made.{or-done}
+use Rattle.checks.proofs.Made.{or-done}
 use Rattle.scatter_checks.specs.Refusals.{scatterFrom, numbersRefusal, listsRefusal, countsRefusal, batchRefusal, specRefusal, Counted}
 
 same-count : (n m : ℕ) → isDone (sameCount n m) ≡ true → n ≡ m

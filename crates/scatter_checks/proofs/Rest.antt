@@ -17,11 +17,10 @@ use Rattle.layout.specs.Layouts.{rankLimit, strideLength, rankAtMost}
 use Rattle.layout.specs.Spans.{totalOf}
 use Rattle.axis_lists.proofs.Filling.{length-others}
 use Rattle.axis_lists.proofs.Without.{pick-without}
-use Rattle.checks.specs.Checks.{firstOf, totalFits, windowsFit}
+use Rattle.checks.specs.Checks.{firstOf, totalFits, windowsFit, layoutsRefusal, offsetFits}
 use Rattle.replay.specs.declared.CompiledReplay.{CompiledReplay}
 use Rattle.replay.specs.Replays.{compiledReplay}
-use Rattle.gather_checks.specs.Refusals.{layoutsRefusal, offsetFits}
-use Rattle.gather_checks.proofs.Made.{or-done, same-length, few-axes}
+use Rattle.checks.proofs.Made.{or-done, same-length, few-axes}
 use Rattle.scatter_checks.specs.declared.Examined.{Examined}
 use Rattle.scatter_checks.specs.Refusals.{scatterFrom, batchWalk, windowWalk, walksRefusal, Fitting, Listed, Counted}
 use Rattle.scatter_checks.specs.Examine.{refusedWith, walked}

@@ -17,8 +17,7 @@ use Rattle.layout.specs.Layouts.{rankLimit}
 use Rattle.layout.specs.Lists.{uniqueAxes}
 use Rattle.layout.specs.Spans.{totalOf, spanned}
 use Rattle.axis_lists.specs.Held.{sameList}
-use Rattle.checks.specs.Checks.{firstOf, totalFits, spanFits, nestedIf, sameCount, vectorAxis, componentsOf, windowsFit}
-use Rattle.gather_checks.specs.Refusals.{viewFrom, layoutsRefusal, offsetFits}
+use Rattle.checks.specs.Checks.{firstOf, totalFits, spanFits, nestedIf, sameCount, vectorAxis, componentsOf, windowsFit, viewFrom, layoutsRefusal, offsetFits}
 use Rattle.replay.specs.declared.CompiledReplay.{CompiledReplay}
 use Rattle.replay.specs.Replays.{compiledReplay}
 

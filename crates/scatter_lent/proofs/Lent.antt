@@ -20,7 +20,7 @@ use Rattle.replay.specs.Replays.{rowsOf}
 use Rattle.equality.specs.Same.{sameLayout}
 use Rattle.equality.proofs.Compare.{and-both, layouts-decide}
 use Rattle.gather.specs.Calls.{planRefusal, reachOf}
-use Rattle.gather_walk.specs.Walks.{limitAt}
+use Rattle.components.specs.Components.{limitAt}
 use Rattle.scatter_checks.specs.Refusals.{scatterFrom, refusalOf}
 use Rattle.scatter_plan.specs.declared.ScatterPlan.{ScatterPlan}
 use Rattle.scatter_plan.specs.Plan.{planOf, compiledScatter, heldScatter}

@@ -14,7 +14,7 @@ use Rattle.layout.specs.declared.MadeLayout.{MadeLayout}
 use Rattle.layout.specs.declared.View.{View}
 use Rattle.layout.specs.Answers.{isDone, orElse}
 use Rattle.layout.specs.Layouts.{rankLimit, layoutOf, layoutFrom}
-use Rattle.gather_checks.proofs.Made.{or-done}
+use Rattle.checks.proofs.Made.{or-done}
 use Rattle.gather.specs.Calls.{planRefusal}
 use Rattle.replay.specs.Replays.{rowsOf}
 use Rattle.scatter_checks.specs.Refusals.{refusalOf}

@@ -14,7 +14,7 @@ ghost use Rattle.layout.specs.Reach.{viewReach, bufferBounds};
 ghost use Rattle.replay.specs.Replays.{rowsOf};
 ghost use Rattle.runs.specs.Runs.{ruleI32, ruleF64};
 ghost use Rattle.runs.specs.declared.Rule.the-variants as R;
-ghost use Rattle.gather_walk.specs.Walks.{limitAt};
+ghost use Rattle.components.specs.Components.{limitAt};
 ghost use Rattle.scatter_checks.specs.Refusals.{scatterFrom, batchWalk, windowWalk, refusalOf};
 ghost use Rattle.scatter_plan.specs.Made.{made};
 ghost use Rattle.scatter_walk.specs.Walks.{stepsAt, walkOf, scatterAt, Reached};

@@ -25,12 +25,11 @@ use Rattle.layout.specs.Spans.{totalOf, spanned, offsetAdd}
 use Rattle.layout.specs.Laws.{total-is, offset-add-is}
 use Rattle.axis_lists.specs.Held.{heldNumbers, heldSteps}
 use Rattle.axis_lists.proofs.Filling.{read-back, length-others}
-use Rattle.checks.specs.Checks.{firstOf, totalFits, spanFits, sameCount, vectorAxis, componentsOf, windowsFit}
-use Rattle.gather_checks.specs.Refusals.{numberFits, offsetFits, layoutsRefusal}
-use Rattle.gather_checks.proofs.Made.{or-done, same-length, few-axes}
-use Rattle.gather_plan.specs.Made.{valueOf, valueOfU, offsetOr, totalOr}
-use Rattle.gather_plan.proofs.Lists.{unique-axes, axes-few, tabulate-same}
-use Rattle.gather_plan.proofs.Accepted.{first-each}
+use Rattle.checks.specs.Checks.{firstOf, totalFits, spanFits, sameCount, vectorAxis, componentsOf, windowsFit, numberFits, offsetFits, layoutsRefusal}
+use Rattle.checks.proofs.Made.{or-done, same-length, few-axes}
+use Rattle.checks.specs.Values.{valueOf, valueOfU, offsetOr, totalOr}
+use Rattle.checks.proofs.Lists.{unique-axes, axes-few, tabulate-same}
+use Rattle.checks.proofs.Fits.{first-each}
 use Rattle.replay.specs.Replays.{refusedReplay}
 use Rattle.scatter_checks.specs.Refusals.{scatterFrom, numbersRefusal, listsRefusal, countAtMost, countsRefusal, batchRefusal, specRefusal, batchWalk, windowWalk, walksRefusal, Fitting, Counted, refusalOf}
 use Rattle.scatter_checks.specs.declared.Examined.{Examined}

@@ -11,8 +11,7 @@ use Rattle.layout.specs.Answers.{isDone}
 use Rattle.layout.specs.Layouts.{layoutOf, extentsOf, stridesOf}
 use Rattle.layout.specs.Spans.{totalOf, spanned}
 use Rattle.axis_lists.proofs.Filling.{read-back}
-use Rattle.checks.specs.Checks.{totalFits, spanFits}
-use Rattle.gather_checks.specs.Refusals.{layoutsRefusal}
+use Rattle.checks.specs.Checks.{totalFits, spanFits, layoutsRefusal}
 use Rattle.gather_plan.proofs.Compiled.{or-later, or-first}
 use Rattle.scatter_checks.specs.Refusals.{scatterFrom, numbersRefusal, specRefusal, walksRefusal, refusalOf}
 use Rattle.scatter_plan.specs.Plan.{planOf, refusedPlan, compiledScatter, heldScatter}

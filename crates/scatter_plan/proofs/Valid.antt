@@ -15,11 +15,11 @@ use Rattle.layout.specs.declared.Answer.the-variants as A
 use Rattle.layout.specs.Answers.{isDone}
 use Rattle.axis_lists.specs.Held.{sameList}
 use Rattle.checks.specs.Checks.{vectorAxis, componentsOf, windowsFrom}
-use Rattle.gather_checks.proofs.Made.{same-length}
+use Rattle.checks.proofs.Made.{same-length}
 use Rattle.equality.specs.Same.{sameBy}
 use Rattle.equality.proofs.Compare.{numbers-decide, lists-decide}
-use Rattle.gather_plan.proofs.Lists.{unique-axes}
-use Rattle.gather_plan.proofs.Accepted.{same-count}
+use Rattle.checks.proofs.Lists.{unique-axes}
+use Rattle.checks.proofs.Fits.{same-count}
 use Rattle.scatter_checks.specs.Refusals.{batchRefusal, refusalOf}
 use Rattle.scatter_plan.proofs.Accepted.{passed}
 

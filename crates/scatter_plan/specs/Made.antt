@@ -8,7 +8,7 @@ use Rattle.indexing.specs.Scatter.{Scatter, batchShape, windowShape, windows}
 use Rattle.indexing.specs.Steps.{vectorStride}
 use Rattle.layout.specs.Layouts.{rankLimit, layoutOf}
 use Rattle.axis_lists.specs.Held.{heldNumbers, heldSteps}
-use Rattle.gather_plan.specs.Made.{offsetOr, totalOr}
+use Rattle.checks.specs.Values.{offsetOr, totalOr}
 use Rattle.scatter_checks.specs.Refusals.{batchWalk, windowWalk}
 use Rattle.scatter_plan.specs.declared.ScatterPlan.{ScatterPlan}
 

@@ -5,7 +5,7 @@ ghost use lib.ListN.{length};
 ghost use Rattle.indexing.specs.Coordinates.{pick, spread, others};
 ghost use Rattle.layout.specs.Layouts.{rankLimit};
 ghost use Rattle.axis_lists.specs.Held.{heldNumbers};
-ghost use Rattle.gather_plan.specs.Made.{totalOr};
+ghost use Rattle.checks.specs.Values.{totalOr};
 ghost use Rattle.scatter_checks.specs.Refusals.{scatterFrom, batchWalk, windowWalk, Fitting};
 ghost use Rattle.scatter_plan.specs.Plan.{refusedScatter, compiledScatter};
 ghost use Rattle.scatter_plan.specs.Made.{made};

@@ -21,7 +21,7 @@ use Rattle.replay.specs.declared.CompiledReplay.{CompiledReplay}
 use Rattle.replay.specs.Replays.{noAxis, compiledReplay, extents, sources, dests, rowOf, rowsOf}
 use Rattle.replay.specs.Merging.{IsReset, AllReset, Meets, IsDone, compiled-done}
 use Rattle.windows.specs.Windows.{placeAt}
-use Rattle.gather_walk.proofs.Planned.{padded-entry}
+use Rattle.components.proofs.Padded.{padded-entry}
 use Rattle.scatter_walk.specs.Walks.{stepsAt}
 
 take-map : {A B : Type 0} (f : A → B) (n : ℕ) (l : List A) → take n (map f l) ≡ map f (take n l)

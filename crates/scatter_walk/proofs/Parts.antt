@@ -21,7 +21,7 @@ use Rattle.layout.specs.Inside.{Inside, reach-inside, low-most, high-least}
 use Rattle.runs.proofs.Place.{read}
 use Rattle.scatter_windows.specs.Scattering.{scatteredBy, Scattering}
 use Rattle.scatter_plan.specs.declared.ScatterPlan.{ScatterPlan}
-use Rattle.gather_walk.specs.Walks.{unlessNone}
+use Rattle.components.specs.Components.{unlessNone}
 use Rattle.scatter_walk.specs.Walks.{walkOf, scatterAt, Reached}
 use Rattle.scatter_walk.specs.declared.ScatterWalk.{ScatterWalk}
 use Rattle.driven.specs.Driving.{Rowed}

@@ -23,8 +23,8 @@ use Rattle.scatter_plan.specs.Plan.{planOf, heldScatter}
 use Rattle.scatter_same.specs.Same.{isCompiled}
 use Rattle.scatter_same.proofs.Compiled.{compiled-is}
 use Rattle.scatter_plan.proofs.Accepted.{Accepted, accepted}
-use Rattle.gather_walk.specs.Walks.{limitAt}
-use Rattle.gather_walk.proofs.Planned.{padded-entry}
+use Rattle.components.specs.Components.{limitAt}
+use Rattle.components.proofs.Padded.{padded-entry}
 use Rattle.gather_walk.proofs.Accepts.{spans-small}
 use Rattle.scatter_walk.specs.Walks.{stepsAt}
 use Rattle.scatter_walk.proofs.Merged.{Walked, walked}

@@ -28,9 +28,9 @@ use Rattle.scatter_plan.specs.Plan.{planOf, heldScatter}
 use Rattle.scatter_plan.proofs.Accepted.{Accepted, accepted}
 use Rattle.scatter_same.specs.Same.{isCompiled}
 use Rattle.scatter_same.proofs.Compiled.{compiled-is}
-use Rattle.gather_walk.specs.Walks.{unlessNone}
-use Rattle.gather_walk.proofs.Planned.{unless-some}
-use Rattle.gather_checks.proofs.Found.{length-padded}
+use Rattle.components.specs.Components.{unlessNone}
+use Rattle.components.proofs.Padded.{unless-some}
+use Rattle.checks.proofs.Held.{length-padded}
 use Rattle.scatter_walk.specs.declared.ScatterWalk.{ScatterWalk}
 use Rattle.scatter_walk.specs.Walks.{stepsAt, walkOf}
 use Rattle.scatter_walk.proofs.Planned.{batch-walked}

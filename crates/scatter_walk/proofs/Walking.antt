@@ -39,8 +39,8 @@ use Rattle.scatter_plan.specs.declared.ScatterPlan.{ScatterPlan}
 use Rattle.scatter_plan.specs.Plan.{heldScatter}
 use Rattle.scatter_same.specs.Same.{isCompiled}
 use Rattle.scatter_plan.proofs.Valid.{valid}
-use Rattle.gather_walk.specs.Walks.{limitAt, unlessNone}
-use Rattle.gather_walk.proofs.Planned.{unless-some}
+use Rattle.components.specs.Components.{limitAt, unlessNone}
+use Rattle.components.proofs.Padded.{unless-some}
 use Rattle.gather_walk.proofs.Covers.{no-zero, covered}
 use Rattle.gather_walk.proofs.Walking.{sum-same, clamp-limit, axis-below, zero-dot}
 use Rattle.scatter_walk.specs.Walks.{stepsAt, walkOf, scatterAt}

@@ -13,7 +13,7 @@ use Rattle.layout.specs.Layouts.{rankLimit, extentsOf, stridesOf}
 use Rattle.layout.specs.Reach.{viewReach, bufferBounds}
 use Rattle.axis_lists.specs.Held.{numbersOf}
 use Rattle.replay.specs.Replays.{extents}
-use Rattle.gather_walk.specs.Walks.{limitAt, unlessNone}
+use Rattle.components.specs.Components.{limitAt, unlessNone}
 use Rattle.scatter_plan.specs.declared.ScatterPlan.{ScatterPlan}
 use Rattle.scatter_plan.specs.Plan.{heldScatter}
 use Rattle.scatter_same.specs.Same.{isCompiled}

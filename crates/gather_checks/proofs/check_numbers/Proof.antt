@@ -20,9 +20,6 @@ check-span-requires-2 c κs = search needs
 check-span-requires-3 : tie.Need-check-span-requires-3
 check-span-requires-3 c κs = search needs
 
-check-nested-requires : tie.Need-check-nested-requires
-check-nested-requires c κs = search needs
-
 or-else-requires : tie.Need-or-else-requires
 or-else-requires c κs = search needs
 
@@ -38,11 +35,8 @@ or-else-requires-4 c κs = search needs
 or-else-requires-5 : tie.Need-or-else-requires-5
 or-else-requires-5 c κs = search needs
 
-or-else-requires-6 : tie.Need-or-else-requires-6
-or-else-requires-6 c κs = search needs
-
 returns : tie.Need-returns
-returns c = rw (c .or-else6 .ensures, c .before .or-else5 .ensures, c .before .before .or-else4 .ensures, c .before .before .before .or-else3 .ensures, c .before .before .before .before .or-else2 .ensures, c .before .before .before .before .before .or-else .ensures, c .before .before .before .before .before .before .check-nested .ensures, c .before .before .before .before .before .before .before .check-span3 .ensures, c .before .before .before .before .before .before .before .before .check-span2 .ensures, c .before .before .before .before .before .before .before .before .before .check-span .ensures, c .before .before .before .before .before .before .before .before .before .before .check-total3 .ensures, c .before .before .before .before .before .before .before .before .before .before .before .check-total2 .ensures, c .before .before .before .before .before .before .before .before .before .before .before .before .check-total .ensures)
+returns c = rw (c .or-else5 .ensures, c .before .or-else4 .ensures, c .before .before .or-else3 .ensures, c .before .before .before .or-else2 .ensures, c .before .before .before .before .or-else .ensures, c .before .before .before .before .before .check-span3 .ensures, c .before .before .before .before .before .before .check-span2 .ensures, c .before .before .before .before .before .before .before .check-span .ensures, c .before .before .before .before .before .before .before .before .check-total3 .ensures, c .before .before .before .before .before .before .before .before .before .check-total2 .ensures, c .before .before .before .before .before .before .before .before .before .before .check-total .ensures)
 
 pub check-numbers-spec : {M : Type 1} → statement M
 check-numbers-spec =
@@ -54,11 +48,9 @@ check-numbers-spec =
     check-span-requires
     check-span-requires-2
     check-span-requires-3
-    check-nested-requires
     or-else-requires
     or-else-requires-2
     or-else-requires-3
     or-else-requires-4
     or-else-requires-5
-    or-else-requires-6
     returns)

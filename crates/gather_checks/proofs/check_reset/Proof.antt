@@ -1,7 +1,7 @@
 use mathlib.Core.Path.{sym, ap, _∙_}
 use Rattle.integer.specs.Z.{back}
 use Rattle.layout.specs.Spans.{resetOf}
-use Rattle.gather_checks.specs.Refusals.{numberFits}
+use Rattle.checks.specs.Checks.{numberFits}
 use borrow.Author.Needs.{needs}
 use Rattle.gather_checks.proofs.check_reset.Statement.{statement}
 use Rattle.gather_checks.proofs.check_reset.Tie as tie

@@ -1,24 +1,15 @@
 use mathlib.Core.Path.{_≡_, sym, ap, _∙_}
-use mathlib.Core.Bool.{true}
-use mathlib.Core.List.{List, [], _∷_}
-use Prim.Native.Nat.{ℕ, _-_, _≤_, min}
-use native.Mathlib.Omega.{arith}
 use borrow.Author.Needs.{needs}
 use borrow.Author.Tests.{not-true, not-false}
-use lib.ListN.{length, take, drop}
-use Rattle.indexing.specs.Coordinates.{others}
 use Rattle.layout.specs.Answers.{isDone}
-use Rattle.layout.specs.Layouts.{rankLimit}
 use Rattle.layout.proofs.First.{stops}
-use Rattle.axis_lists.specs.Held.{heldNumbers}
-use Rattle.gather_checks.specs.Refusals.{layoutsRefusal, refusalOf}
-use Rattle.gather_checks.specs.Given.{examinedBy}
-use Rattle.gather_checks.proofs.Found.{never, held-part, held-fits, few-others, others-held, Lengths, lengths-pass, found}
+use Rattle.checks.proofs.Held.{never}
+use Rattle.gather_checks.proofs.Found.{sizes-pass, examines-by}
 use Rattle.gather_checks.proofs.examine.Statement.{statement}
 use Rattle.gather_checks.proofs.examine.Tie as tie
 
-check-layouts-requires : tie.Need-check-layouts-requires
-check-layouts-requires c κs = search needs
+check-sizes-requires : tie.Need-check-sizes-requires
+check-sizes-requires c κs = search needs
 
 is-done-requires : tie.Need-is-done-requires
 is-done-requires c κs = search needs
@@ -27,111 +18,29 @@ unexamined-requires : tie.Need-unexamined-requires
 unexamined-requires c κs = search needs
 
 returns : tie.Need-returns
-unfolding refusalOf
 returns c =
     let e = c .unexamined .ensures in
     let f = c .before .before .is-done .ensures in
     let g = not-true _ (c .before .if1 .taken) in
-    let k = ap isDone e ∙ sym f ∙ g in
-    record { answered = e ∙ stops _ (c .before .before .before .check-layouts .ensures) f g; window = λ d. never (sym d ∙ k); batch = λ d. never (sym d ∙ k) }
+    record { answered = e ∙ stops _ (c .before .before .before .check-sizes .ensures) f g; found = λ d. never (sym d ∙ ap isDone e ∙ sym f ∙ g) }
 
-other-axes-requires : tie.Need-other-axes-requires
-other-axes-requires c κs = search needs
+check-nested-requires : tie.Need-check-nested-requires
+check-nested-requires c κs = sizes-pass _ _ _ _ _ _ (ap isDone (sym (c .before .before .check-sizes .ensures)) ∙ sym (c .before .is-done .ensures) ∙ not-false _ (c .if1 .left)) .dest
 
-slice-aggregate-other-axes : tie.Need-slice-aggregate-other-axes
-slice-aggregate-other-axes c = search needs
-
-other-axes-requires-2 : tie.Need-other-axes-requires-2
-other-axes-requires-2 c κs = search needs
-
-other-axes-requires-3 : tie.Need-other-axes-requires-3
-other-axes-requires-3 c κs = search needs
-
-sub-examine-axes : tie.Need-sub-examine-axes
-sub-examine-axes c = search needs
-
-part-examine-axes-start : tie.Need-part-examine-axes-start
-part-examine-axes-start c = search needs
-
-part-examine-axes-end : tie.Need-part-examine-axes-end
-part-examine-axes-end c =
-    let s = c .before .before .before .before .before .before .before .before .before .before .before .before .before .before .before .before .before .before in
-    held-fits (c .before .before .before .before .before .before .before .other-axes .result) (others (min (length (s .args .operand-extents .now)) rankLimit) (s .args .collapsed-slice-dims .now)) (c .before .before .before .before .before .before .before .other-axes .ensures) (few-others _ _ (omega arith))
-
-sub-examine-axes-2 : tie.Need-sub-examine-axes-2
-sub-examine-axes-2 c = search needs
-
-part-examine-axes-start-2 : tie.Need-part-examine-axes-start-2
-part-examine-axes-start-2 c = search needs
-
-part-examine-axes-end-2 : tie.Need-part-examine-axes-end-2
-part-examine-axes-end-2 c =
-    let s = c .before .before .before .before .before .before .before .before .before .before .before .before .before .before .before .before .before .before .before .before in
-    held-fits (c .before .before .before .before .before .before .before .other-axes2 .result) (others (min (length (s .args .index-extents .now)) rankLimit) (s .args .index-vector-dim ∷ [])) (c .before .before .before .before .before .before .before .other-axes2 .ensures) (few-others _ _ (omega arith))
-
-sub-examine-axes-3 : tie.Need-sub-examine-axes-3
-sub-examine-axes-3 c = search needs
-
-part-examine-axes-start-3 : tie.Need-part-examine-axes-start-3
-part-examine-axes-start-3 c = search needs
-
-part-examine-axes-end-3 : tie.Need-part-examine-axes-end-3
-part-examine-axes-end-3 c =
-    let s = c .before .before .before .before .before .before .before .before .before .before .before .before .before .before .before .before .before .before .before .before .before .before in
-    held-fits (c .before .before .before .before .before .before .before .before .other-axes3 .result) (others (min (length (s .args .dest-extents .now)) rankLimit) (s .args .offset-dims .now)) (c .before .before .before .before .before .before .before .before .other-axes3 .ensures) (few-others _ _ (omega arith))
-
-examine-axes-requires : tie.Need-examine-axes-requires
-examine-axes-requires c κs =
-    let s = c .before .before .before .before .before .before .before .before .before .before .before .before .before .before .before .before .before .before .before .before .before .before .before in
-    let l = lengths-pass _ _ _ _ _ _ (ap isDone (sym (c .before .before .before .before .before .before .before .before .before .before .before .before .before .before .before .check-layouts .ensures)) ∙ sym (c .before .before .before .before .before .before .before .before .before .before .before .before .before .before .is-done .ensures) ∙ not-false _ (c .before .before .before .before .before .before .before .before .before .before .before .before .before .if1 .left)) in
-    let n : ℕ = length (s .args .index-extents .now) in
-    let few = few-others n (s .args .index-vector-dim ∷ []) (l .index-few) in
-    let e = held-part (c .before .before .before .before .before .before .before .before .before .before .other-axes2 .result) (others n (s .args .index-vector-dim ∷ [])) (others-held _ n _ (c .before .before .before .before .before .before .before .before .before .before .other-axes2 .ensures) (l .index-few)) few in
-    record { operand = l .operand; index = l .index; dest = l .dest; few = l .dest-few; batch = omega (arith, few, ap length e) }
+examine-from-requires : tie.Need-examine-from-requires
+examine-from-requires c κs = ap isDone (sym (c .before .before .before .check-sizes .ensures)) ∙ sym (c .before .before .is-done .ensures) ∙ not-false _ (c .before .if1 .left)
 
 returns-2 : tie.Need-returns-2
-returns-2 c =
-    let s = c .before .before .before .before .before .before .before .before .before .before .before .before .before .before .before .before .before .before .before .before .before .before .before .before in
-    let done = ap isDone (sym (c .before .before .before .before .before .before .before .before .before .before .before .before .before .before .before .before .check-layouts .ensures)) ∙ sym (c .before .before .before .before .before .before .before .before .before .before .before .before .before .before .before .is-done .ensures) ∙ not-false _ (c .before .before .before .before .before .before .before .before .before .before .before .before .before .before .if1 .left) in
-    let l = lengths-pass _ _ _ _ _ _ done in
-    let oe = s .args .operand-extents .now in
-    let os = s .args .operand-strides .now in
-    let ie = s .args .index-extents .now in
-    let is = s .args .index-strides .now in
-    let de = s .args .dest-extents .now in
-    let ds = s .args .dest-strides .now in
-    let od = s .args .offset-dims .now in
-    let cd = s .args .collapsed-slice-dims .now in
-    let v = s .args .index-vector-dim in
-    let x = held-part (c .before .before .before .before .before .before .before .before .before .before .before .before .before .other-axes .result) (others (length oe) cd) (others-held _ (length oe) _ (c .before .before .before .before .before .before .before .before .before .before .before .before .before .other-axes .ensures) (l .operand-few)) (few-others (length oe) cd (l .operand-few)) in
-    let y = held-part (c .before .before .before .before .before .before .before .before .before .before .before .other-axes2 .result) (others (length ie) (v ∷ [])) (others-held _ (length ie) _ (c .before .before .before .before .before .before .before .before .before .before .before .other-axes2 .ensures) (l .index-few)) (few-others (length ie) (v ∷ []) (l .index-few)) in
-    let z = held-part (c .before .before .before .before .before .before .before .before .before .before .other-axes3 .result) (others (length de) od) (others-held _ (length de) _ (c .before .before .before .before .before .before .before .before .before .before .other-axes3 .ensures) (l .dest-few)) (few-others (length de) od (l .dest-few)) in
-    found (s .args .nested) od cd (s .args .start-index-map .now) v (s .args .slice-sizes .now) oe os ie is de ds (c .examine-axes .result) done (l .index)
-    (c .examine-axes .ensures
-    ∙ ap (λ (a : List ℕ). examinedBy oe os ie is de ds od cd (s .args .start-index-map .now) v (s .args .slice-sizes .now) (s .args .nested) a (take (c .before .before .before .before .before .before .before .before .before .before .before .other-axes2 .result .count - 0) (drop 0 (c .before .before .before .before .before .before .before .before .before .before .before .other-axes2 .result .entries))) (take (c .before .before .before .before .before .before .before .before .before .before .other-axes3 .result .count - 0) (drop 0 (c .before .before .before .before .before .before .before .before .before .before .other-axes3 .result .entries)))) x
-    ∙ ap (λ (a : List ℕ). examinedBy oe os ie is de ds od cd (s .args .start-index-map .now) v (s .args .slice-sizes .now) (s .args .nested) (others (length oe) cd) a (take (c .before .before .before .before .before .before .before .before .before .before .other-axes3 .result .count - 0) (drop 0 (c .before .before .before .before .before .before .before .before .before .before .other-axes3 .result .entries)))) y
-    ∙ ap (λ (a : List ℕ). examinedBy oe os ie is de ds od cd (s .args .start-index-map .now) v (s .args .slice-sizes .now) (s .args .nested) (others (length oe) cd) (others (length ie) (v ∷ [])) a) z)
+returns-2 c = examines-by (c .before .check-nested .ensures) (c .examine-from .ensures)
 
 pub examine-spec : {M : Type 1} → statement M
 examine-spec =
     tie.close
     (tie.spec
-    check-layouts-requires
+    check-sizes-requires
     is-done-requires
     unexamined-requires
     returns
-    other-axes-requires
-    slice-aggregate-other-axes
-    other-axes-requires-2
-    other-axes-requires-3
-    sub-examine-axes
-    part-examine-axes-start
-    part-examine-axes-end
-    sub-examine-axes-2
-    part-examine-axes-start-2
-    part-examine-axes-end-2
-    sub-examine-axes-3
-    part-examine-axes-start-3
-    part-examine-axes-end-3
-    examine-axes-requires
+    check-nested-requires
+    examine-from-requires
     returns-2)

@@ -9,7 +9,7 @@ use Rattle.integer.specs.Z.{back}
 use Rattle.indexing.specs.Coordinates.{tabulate}
 use Rattle.layout.specs.Layouts.{rankLimit}
 use Rattle.axis_lists.specs.Held.{heldSteps}
-use Rattle.gather_plan.specs.Made.{offsetOr}
+use Rattle.checks.specs.Values.{offsetOr}
 use Rattle.gather_lent.proofs.Planned.{walk-is}
 use Rattle.gather_lent.proofs.walk_lent.Statement.{statement}
 use Rattle.gather_lent.proofs.walk_lent.Tie as tie

@@ -1,83 +1,81 @@
-use mathlib.Core.Path.{_≡_}
-use native.Mathlib.Omega.{arith}
+use mathlib.Core.Path.{_≡_, sym, ap, _∙_}
+use mathlib.Core.List.{List}
+use Prim.Native.Nat.{min}
+use borrow.Author.Needs.{needs}
 use lib.ListN.{length}
+use lib.IntN.{ℤ}
 use mir.Syntax.{w64}
 use mir.Val.{SFits}
 use Rattle.integer.specs.Z.{back}
-use Rattle.layout.specs.Layouts.{stridesOf}
-use Rattle.axis_lists.specs.Held.{stepsOf}
-use Rattle.gather_checks.proofs.Read.{strides-length}
-use Rattle.gather_checks.proofs.Shape.{steps-read}
-use Rattle.gather_plan.specs.Made.{planMade}
-use borrow.Author.Needs.{needs}
+use Rattle.indexing.specs.Coordinates.{tabulate}
+use Rattle.indexing.specs.Gather.{Gather}
+use Rattle.layout.specs.Layouts.{rankLimit}
+use Rattle.axis_lists.specs.Held.{heldSteps}
+use Rattle.checks.specs.Values.{offsetOr}
+use Rattle.gather_checks.specs.Refusals.{gatherFrom}
+use Rattle.gather_plan.proofs.Planned.{fits, plan-is}
 use Rattle.gather_plan.proofs.plan_of.Statement.{statement}
 use Rattle.gather_plan.proofs.plan_of.Tie as tie
 
-eight : (s : tie.Start) → length (s .args .index .strides) ≡ 8
-eight s = search needs
+make-layout-requires : tie.Need-make-layout-requires
+make-layout-requires c κs = search needs
 
-fit : (w : tie.After-step-at) → SFits w64 (w .step-at .result)
-fit w = search needs
+make-layout-requires-2 : tie.Need-make-layout-requires-2
+make-layout-requires-2 c κs = search needs
 
--- src/lib.rt:266:9
-dest-axes-requires : tie.Need-dest-axes-requires
-dest-axes-requires c κs = search needs
+make-layout-requires-3 : tie.Need-make-layout-requires-3
+make-layout-requires-3 c κs = search needs
 
--- src/lib.rt:267:9
-strides-of-requires : tie.Need-strides-of-requires
-strides-of-requires c κs = search needs
+other-axes-requires : tie.Need-other-axes-requires
+other-axes-requires c κs = search needs
 
--- src/lib.rt:268:9
-step-at-requires : tie.Need-step-at-requires
-step-at-requires c κs = search needs
+axes-of-requires : tie.Need-axes-of-requires
+axes-of-requires c κs = let s = c .before .before .before .before .before .before .before .before .before .before .before .before .before .before in fits (gatherFrom (s .args .operand-extents .now) (s .args .operand-strides .now) (s .args .index-extents .now) (s .args .index-strides .now) (s .args .dest-extents .now) (s .args .dest-strides .now) (s .args .offset-dims .now) (s .args .collapsed-slice-dims .now) (s .args .start-index-map .now) (s .args .index-vector-dim) (s .args .slice-sizes .now)) _ _ (s .pre) .dest-rank
 
--- src/lib.rt:269:9
+stride-at-requires : tie.Need-stride-at-requires
+stride-at-requires c κs = search needs
+
 component-offsets-requires : tie.Need-component-offsets-requires
 component-offsets-requires c κs = search needs
 
--- src/lib.rt:270:9
-component-strides-requires : tie.Need-component-strides-requires
-component-strides-requires c κs = search needs
+strides-on-requires : tie.Need-strides-on-requires
+strides-on-requires c κs = search needs
 
--- src/lib.rt:271:9
 numbers-from-requires : tie.Need-numbers-from-requires
 numbers-from-requires c κs = search needs
 
--- src/lib.rt:272:9
 numbers-from-requires-2 : tie.Need-numbers-from-requires-2
 numbers-from-requires-2 c κs = search needs
 
--- src/lib.rt:273:9
 numbers-from-requires-3 : tie.Need-numbers-from-requires-3
 numbers-from-requires-3 c κs = search needs
 
--- src/lib.rt:274:9
 numbers-from-requires-4 : tie.Need-numbers-from-requires-4
 numbers-from-requires-4 c κs = search needs
 
--- src/lib.rt:275:9
 total-value-requires : tie.Need-total-value-requires
 total-value-requires c κs = search needs
 
--- src/lib.rt:254:1
 returns : tie.Need-returns
-unfolding planMade
 returns c =
-    let s = c .before .before .before .before .before .before .before .before .before .before .before .before .before .before in
-    let es = eight s in
-    let f = fit (c .before .before .before .before .before .before .before) in
-    let t : stepsOf (c .before .before .before .before .before .before .before .before .strides-of .result) ≡ stridesOf (s .args .index) = steps-read (c .before .before .before .before .before .before .before .before .strides-of .result) (stridesOf (s .args .index)) (c .before .before .before .before .before .before .before .before .strides-of .ensures) (omega (arith, strides-length (s .args .index) es)) in
-    rw (c .total-value .ensures, c .before .numbers-from4 .ensures, c .before .before .numbers-from3 .ensures, c .before .before .before .numbers-from2 .ensures, c .before .before .before .before .numbers-from .ensures, c .before .before .before .before .before .component-strides .ensures, c .before .before .before .before .before .before .component-offsets .ensures, c .before .before .before .before .before .before .before .before .before .dest-axes .ensures, back f, c .before .before .before .before .before .before .before .step-at .ensures, t)
+    let s = c .before .before .before .before .before .before .before .before .before .before .before .before .before .before .before .before .before .before .before .before .before .before .before in
+    let g : Gather = gatherFrom (s .args .operand-extents .now) (s .args .operand-strides .now) (s .args .index-extents .now) (s .args .index-strides .now) (s .args .dest-extents .now) (s .args .dest-strides .now) (s .args .offset-dims .now) (s .args .collapsed-slice-dims .now) (s .args .start-index-map .now) (s .args .index-vector-dim) (s .args .slice-sizes .now) in
+    let f : SFits w64 (c .before .before .before .before .before .before .before .stride-at .result) = search needs in
+    let o = c .before .before .before .before .before .before .component-offsets .ensures ∙ ap (λ (z : ℤ). heldSteps (tabulate (min (length (s .args .start-index-map .now)) rankLimit) (offsetOr z))) (back f ∙ c .before .before .before .before .before .before .before .stride-at .ensures) in
+    plan-is g (s .args .window) (s .args .batch) (s .pre) _ _ _ _ _ _ _ _ _ _ _ _ (c .before .before .before .before .before .before .before .before .before .before .before .before .before .before .before .make-layout .ensures) (c .before .before .before .before .before .before .before .before .before .before .before .before .before .before .make-layout2 .ensures) (c .before .before .before .before .before .before .before .before .before .before .before .before .before .make-layout3 .ensures) (c .before .before .before .before .before .before .before .before .before .other-axes .ensures) (c .before .before .before .before .before .before .before .before .axes-of .ensures) o (c .before .before .before .before .before .strides-on .ensures) (c .before .before .before .before .numbers-from .ensures) (c .before .before .before .numbers-from2 .ensures) (c .before .before .numbers-from3 .ensures) (c .before .numbers-from4 .ensures) (c .total-value .ensures)
 
 pub plan-of-spec : {M : Type 1} → statement M
 plan-of-spec =
     tie.close
     (tie.spec
-    dest-axes-requires
-    strides-of-requires
-    step-at-requires
+    make-layout-requires
+    make-layout-requires-2
+    make-layout-requires-3
+    other-axes-requires
+    axes-of-requires
+    stride-at-requires
     component-offsets-requires
-    component-strides-requires
+    strides-on-requires
     numbers-from-requires
     numbers-from-requires-2
     numbers-from-requires-3

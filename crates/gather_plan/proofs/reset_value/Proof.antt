@@ -1,7 +1,7 @@
 use mathlib.Core.Path.{sym, ap, _∙_}
 use Rattle.integer.specs.Z.{back}
 use Rattle.layout.specs.Spans.{resetOf}
-use Rattle.gather_plan.specs.Made.{valueOf}
+use Rattle.checks.specs.Values.{valueOf}
 use mir.Syntax.{w64}
 use mir.Val.{SFits}
 use borrow.Author.Needs.{needs, sfits-of}

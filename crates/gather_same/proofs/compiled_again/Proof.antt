@@ -1,9 +1,8 @@
 use mathlib.Core.Path.{_≡_, _∙_}
-use mathlib.Core.Bool.{false}
 use lib.ListN.{length}
 use Rattle.gather_checks.specs.Refusals.{gatherFrom}
-use Rattle.gather_plan.specs.Plan.{compiledGather}
-use Rattle.gather_plan.proofs.Lists.{part-fits, part-read}
+use Rattle.gather_plan.specs.Plan.{compiledAgain}
+use Rattle.checks.proofs.Lists.{part-fits, part-read}
 use borrow.Author.Needs.{needs}
 use Rattle.gather_same.proofs.compiled_again.Statement.{statement}
 use Rattle.gather_same.proofs.compiled_again.Tie as tie
@@ -40,128 +39,128 @@ axis-count-requires-7 : tie.Need-axis-count-requires-7
 axis-count-requires-7 c κs = search needs
 
 -- src/lib.rt:164:9
-sub-compile : tie.Need-sub-compile
-sub-compile c = search needs
+sub-compile-again : tie.Need-sub-compile-again
+sub-compile-again c = search needs
 
 -- src/lib.rt:164:9
-part-compile-start : tie.Need-part-compile-start
-part-compile-start c = search needs
+part-compile-again-start : tie.Need-part-compile-again-start
+part-compile-again-start c = search needs
 
 -- src/lib.rt:164:9
-part-compile-end : tie.Need-part-compile-end
-part-compile-end c = part-fits (c .before .before .before .before .before .before .before .axis-count .result) (c .before .before .before .before .before .before .before .before .before .before .before .before .before .before .before .before .before .before .before .before .before .before .before .before .before .args .plan .operand .rank) (c .before .before .before .before .before .before .before .before .before .before .before .before .before .before .before .before .before .before .before .before .before .before .before .before .before .args .plan .operand .extents) (c .before .before .before .before .before .before .before .axis-count .ensures) (eights (c .before .before .before .before .before .before .before .before .before .before .before .before .before .before .before .before .before .before .before .before .before .before .before .before .before) .0)
+part-compile-again-end : tie.Need-part-compile-again-end
+part-compile-again-end c = part-fits (c .before .before .before .before .before .before .before .axis-count .result) (c .before .before .before .before .before .before .before .before .before .before .before .before .before .before .before .before .before .before .before .before .before .before .before .before .before .args .plan .operand .rank) (c .before .before .before .before .before .before .before .before .before .before .before .before .before .before .before .before .before .before .before .before .before .before .before .before .before .args .plan .operand .extents) (c .before .before .before .before .before .before .before .axis-count .ensures) (eights (c .before .before .before .before .before .before .before .before .before .before .before .before .before .before .before .before .before .before .before .before .before .before .before .before .before) .0)
 
 -- src/lib.rt:165:9
-sub-compile-2 : tie.Need-sub-compile-2
-sub-compile-2 c = search needs
+sub-compile-again-again-2 : tie.Need-sub-compile-again-again-2
+sub-compile-again-again-2 c = search needs
 
 -- src/lib.rt:165:9
-part-compile-start-2 : tie.Need-part-compile-start-2
-part-compile-start-2 c = search needs
+part-compile-again-start-2 : tie.Need-part-compile-again-start-2
+part-compile-again-start-2 c = search needs
 
 -- src/lib.rt:165:9
-part-compile-end-2 : tie.Need-part-compile-end-2
-part-compile-end-2 c = part-fits (c .before .before .before .before .before .before .before .before .before .axis-count .result) (c .before .before .before .before .before .before .before .before .before .before .before .before .before .before .before .before .before .before .before .before .before .before .before .before .before .before .before .args .plan .operand .rank) (c .before .before .before .before .before .before .before .before .before .before .before .before .before .before .before .before .before .before .before .before .before .before .before .before .before .before .before .args .plan .operand .strides) (c .before .before .before .before .before .before .before .before .before .axis-count .ensures) (eights (c .before .before .before .before .before .before .before .before .before .before .before .before .before .before .before .before .before .before .before .before .before .before .before .before .before .before .before) .1)
+part-compile-again-end-2 : tie.Need-part-compile-again-end-2
+part-compile-again-end-2 c = part-fits (c .before .before .before .before .before .before .before .before .before .axis-count .result) (c .before .before .before .before .before .before .before .before .before .before .before .before .before .before .before .before .before .before .before .before .before .before .before .before .before .before .before .args .plan .operand .rank) (c .before .before .before .before .before .before .before .before .before .before .before .before .before .before .before .before .before .before .before .before .before .before .before .before .before .before .before .args .plan .operand .strides) (c .before .before .before .before .before .before .before .before .before .axis-count .ensures) (eights (c .before .before .before .before .before .before .before .before .before .before .before .before .before .before .before .before .before .before .before .before .before .before .before .before .before .before .before) .1)
 
 -- src/lib.rt:166:9
-sub-compile-3 : tie.Need-sub-compile-3
-sub-compile-3 c = search needs
+sub-compile-again-again-3 : tie.Need-sub-compile-again-again-3
+sub-compile-again-again-3 c = search needs
 
 -- src/lib.rt:166:9
-part-compile-start-3 : tie.Need-part-compile-start-3
-part-compile-start-3 c = search needs
+part-compile-again-start-3 : tie.Need-part-compile-again-start-3
+part-compile-again-start-3 c = search needs
 
 -- src/lib.rt:166:9
-part-compile-end-3 : tie.Need-part-compile-end-3
-part-compile-end-3 c = part-fits (c .before .before .before .before .before .before .before .before .before .before .axis-count2 .result) (c .before .before .before .before .before .before .before .before .before .before .before .before .before .before .before .before .before .before .before .before .before .before .before .before .before .before .before .before .before .args .plan .index .rank) (c .before .before .before .before .before .before .before .before .before .before .before .before .before .before .before .before .before .before .before .before .before .before .before .before .before .before .before .before .before .args .plan .index .extents) (c .before .before .before .before .before .before .before .before .before .before .axis-count2 .ensures) (eights (c .before .before .before .before .before .before .before .before .before .before .before .before .before .before .before .before .before .before .before .before .before .before .before .before .before .before .before .before .before) .2)
+part-compile-again-end-3 : tie.Need-part-compile-again-end-3
+part-compile-again-end-3 c = part-fits (c .before .before .before .before .before .before .before .before .before .before .axis-count2 .result) (c .before .before .before .before .before .before .before .before .before .before .before .before .before .before .before .before .before .before .before .before .before .before .before .before .before .before .before .before .before .args .plan .index .rank) (c .before .before .before .before .before .before .before .before .before .before .before .before .before .before .before .before .before .before .before .before .before .before .before .before .before .before .before .before .before .args .plan .index .extents) (c .before .before .before .before .before .before .before .before .before .before .axis-count2 .ensures) (eights (c .before .before .before .before .before .before .before .before .before .before .before .before .before .before .before .before .before .before .before .before .before .before .before .before .before .before .before .before .before) .2)
 
 -- src/lib.rt:167:9
-sub-compile-4 : tie.Need-sub-compile-4
-sub-compile-4 c = search needs
+sub-compile-again-again-4 : tie.Need-sub-compile-again-again-4
+sub-compile-again-again-4 c = search needs
 
 -- src/lib.rt:167:9
-part-compile-start-4 : tie.Need-part-compile-start-4
-part-compile-start-4 c = search needs
+part-compile-again-start-4 : tie.Need-part-compile-again-start-4
+part-compile-again-start-4 c = search needs
 
 -- src/lib.rt:167:9
-part-compile-end-4 : tie.Need-part-compile-end-4
-part-compile-end-4 c = part-fits (c .before .before .before .before .before .before .before .before .before .before .before .before .axis-count2 .result) (c .before .before .before .before .before .before .before .before .before .before .before .before .before .before .before .before .before .before .before .before .before .before .before .before .before .before .before .before .before .before .before .args .plan .index .rank) (c .before .before .before .before .before .before .before .before .before .before .before .before .before .before .before .before .before .before .before .before .before .before .before .before .before .before .before .before .before .before .before .args .plan .index .strides) (c .before .before .before .before .before .before .before .before .before .before .before .before .axis-count2 .ensures) (eights (c .before .before .before .before .before .before .before .before .before .before .before .before .before .before .before .before .before .before .before .before .before .before .before .before .before .before .before .before .before .before .before) .3)
+part-compile-again-end-4 : tie.Need-part-compile-again-end-4
+part-compile-again-end-4 c = part-fits (c .before .before .before .before .before .before .before .before .before .before .before .before .axis-count2 .result) (c .before .before .before .before .before .before .before .before .before .before .before .before .before .before .before .before .before .before .before .before .before .before .before .before .before .before .before .before .before .before .before .args .plan .index .rank) (c .before .before .before .before .before .before .before .before .before .before .before .before .before .before .before .before .before .before .before .before .before .before .before .before .before .before .before .before .before .before .before .args .plan .index .strides) (c .before .before .before .before .before .before .before .before .before .before .before .before .axis-count2 .ensures) (eights (c .before .before .before .before .before .before .before .before .before .before .before .before .before .before .before .before .before .before .before .before .before .before .before .before .before .before .before .before .before .before .before) .3)
 
 -- src/lib.rt:168:9
-sub-compile-5 : tie.Need-sub-compile-5
-sub-compile-5 c = search needs
+sub-compile-again-again-5 : tie.Need-sub-compile-again-again-5
+sub-compile-again-again-5 c = search needs
 
 -- src/lib.rt:168:9
-part-compile-start-5 : tie.Need-part-compile-start-5
-part-compile-start-5 c = search needs
+part-compile-again-start-5 : tie.Need-part-compile-again-start-5
+part-compile-again-start-5 c = search needs
 
 -- src/lib.rt:168:9
-part-compile-end-5 : tie.Need-part-compile-end-5
-part-compile-end-5 c = part-fits (c .before .before .before .before .before .before .before .before .before .before .before .before .before .axis-count3 .result) (c .before .before .before .before .before .before .before .before .before .before .before .before .before .before .before .before .before .before .before .before .before .before .before .before .before .before .before .before .before .before .before .before .before .args .plan .dest .rank) (c .before .before .before .before .before .before .before .before .before .before .before .before .before .before .before .before .before .before .before .before .before .before .before .before .before .before .before .before .before .before .before .before .before .args .plan .dest .extents) (c .before .before .before .before .before .before .before .before .before .before .before .before .before .axis-count3 .ensures) (eights (c .before .before .before .before .before .before .before .before .before .before .before .before .before .before .before .before .before .before .before .before .before .before .before .before .before .before .before .before .before .before .before .before .before) .4)
+part-compile-again-end-5 : tie.Need-part-compile-again-end-5
+part-compile-again-end-5 c = part-fits (c .before .before .before .before .before .before .before .before .before .before .before .before .before .axis-count3 .result) (c .before .before .before .before .before .before .before .before .before .before .before .before .before .before .before .before .before .before .before .before .before .before .before .before .before .before .before .before .before .before .before .before .before .args .plan .dest .rank) (c .before .before .before .before .before .before .before .before .before .before .before .before .before .before .before .before .before .before .before .before .before .before .before .before .before .before .before .before .before .before .before .before .before .args .plan .dest .extents) (c .before .before .before .before .before .before .before .before .before .before .before .before .before .axis-count3 .ensures) (eights (c .before .before .before .before .before .before .before .before .before .before .before .before .before .before .before .before .before .before .before .before .before .before .before .before .before .before .before .before .before .before .before .before .before) .4)
 
 -- src/lib.rt:169:9
-sub-compile-6 : tie.Need-sub-compile-6
-sub-compile-6 c = search needs
+sub-compile-again-again-6 : tie.Need-sub-compile-again-again-6
+sub-compile-again-again-6 c = search needs
 
 -- src/lib.rt:169:9
-part-compile-start-6 : tie.Need-part-compile-start-6
-part-compile-start-6 c = search needs
+part-compile-again-start-6 : tie.Need-part-compile-again-start-6
+part-compile-again-start-6 c = search needs
 
 -- src/lib.rt:169:9
-part-compile-end-6 : tie.Need-part-compile-end-6
-part-compile-end-6 c = part-fits (c .before .before .before .before .before .before .before .before .before .before .before .before .before .before .before .axis-count3 .result) (c .before .before .before .before .before .before .before .before .before .before .before .before .before .before .before .before .before .before .before .before .before .before .before .before .before .before .before .before .before .before .before .before .before .before .before .args .plan .dest .rank) (c .before .before .before .before .before .before .before .before .before .before .before .before .before .before .before .before .before .before .before .before .before .before .before .before .before .before .before .before .before .before .before .before .before .before .before .args .plan .dest .strides) (c .before .before .before .before .before .before .before .before .before .before .before .before .before .before .before .axis-count3 .ensures) (eights (c .before .before .before .before .before .before .before .before .before .before .before .before .before .before .before .before .before .before .before .before .before .before .before .before .before .before .before .before .before .before .before .before .before .before .before) .5)
+part-compile-again-end-6 : tie.Need-part-compile-again-end-6
+part-compile-again-end-6 c = part-fits (c .before .before .before .before .before .before .before .before .before .before .before .before .before .before .before .axis-count3 .result) (c .before .before .before .before .before .before .before .before .before .before .before .before .before .before .before .before .before .before .before .before .before .before .before .before .before .before .before .before .before .before .before .before .before .before .before .args .plan .dest .rank) (c .before .before .before .before .before .before .before .before .before .before .before .before .before .before .before .before .before .before .before .before .before .before .before .before .before .before .before .before .before .before .before .before .before .before .before .args .plan .dest .strides) (c .before .before .before .before .before .before .before .before .before .before .before .before .before .before .before .axis-count3 .ensures) (eights (c .before .before .before .before .before .before .before .before .before .before .before .before .before .before .before .before .before .before .before .before .before .before .before .before .before .before .before .before .before .before .before .before .before .before .before) .5)
 
 -- src/lib.rt:170:9
-sub-compile-7 : tie.Need-sub-compile-7
-sub-compile-7 c = search needs
+sub-compile-again-again-7 : tie.Need-sub-compile-again-again-7
+sub-compile-again-again-7 c = search needs
 
 -- src/lib.rt:170:9
-part-compile-start-7 : tie.Need-part-compile-start-7
-part-compile-start-7 c = search needs
+part-compile-again-start-7 : tie.Need-part-compile-again-start-7
+part-compile-again-start-7 c = search needs
 
 -- src/lib.rt:170:9
-part-compile-end-7 : tie.Need-part-compile-end-7
-part-compile-end-7 c = part-fits (c .before .before .before .before .before .before .before .before .before .before .before .before .before .before .before .before .axis-count4 .result) (c .before .before .before .before .before .before .before .before .before .before .before .before .before .before .before .before .before .before .before .before .before .before .before .before .before .before .before .before .before .before .before .before .before .before .before .before .before .args .plan .«offset_dims» .count) (c .before .before .before .before .before .before .before .before .before .before .before .before .before .before .before .before .before .before .before .before .before .before .before .before .before .before .before .before .before .before .before .before .before .before .before .before .before .args .plan .«offset_dims» .entries) (c .before .before .before .before .before .before .before .before .before .before .before .before .before .before .before .before .axis-count4 .ensures) (eights (c .before .before .before .before .before .before .before .before .before .before .before .before .before .before .before .before .before .before .before .before .before .before .before .before .before .before .before .before .before .before .before .before .before .before .before .before .before) .6)
+part-compile-again-end-7 : tie.Need-part-compile-again-end-7
+part-compile-again-end-7 c = part-fits (c .before .before .before .before .before .before .before .before .before .before .before .before .before .before .before .before .axis-count4 .result) (c .before .before .before .before .before .before .before .before .before .before .before .before .before .before .before .before .before .before .before .before .before .before .before .before .before .before .before .before .before .before .before .before .before .before .before .before .before .args .plan .«offset_dims» .count) (c .before .before .before .before .before .before .before .before .before .before .before .before .before .before .before .before .before .before .before .before .before .before .before .before .before .before .before .before .before .before .before .before .before .before .before .before .before .args .plan .«offset_dims» .entries) (c .before .before .before .before .before .before .before .before .before .before .before .before .before .before .before .before .axis-count4 .ensures) (eights (c .before .before .before .before .before .before .before .before .before .before .before .before .before .before .before .before .before .before .before .before .before .before .before .before .before .before .before .before .before .before .before .before .before .before .before .before .before) .6)
 
 -- src/lib.rt:171:9
-sub-compile-8 : tie.Need-sub-compile-8
-sub-compile-8 c = search needs
+sub-compile-again-again-8 : tie.Need-sub-compile-again-again-8
+sub-compile-again-again-8 c = search needs
 
 -- src/lib.rt:171:9
-part-compile-start-8 : tie.Need-part-compile-start-8
-part-compile-start-8 c = search needs
+part-compile-again-start-8 : tie.Need-part-compile-again-start-8
+part-compile-again-start-8 c = search needs
 
 -- src/lib.rt:171:9
-part-compile-end-8 : tie.Need-part-compile-end-8
-part-compile-end-8 c = part-fits (c .before .before .before .before .before .before .before .before .before .before .before .before .before .before .before .before .before .axis-count5 .result) (c .before .before .before .before .before .before .before .before .before .before .before .before .before .before .before .before .before .before .before .before .before .before .before .before .before .before .before .before .before .before .before .before .before .before .before .before .before .before .before .args .plan .«collapsed_slice_dims» .count) (c .before .before .before .before .before .before .before .before .before .before .before .before .before .before .before .before .before .before .before .before .before .before .before .before .before .before .before .before .before .before .before .before .before .before .before .before .before .before .before .args .plan .«collapsed_slice_dims» .entries) (c .before .before .before .before .before .before .before .before .before .before .before .before .before .before .before .before .before .axis-count5 .ensures) (eights (c .before .before .before .before .before .before .before .before .before .before .before .before .before .before .before .before .before .before .before .before .before .before .before .before .before .before .before .before .before .before .before .before .before .before .before .before .before .before .before) .7)
+part-compile-again-end-8 : tie.Need-part-compile-again-end-8
+part-compile-again-end-8 c = part-fits (c .before .before .before .before .before .before .before .before .before .before .before .before .before .before .before .before .before .axis-count5 .result) (c .before .before .before .before .before .before .before .before .before .before .before .before .before .before .before .before .before .before .before .before .before .before .before .before .before .before .before .before .before .before .before .before .before .before .before .before .before .before .before .args .plan .«collapsed_slice_dims» .count) (c .before .before .before .before .before .before .before .before .before .before .before .before .before .before .before .before .before .before .before .before .before .before .before .before .before .before .before .before .before .before .before .before .before .before .before .before .before .before .before .args .plan .«collapsed_slice_dims» .entries) (c .before .before .before .before .before .before .before .before .before .before .before .before .before .before .before .before .before .axis-count5 .ensures) (eights (c .before .before .before .before .before .before .before .before .before .before .before .before .before .before .before .before .before .before .before .before .before .before .before .before .before .before .before .before .before .before .before .before .before .before .before .before .before .before .before) .7)
 
 -- src/lib.rt:172:9
-sub-compile-9 : tie.Need-sub-compile-9
-sub-compile-9 c = search needs
+sub-compile-again-again-9 : tie.Need-sub-compile-again-again-9
+sub-compile-again-again-9 c = search needs
 
 -- src/lib.rt:172:9
-part-compile-start-9 : tie.Need-part-compile-start-9
-part-compile-start-9 c = search needs
+part-compile-again-start-9 : tie.Need-part-compile-again-start-9
+part-compile-again-start-9 c = search needs
 
 -- src/lib.rt:172:9
-part-compile-end-9 : tie.Need-part-compile-end-9
-part-compile-end-9 c = part-fits (c .before .before .before .before .before .before .before .before .before .before .before .before .before .before .before .before .before .before .axis-count6 .result) (c .before .before .before .before .before .before .before .before .before .before .before .before .before .before .before .before .before .before .before .before .before .before .before .before .before .before .before .before .before .before .before .before .before .before .before .before .before .before .before .before .before .args .plan .«start_index_map» .count) (c .before .before .before .before .before .before .before .before .before .before .before .before .before .before .before .before .before .before .before .before .before .before .before .before .before .before .before .before .before .before .before .before .before .before .before .before .before .before .before .before .before .args .plan .«start_index_map» .entries) (c .before .before .before .before .before .before .before .before .before .before .before .before .before .before .before .before .before .before .axis-count6 .ensures) (eights (c .before .before .before .before .before .before .before .before .before .before .before .before .before .before .before .before .before .before .before .before .before .before .before .before .before .before .before .before .before .before .before .before .before .before .before .before .before .before .before .before .before) .8)
+part-compile-again-end-9 : tie.Need-part-compile-again-end-9
+part-compile-again-end-9 c = part-fits (c .before .before .before .before .before .before .before .before .before .before .before .before .before .before .before .before .before .before .axis-count6 .result) (c .before .before .before .before .before .before .before .before .before .before .before .before .before .before .before .before .before .before .before .before .before .before .before .before .before .before .before .before .before .before .before .before .before .before .before .before .before .before .before .before .before .args .plan .«start_index_map» .count) (c .before .before .before .before .before .before .before .before .before .before .before .before .before .before .before .before .before .before .before .before .before .before .before .before .before .before .before .before .before .before .before .before .before .before .before .before .before .before .before .before .before .args .plan .«start_index_map» .entries) (c .before .before .before .before .before .before .before .before .before .before .before .before .before .before .before .before .before .before .axis-count6 .ensures) (eights (c .before .before .before .before .before .before .before .before .before .before .before .before .before .before .before .before .before .before .before .before .before .before .before .before .before .before .before .before .before .before .before .before .before .before .before .before .before .before .before .before .before) .8)
 
 -- src/lib.rt:174:9
-sub-compile-10 : tie.Need-sub-compile-10
-sub-compile-10 c = search needs
+sub-compile-again-again-10 : tie.Need-sub-compile-again-again-10
+sub-compile-again-again-10 c = search needs
 
 -- src/lib.rt:174:9
-part-compile-start-10 : tie.Need-part-compile-start-10
-part-compile-start-10 c = search needs
+part-compile-again-start-10 : tie.Need-part-compile-again-start-10
+part-compile-again-start-10 c = search needs
 
 -- src/lib.rt:174:9
-part-compile-end-10 : tie.Need-part-compile-end-10
-part-compile-end-10 c = part-fits (c .before .before .before .before .before .before .before .before .before .before .before .before .before .before .before .before .before .before .before .axis-count7 .result) (c .before .before .before .before .before .before .before .before .before .before .before .before .before .before .before .before .before .before .before .before .before .before .before .before .before .before .before .before .before .before .before .before .before .before .before .before .before .before .before .before .before .before .before .args .plan .«slice_sizes» .count) (c .before .before .before .before .before .before .before .before .before .before .before .before .before .before .before .before .before .before .before .before .before .before .before .before .before .before .before .before .before .before .before .before .before .before .before .before .before .before .before .before .before .before .before .args .plan .«slice_sizes» .entries) (c .before .before .before .before .before .before .before .before .before .before .before .before .before .before .before .before .before .before .before .axis-count7 .ensures) (eights (c .before .before .before .before .before .before .before .before .before .before .before .before .before .before .before .before .before .before .before .before .before .before .before .before .before .before .before .before .before .before .before .before .before .before .before .before .before .before .before .before .before .before .before) .9)
+part-compile-again-end-10 : tie.Need-part-compile-again-end-10
+part-compile-again-end-10 c = part-fits (c .before .before .before .before .before .before .before .before .before .before .before .before .before .before .before .before .before .before .before .axis-count7 .result) (c .before .before .before .before .before .before .before .before .before .before .before .before .before .before .before .before .before .before .before .before .before .before .before .before .before .before .before .before .before .before .before .before .before .before .before .before .before .before .before .before .before .before .before .args .plan .«slice_sizes» .count) (c .before .before .before .before .before .before .before .before .before .before .before .before .before .before .before .before .before .before .before .before .before .before .before .before .before .before .before .before .before .before .before .before .before .before .before .before .before .before .before .before .before .before .before .args .plan .«slice_sizes» .entries) (c .before .before .before .before .before .before .before .before .before .before .before .before .before .before .before .before .before .before .before .axis-count7 .ensures) (eights (c .before .before .before .before .before .before .before .before .before .before .before .before .before .before .before .before .before .before .before .before .before .before .before .before .before .before .before .before .before .before .before .before .before .before .before .before .before .before .before .before .before .before .before) .9)
 
 -- src/lib.rt:163:5
-compile-requires : tie.Need-compile-requires
-compile-requires c κs = search needs
+compile-again-requires : tie.Need-compile-again-requires
+compile-again-requires c κs = search needs
 
 -- src/lib.rt:136:1
 returns : tie.Need-returns
@@ -177,7 +176,7 @@ returns c =
     let cd = part-read (c .before .before .before .before .before .before .before .before .before .before .before .before .before .before .before .before .before .before .before .before .before .before .before .axis-count5 .result) (s .args .plan .«collapsed_slice_dims» .count) (s .args .plan .«collapsed_slice_dims» .entries) (c .before .before .before .before .before .before .before .before .before .before .before .before .before .before .before .before .before .before .before .before .before .before .before .axis-count5 .ensures) (eights s .7) in
     let sm = part-read (c .before .before .before .before .before .before .before .before .before .before .before .before .before .before .before .before .before .before .before .before .before .before .axis-count6 .result) (s .args .plan .«start_index_map» .count) (s .args .plan .«start_index_map» .entries) (c .before .before .before .before .before .before .before .before .before .before .before .before .before .before .before .before .before .before .before .before .before .before .axis-count6 .ensures) (eights s .8) in
     let ss = part-read (c .before .before .before .before .before .before .before .before .before .before .before .before .before .before .before .before .before .before .before .before .before .axis-count7 .result) (s .args .plan .«slice_sizes» .count) (s .args .plan .«slice_sizes» .entries) (c .before .before .before .before .before .before .before .before .before .before .before .before .before .before .before .before .before .before .before .before .before .axis-count7 .ensures) (eights s .9) in
-    c .compile .ensures ∙ λ i. compiledGather false (gatherFrom (oe i) (os i) (ie i) (is i) (de i) (ds i) (od i) (cd i) (sm i) (s .args .plan .«index_vector_dim») (ss i))
+    c .compile-again .ensures ∙ λ i. compiledAgain (gatherFrom (oe i) (os i) (ie i) (is i) (de i) (ds i) (od i) (cd i) (sm i) (s .args .plan .«index_vector_dim») (ss i))
 
 pub compiled-again-spec : {M : Type 1} → statement M
 compiled-again-spec =
@@ -190,35 +189,35 @@ compiled-again-spec =
     axis-count-requires-5
     axis-count-requires-6
     axis-count-requires-7
-    sub-compile
-    part-compile-start
-    part-compile-end
-    sub-compile-2
-    part-compile-start-2
-    part-compile-end-2
-    sub-compile-3
-    part-compile-start-3
-    part-compile-end-3
-    sub-compile-4
-    part-compile-start-4
-    part-compile-end-4
-    sub-compile-5
-    part-compile-start-5
-    part-compile-end-5
-    sub-compile-6
-    part-compile-start-6
-    part-compile-end-6
-    sub-compile-7
-    part-compile-start-7
-    part-compile-end-7
-    sub-compile-8
-    part-compile-start-8
-    part-compile-end-8
-    sub-compile-9
-    part-compile-start-9
-    part-compile-end-9
-    sub-compile-10
-    part-compile-start-10
-    part-compile-end-10
-    compile-requires
+    sub-compile-again
+    part-compile-again-start
+    part-compile-again-end
+    sub-compile-again-again-2
+    part-compile-again-start-2
+    part-compile-again-end-2
+    sub-compile-again-again-3
+    part-compile-again-start-3
+    part-compile-again-end-3
+    sub-compile-again-again-4
+    part-compile-again-start-4
+    part-compile-again-end-4
+    sub-compile-again-again-5
+    part-compile-again-start-5
+    part-compile-again-end-5
+    sub-compile-again-again-6
+    part-compile-again-start-6
+    part-compile-again-end-6
+    sub-compile-again-again-7
+    part-compile-again-start-7
+    part-compile-again-end-7
+    sub-compile-again-again-8
+    part-compile-again-start-8
+    part-compile-again-end-8
+    sub-compile-again-again-9
+    part-compile-again-start-9
+    part-compile-again-end-9
+    sub-compile-again-again-10
+    part-compile-again-start-10
+    part-compile-again-end-10
+    compile-again-requires
     returns)

@@ -1,7 +1,7 @@
 use mathlib.Core.Path.{_≡_, _∙_}
 use mathlib.Core.Bool.{true}
 use lib.ListN.{length}
-use Rattle.gather_plan.proofs.Lists.{part-fits, part-read}
+use Rattle.checks.proofs.Lists.{part-fits, part-read}
 use Rattle.job_runs.proofs.Running.{part-fits-16, part-read-16}
 use Rattle.gather_checks.specs.Refusals.{gatherFrom}
 use Rattle.gather_plan.specs.Plan.{compiledGather}

@@ -6,8 +6,7 @@ use mir.Syntax.{w64}
 use mir.Val.{SFits}
 use Rattle.integer.specs.Z.{back}
 use Rattle.indexing.specs.Scatter.{Scatter, windowShape}
-use Rattle.checks.specs.Checks.{firstOf}
-use Rattle.gather_checks.specs.Refusals.{offsetFits}
+use Rattle.checks.specs.Checks.{firstOf, offsetFits}
 use Rattle.scatter_checks.specs.Refusals.{scatterFrom, walksRefusal, batchWalk, windowWalk}
 use Rattle.scatter_checks.specs.Examine.{walked}
 use Rattle.scatter_checks.proofs.Rest.{refused-is, walked-is, same-batch, same-window, batch-few, window-few, windows-are, batch-total, batch-walk, window-walk, walks-are}

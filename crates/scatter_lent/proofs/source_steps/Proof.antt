@@ -11,7 +11,7 @@ use Rattle.indexing.specs.Cuts.{length-tabulate}
 use Rattle.layout.specs.Layouts.{rankLimit}
 use Rattle.axis_lists.proofs.Filling.{written, one-written, all-written}
 use Rattle.replay.specs.Replays.{theAxis, rowsOf}
-use Rattle.gather_walk.proofs.Full.{full}
+use Rattle.components.proofs.Padded.{full}
 use Rattle.scatter_walk.specs.Walks.{stepsAt}
 use Rattle.scatter_lent.proofs.Steps.{step-at}
 use borrow.Author.Needs.{needs}

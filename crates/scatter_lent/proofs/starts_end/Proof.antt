@@ -6,7 +6,7 @@ use lib.ListN.{length}
 use Rattle.indexing.specs.Coordinates.{pick, spread, others, tabulate}
 use Rattle.indexing.specs.Axes.{length-spread}
 use Rattle.layout.specs.Layouts.{rankLimit, padded}
-use Rattle.gather_walk.specs.Walks.{limitAt}
+use Rattle.components.specs.Components.{limitAt}
 use Rattle.scatter_checks.proofs.Read.{filled-part, others-few, others-part}
 use borrow.Author.Needs.{needs}
 use Rattle.scatter_lent.proofs.starts_end.Statement.{statement}

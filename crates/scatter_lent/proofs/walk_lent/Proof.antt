@@ -14,8 +14,8 @@ use Rattle.axis_lists.specs.Held.{heldSteps}
 use Rattle.axis_lists.specs.declared.Steps.{Steps}
 use Rattle.replay.specs.declared.WindowReplay.{WindowReplay}
 use Rattle.replay.specs.Replays.{extents, rowsOf}
-use Rattle.gather_plan.specs.Made.{offsetOr}
-use Rattle.gather_walk.specs.Walks.{unlessNone}
+use Rattle.checks.specs.Values.{offsetOr}
+use Rattle.components.specs.Components.{unlessNone}
 use Rattle.scatter_checks.specs.Refusals.{scatterFrom}
 use Rattle.scatter_plan.specs.Made.{made}
 use Rattle.scatter_plan.proofs.Accepted.{Accepted}

@@ -5,7 +5,7 @@ use native.Mathlib.Omega.{arith}
 use lib.ListN.{length}
 use Rattle.indexing.specs.Coordinates.{pick}
 use Rattle.axis_lists.proofs.Filling.{length-others}
-use Rattle.gather_plan.specs.Made.{totalOr}
+use Rattle.checks.specs.Values.{totalOr}
 use Rattle.scatter_checks.proofs.Read.{others-few, others-part}
 use borrow.Author.Needs.{needs}
 use Rattle.scatter_plan.proofs.batch_count.Statement.{statement}

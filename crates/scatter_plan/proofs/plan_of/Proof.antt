@@ -10,9 +10,9 @@ use Rattle.indexing.specs.Coordinates.{pick, tabulate}
 use Rattle.indexing.specs.Scatter.{scatterDims, windowDims, batchShape, windowShape, windows}
 use Rattle.layout.specs.Layouts.{rankLimit}
 use Rattle.axis_lists.specs.Held.{heldSteps}
-use Rattle.gather_checks.proofs.Made as M
-use Rattle.gather_plan.specs.Made.{offsetOr}
-use Rattle.gather_plan.proofs.Accepted.{strides-yes, rank-yes}
+use Rattle.checks.proofs.Made as M
+use Rattle.checks.specs.Values.{offsetOr}
+use Rattle.checks.proofs.Fits.{strides-yes, rank-yes}
 use Rattle.scatter_plan.specs.Made.{made}
 use borrow.Author.Needs.{needs}
 use Rattle.scatter_plan.proofs.plan_of.Statement.{statement}

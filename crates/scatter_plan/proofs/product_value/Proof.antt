@@ -4,7 +4,7 @@ use lib.ListN.{length}
 use Rattle.indexing.specs.Coordinates.{pick}
 use Rattle.indexing.specs.Axes.{length-pick}
 use Rattle.layout.specs.Spans.{totalOf}
-use Rattle.gather_plan.specs.Made.{valueOfU}
+use Rattle.checks.specs.Values.{valueOfU}
 use Rattle.scatter_checks.proofs.Read.{filled-part}
 use borrow.Author.Needs.{needs}
 use Rattle.scatter_plan.proofs.product_value.Statement.{statement}

@@ -2,7 +2,7 @@ use mathlib.Core.Path.{ap, _∙_}
 use lib.ListN.{replicate}
 use lib.IntN.{pos}
 use Rattle.layout.specs.Layouts.{rankLimit}
-use Rattle.gather_walk.specs.Walks.{unlessNone}
+use Rattle.components.specs.Components.{unlessNone}
 use Rattle.scatter_walk.specs.Walks.{walkOf}
 use borrow.Author.Needs.{needs}
 use Rattle.scatter_walk.proofs.walk_of.Statement.{statement}
