@@ -1,2 +1,4 @@
 pub mod Covers
 pub mod Sums
+pub mod Same
+pub mod Does

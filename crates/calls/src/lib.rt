@@ -6,6 +6,7 @@ ghost use Rattle.integer.specs.Defs.{eqZ};
 ghost use Rattle.layout.specs.Answers.{orElse};
 ghost use Rattle.layout.specs.Layouts.{extentsOf, stridesOf};
 ghost use Rattle.layout.specs.Reach.{bufferBounds};
+ghost use Rattle.axis_lists.specs.Held.{Decides};
 ghost use Rattle.equality.specs.Same.{sameBy};
 ghost use Rattle.calls.specs.Calls.{planRefusal};
 use layout::Answer;
@@ -13,7 +14,7 @@ use layout::Layout;
 use layout::Reach;
 
 fn same_extents(a: &[u64], b: &[u64]) -> bool
-    ensures { λ r. ⌜ r ≡ sameBy eqb (now (a .entry)) (now (b .entry)) ⌝ }
+    ensures { λ r. ⌜ Decides r (now (a .entry)) (now (b .entry)) ⌝ }
 {
     if a.len() != b.len() {
         return false;
@@ -29,7 +30,7 @@ fn same_extents(a: &[u64], b: &[u64]) -> bool
 }
 
 fn same_strides(a: &[i64], b: &[i64]) -> bool
-    ensures { λ r. ⌜ r ≡ sameBy eqZ (now (a .entry)) (now (b .entry)) ⌝ }
+    ensures { λ r. ⌜ Decides r (now (a .entry)) (now (b .entry)) ⌝ }
 {
     if a.len() != b.len() {
         return false;

@@ -38,7 +38,7 @@ module _ {A : Type 0} (test : A → A → Bool) (d : A) (xs ys : List A) (i : �
   same-ends h k = rw (drop-of-length-le xs h, drop-of-length-le ys k)
 
 -- ---- signed numbers, by their bits
-both-ways : (t u : Bool) → (t ≡ true → u ≡ true) → (u ≡ true → t ≡ true) → t ≡ u
+pub both-ways : (t u : Bool) → (t ≡ true → u ≡ true) → (u ≡ true → t ≡ true) → t ≡ u
 both-ways true u f g = sym (f refl)
 both-ways false true f g = g refl
 both-ways false false f g = refl

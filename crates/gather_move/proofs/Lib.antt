@@ -1,6 +1,4 @@
 pub mod Accepts
-pub mod Covers
-pub mod Full
-pub mod Planned
-pub mod Walking
+pub mod Numbers
+pub mod Moving
 pub mod Parts

@@ -1,2 +1,1 @@
--- what a plan's walk is run with
-pub mod Walks
+pub mod Prepared

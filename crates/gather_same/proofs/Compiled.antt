@@ -2,7 +2,8 @@
 use mathlib.Core.Path.{_≡_, refl, sym, ap, _∙_}
 use mathlib.Core.Bool.{true, false}
 use Rattle.indexing.specs.Coordinates.{othersFrom}
-use Rattle.indexing.specs.Gather.{Gather}
+use Rattle.indexing.specs.Gather.{Gather, shownDims, batchDims}
+use Rattle.indexing.specs.Steps.{windowSteps, batchSteps}
 use Rattle.layout.specs.declared.Answer.{Answer}
 use Rattle.layout.specs.declared.Answer.the-variants as A
 use Rattle.layout.specs.Answers.{isDone}
@@ -38,7 +39,7 @@ refused-not-compiled = refl
 
 -- WHAT COMPILE GIVES is compiled
 pub compile-is-compiled : (four : Answer) (g : Gather) → isDone (refusalOf four g) ≡ true → isCompiled (compiledBy (refusalOf four g) g .plan) ≡ true
-unfolding specRefusal
+unfolding specRefusal windowSteps batchSteps shownDims batchDims
 compile-is-compiled four g e =
     let h = held-again g (accepted g four e) in
     ap isCompiled (compiled-plan (refusalOf four g) g e)

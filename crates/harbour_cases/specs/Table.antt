@@ -13,7 +13,7 @@ use Rattle.integer.specs.declared.CheckedU.the-variants as U
 use Rattle.indexing.specs.Coordinates.{product, unravel, plus, dotℤ, placeOf, tabulate, pick, spread, has, othersFrom}
 use Rattle.indexing.specs.Start.{indexCoordinate, startIndex, clamp, startOn, fullStart}
 use Rattle.indexing.specs.Gather.{Gather, cells, batchDims, shownDims, gatherStart, fullOffset, operandIndex, readAt, writeAt, reads as readsOf, copyEach, gathered}
-use Rattle.indexing.specs.Scatter.{Scatter, scatterDims, windowDims, batchShape, windowShape, windows, updateIndex, fullWindow, resultIndex, updateAt, landsAt, joined, cuts, combined, scatteredI32}
+use Rattle.indexing.specs.Scatter.{Scatter, scatterDims, windowDims, batchShape, windowShape, windows, updateIndex, fullWindow, resultIndex, updateAt, landsAt, joined, cuts, combined, scattered, scatteredI32}
 use Rattle.indexing.specs.Answers.{harbourWindows, harbourCuts}
 use Rattle.layout.specs.Spans.{totalFrom, totalOf, reachOf, resetOf}
 use Rattle.layout.specs.Nested.{hasZero, longAxes, insert, ordered, exceeds, nested}
@@ -62,5 +62,5 @@ All (c ∷ cs) = Holds c × All cs
 
 -- EVERY CASE of the table holds
 pub harbour : All table
-unfolding table totalFrom checkedU resetOf reachOf checked nested hasZero longAxes insert ordered exceeds wrap32 gathered readsOf copyEach readAt writeAt operandIndex fullOffset gatherStart shownDims batchDims cells scatteredI32 combined cuts joined landsAt updateAt resultIndex fullWindow updateIndex windows windowShape batchShape windowDims scatterDims fullStart startOn clamp startIndex indexCoordinate placeOf dotℤ plus unravel product tabulate pick spread has othersFrom
+unfolding table totalFrom checkedU resetOf reachOf checked nested hasZero longAxes insert ordered exceeds wrap32 gathered readsOf copyEach readAt writeAt operandIndex fullOffset gatherStart shownDims batchDims cells scattered combined cuts joined landsAt updateAt resultIndex fullWindow updateIndex windows windowShape batchShape windowDims scatterDims fullStart startOn clamp startIndex indexCoordinate placeOf dotℤ plus unravel product tabulate pick spread has othersFrom
 harbour = (refl, (refl, (refl, (refl, (refl, (refl, (refl, (refl, (refl, (refl, (refl, (refl, (refl, (refl, tt))))))))))))))

@@ -51,8 +51,8 @@ part-compile-again-end : tie.Need-part-compile-again-end
 part-compile-again-end c = part-fits (c .before .before .before .before .before .before .before .axis-count .result) (c .before .before .before .before .before .before .before .before .before .before .before .before .before .before .before .before .before .before .before .before .before .before .before .before .before .args .plan .operand .rank) (c .before .before .before .before .before .before .before .before .before .before .before .before .before .before .before .before .before .before .before .before .before .before .before .before .before .args .plan .operand .extents) (c .before .before .before .before .before .before .before .axis-count .ensures) (eights (c .before .before .before .before .before .before .before .before .before .before .before .before .before .before .before .before .before .before .before .before .before .before .before .before .before) .0)
 
 -- src/lib.rt:165:9
-sub-compile-again-again-2 : tie.Need-sub-compile-again-again-2
-sub-compile-again-again-2 c = search needs
+sub-compile-again-2 : tie.Need-sub-compile-again-2
+sub-compile-again-2 c = search needs
 
 -- src/lib.rt:165:9
 part-compile-again-start-2 : tie.Need-part-compile-again-start-2
@@ -63,8 +63,8 @@ part-compile-again-end-2 : tie.Need-part-compile-again-end-2
 part-compile-again-end-2 c = part-fits (c .before .before .before .before .before .before .before .before .before .axis-count .result) (c .before .before .before .before .before .before .before .before .before .before .before .before .before .before .before .before .before .before .before .before .before .before .before .before .before .before .before .args .plan .operand .rank) (c .before .before .before .before .before .before .before .before .before .before .before .before .before .before .before .before .before .before .before .before .before .before .before .before .before .before .before .args .plan .operand .strides) (c .before .before .before .before .before .before .before .before .before .axis-count .ensures) (eights (c .before .before .before .before .before .before .before .before .before .before .before .before .before .before .before .before .before .before .before .before .before .before .before .before .before .before .before) .1)
 
 -- src/lib.rt:166:9
-sub-compile-again-again-3 : tie.Need-sub-compile-again-again-3
-sub-compile-again-again-3 c = search needs
+sub-compile-again-3 : tie.Need-sub-compile-again-3
+sub-compile-again-3 c = search needs
 
 -- src/lib.rt:166:9
 part-compile-again-start-3 : tie.Need-part-compile-again-start-3
@@ -75,8 +75,8 @@ part-compile-again-end-3 : tie.Need-part-compile-again-end-3
 part-compile-again-end-3 c = part-fits (c .before .before .before .before .before .before .before .before .before .before .axis-count2 .result) (c .before .before .before .before .before .before .before .before .before .before .before .before .before .before .before .before .before .before .before .before .before .before .before .before .before .before .before .before .before .args .plan .index .rank) (c .before .before .before .before .before .before .before .before .before .before .before .before .before .before .before .before .before .before .before .before .before .before .before .before .before .before .before .before .before .args .plan .index .extents) (c .before .before .before .before .before .before .before .before .before .before .axis-count2 .ensures) (eights (c .before .before .before .before .before .before .before .before .before .before .before .before .before .before .before .before .before .before .before .before .before .before .before .before .before .before .before .before .before) .2)
 
 -- src/lib.rt:167:9
-sub-compile-again-again-4 : tie.Need-sub-compile-again-again-4
-sub-compile-again-again-4 c = search needs
+sub-compile-again-4 : tie.Need-sub-compile-again-4
+sub-compile-again-4 c = search needs
 
 -- src/lib.rt:167:9
 part-compile-again-start-4 : tie.Need-part-compile-again-start-4
@@ -87,8 +87,8 @@ part-compile-again-end-4 : tie.Need-part-compile-again-end-4
 part-compile-again-end-4 c = part-fits (c .before .before .before .before .before .before .before .before .before .before .before .before .axis-count2 .result) (c .before .before .before .before .before .before .before .before .before .before .before .before .before .before .before .before .before .before .before .before .before .before .before .before .before .before .before .before .before .before .before .args .plan .index .rank) (c .before .before .before .before .before .before .before .before .before .before .before .before .before .before .before .before .before .before .before .before .before .before .before .before .before .before .before .before .before .before .before .args .plan .index .strides) (c .before .before .before .before .before .before .before .before .before .before .before .before .axis-count2 .ensures) (eights (c .before .before .before .before .before .before .before .before .before .before .before .before .before .before .before .before .before .before .before .before .before .before .before .before .before .before .before .before .before .before .before) .3)
 
 -- src/lib.rt:168:9
-sub-compile-again-again-5 : tie.Need-sub-compile-again-again-5
-sub-compile-again-again-5 c = search needs
+sub-compile-again-5 : tie.Need-sub-compile-again-5
+sub-compile-again-5 c = search needs
 
 -- src/lib.rt:168:9
 part-compile-again-start-5 : tie.Need-part-compile-again-start-5
@@ -99,8 +99,8 @@ part-compile-again-end-5 : tie.Need-part-compile-again-end-5
 part-compile-again-end-5 c = part-fits (c .before .before .before .before .before .before .before .before .before .before .before .before .before .axis-count3 .result) (c .before .before .before .before .before .before .before .before .before .before .before .before .before .before .before .before .before .before .before .before .before .before .before .before .before .before .before .before .before .before .before .before .before .args .plan .dest .rank) (c .before .before .before .before .before .before .before .before .before .before .before .before .before .before .before .before .before .before .before .before .before .before .before .before .before .before .before .before .before .before .before .before .before .args .plan .dest .extents) (c .before .before .before .before .before .before .before .before .before .before .before .before .before .axis-count3 .ensures) (eights (c .before .before .before .before .before .before .before .before .before .before .before .before .before .before .before .before .before .before .before .before .before .before .before .before .before .before .before .before .before .before .before .before .before) .4)
 
 -- src/lib.rt:169:9
-sub-compile-again-again-6 : tie.Need-sub-compile-again-again-6
-sub-compile-again-again-6 c = search needs
+sub-compile-again-6 : tie.Need-sub-compile-again-6
+sub-compile-again-6 c = search needs
 
 -- src/lib.rt:169:9
 part-compile-again-start-6 : tie.Need-part-compile-again-start-6
@@ -111,8 +111,8 @@ part-compile-again-end-6 : tie.Need-part-compile-again-end-6
 part-compile-again-end-6 c = part-fits (c .before .before .before .before .before .before .before .before .before .before .before .before .before .before .before .axis-count3 .result) (c .before .before .before .before .before .before .before .before .before .before .before .before .before .before .before .before .before .before .before .before .before .before .before .before .before .before .before .before .before .before .before .before .before .before .before .args .plan .dest .rank) (c .before .before .before .before .before .before .before .before .before .before .before .before .before .before .before .before .before .before .before .before .before .before .before .before .before .before .before .before .before .before .before .before .before .before .before .args .plan .dest .strides) (c .before .before .before .before .before .before .before .before .before .before .before .before .before .before .before .axis-count3 .ensures) (eights (c .before .before .before .before .before .before .before .before .before .before .before .before .before .before .before .before .before .before .before .before .before .before .before .before .before .before .before .before .before .before .before .before .before .before .before) .5)
 
 -- src/lib.rt:170:9
-sub-compile-again-again-7 : tie.Need-sub-compile-again-again-7
-sub-compile-again-again-7 c = search needs
+sub-compile-again-7 : tie.Need-sub-compile-again-7
+sub-compile-again-7 c = search needs
 
 -- src/lib.rt:170:9
 part-compile-again-start-7 : tie.Need-part-compile-again-start-7
@@ -123,8 +123,8 @@ part-compile-again-end-7 : tie.Need-part-compile-again-end-7
 part-compile-again-end-7 c = part-fits (c .before .before .before .before .before .before .before .before .before .before .before .before .before .before .before .before .axis-count4 .result) (c .before .before .before .before .before .before .before .before .before .before .before .before .before .before .before .before .before .before .before .before .before .before .before .before .before .before .before .before .before .before .before .before .before .before .before .before .before .args .plan .«offset_dims» .count) (c .before .before .before .before .before .before .before .before .before .before .before .before .before .before .before .before .before .before .before .before .before .before .before .before .before .before .before .before .before .before .before .before .before .before .before .before .before .args .plan .«offset_dims» .entries) (c .before .before .before .before .before .before .before .before .before .before .before .before .before .before .before .before .axis-count4 .ensures) (eights (c .before .before .before .before .before .before .before .before .before .before .before .before .before .before .before .before .before .before .before .before .before .before .before .before .before .before .before .before .before .before .before .before .before .before .before .before .before) .6)
 
 -- src/lib.rt:171:9
-sub-compile-again-again-8 : tie.Need-sub-compile-again-again-8
-sub-compile-again-again-8 c = search needs
+sub-compile-again-8 : tie.Need-sub-compile-again-8
+sub-compile-again-8 c = search needs
 
 -- src/lib.rt:171:9
 part-compile-again-start-8 : tie.Need-part-compile-again-start-8
@@ -135,8 +135,8 @@ part-compile-again-end-8 : tie.Need-part-compile-again-end-8
 part-compile-again-end-8 c = part-fits (c .before .before .before .before .before .before .before .before .before .before .before .before .before .before .before .before .before .axis-count5 .result) (c .before .before .before .before .before .before .before .before .before .before .before .before .before .before .before .before .before .before .before .before .before .before .before .before .before .before .before .before .before .before .before .before .before .before .before .before .before .before .before .args .plan .«collapsed_slice_dims» .count) (c .before .before .before .before .before .before .before .before .before .before .before .before .before .before .before .before .before .before .before .before .before .before .before .before .before .before .before .before .before .before .before .before .before .before .before .before .before .before .before .args .plan .«collapsed_slice_dims» .entries) (c .before .before .before .before .before .before .before .before .before .before .before .before .before .before .before .before .before .axis-count5 .ensures) (eights (c .before .before .before .before .before .before .before .before .before .before .before .before .before .before .before .before .before .before .before .before .before .before .before .before .before .before .before .before .before .before .before .before .before .before .before .before .before .before .before) .7)
 
 -- src/lib.rt:172:9
-sub-compile-again-again-9 : tie.Need-sub-compile-again-again-9
-sub-compile-again-again-9 c = search needs
+sub-compile-again-9 : tie.Need-sub-compile-again-9
+sub-compile-again-9 c = search needs
 
 -- src/lib.rt:172:9
 part-compile-again-start-9 : tie.Need-part-compile-again-start-9
@@ -147,8 +147,8 @@ part-compile-again-end-9 : tie.Need-part-compile-again-end-9
 part-compile-again-end-9 c = part-fits (c .before .before .before .before .before .before .before .before .before .before .before .before .before .before .before .before .before .before .axis-count6 .result) (c .before .before .before .before .before .before .before .before .before .before .before .before .before .before .before .before .before .before .before .before .before .before .before .before .before .before .before .before .before .before .before .before .before .before .before .before .before .before .before .before .before .args .plan .«start_index_map» .count) (c .before .before .before .before .before .before .before .before .before .before .before .before .before .before .before .before .before .before .before .before .before .before .before .before .before .before .before .before .before .before .before .before .before .before .before .before .before .before .before .before .before .args .plan .«start_index_map» .entries) (c .before .before .before .before .before .before .before .before .before .before .before .before .before .before .before .before .before .before .axis-count6 .ensures) (eights (c .before .before .before .before .before .before .before .before .before .before .before .before .before .before .before .before .before .before .before .before .before .before .before .before .before .before .before .before .before .before .before .before .before .before .before .before .before .before .before .before .before) .8)
 
 -- src/lib.rt:174:9
-sub-compile-again-again-10 : tie.Need-sub-compile-again-again-10
-sub-compile-again-again-10 c = search needs
+sub-compile-again-10 : tie.Need-sub-compile-again-10
+sub-compile-again-10 c = search needs
 
 -- src/lib.rt:174:9
 part-compile-again-start-10 : tie.Need-part-compile-again-start-10
@@ -192,31 +192,31 @@ compiled-again-spec =
     sub-compile-again
     part-compile-again-start
     part-compile-again-end
-    sub-compile-again-again-2
+    sub-compile-again-2
     part-compile-again-start-2
     part-compile-again-end-2
-    sub-compile-again-again-3
+    sub-compile-again-3
     part-compile-again-start-3
     part-compile-again-end-3
-    sub-compile-again-again-4
+    sub-compile-again-4
     part-compile-again-start-4
     part-compile-again-end-4
-    sub-compile-again-again-5
+    sub-compile-again-5
     part-compile-again-start-5
     part-compile-again-end-5
-    sub-compile-again-again-6
+    sub-compile-again-6
     part-compile-again-start-6
     part-compile-again-end-6
-    sub-compile-again-again-7
+    sub-compile-again-7
     part-compile-again-start-7
     part-compile-again-end-7
-    sub-compile-again-again-8
+    sub-compile-again-8
     part-compile-again-start-8
     part-compile-again-end-8
-    sub-compile-again-again-9
+    sub-compile-again-9
     part-compile-again-start-9
     part-compile-again-end-9
-    sub-compile-again-again-10
+    sub-compile-again-10
     part-compile-again-start-10
     part-compile-again-end-10
     compile-again-requires
