@@ -37,6 +37,14 @@ use Rattle.gather_move.specs.declared.GatherNumbers.{GatherNumbers}
 use Rattle.gather_move.specs.declared.PreparedGather.{PreparedGather}
 use Rattle.gather_move.proofs.Moving.{at-valid, gathering, move-is}
 
+-- numbers that were read back
+pub back-end : {A : Type 0} (z : A) (rule : A → A → A) (src : List A) (starts offsets strides : List ℤ) (limits : List ℕ) (count : ℕ) (s t d : ℤ) (shape : List ℕ) (ss ts ds : List ℤ) (rank : ℕ) (x y : List A) → SFits w64 s → SFits w64 t → SFits w64 d
+    → y ≡ gatheredBy z rule src starts offsets strides limits count (read s) (read t) (read d) shape ss ts ds rank x
+    → y ≡ gatheredBy z rule src starts offsets strides limits count s t d shape ss ts ds rank x
+back-end z rule src starts offsets strides limits count s t d shape ss ts ds rank x y fs ft fd h =
+    h ∙ ap₂ (λ (u v : ℤ). gatheredBy z rule src starts offsets strides limits count u v (read d) shape ss ts ds rank x) (back fs) (back ft)
+    ∙ ap (λ (u : ℤ). gatheredBy z rule src starts offsets strides limits count s t u shape ss ts ds rank x) (back fd)
+
 -- the gather whose destination begins at another place
 abbrev onPart : Gather → ℤ → Gather
 onPart g at = record { spec = g .spec; operand = g .operand; indices = g .indices; result = record { extents = g .result .extents; strides = g .result .strides; offset = at } }

@@ -1,49 +1,69 @@
+use mathlib.Core.Path.{_≡_, refl, sym, subst}
+use Prim.Native.Nat.{_+_, _-_, _<_, _^_}
+use native.Mathlib.Omega.{arith}
+use lib.ListN.{length, take, drop, length-drop}
+use lib.Seq.{length-take-le}
+use lib.Ieee.{nan}
+use lib.IntN.{_-ℤ_}
+use mir.Syntax.{w64}
+use mir.Val.{SFits, toZ}
+use Rattle.runs.specs.Runs.{ruleF64}
+use Rattle.runs.specs.declared.Rule.the-variants as R
+use Rattle.runs.proofs.Place.{read}
+use Rattle.gather_windows.specs.Gathering.{Gathering}
+use Rattle.gather_move.proofs.Parts.{high-in, low-high, low-fits, sub-fits, place-is, part-asks, part-leaves}
 use borrow.Author.Needs.{needs}
 use Rattle.gather_move.proofs.cells_f64.Statement.{statement}
 use Rattle.gather_move.proofs.cells_f64.Tie as tie
-use Rattle.gather_move.proofs.cells_f64.Reads as reads
-use Rattle.gather_move.proofs.cells_f64.Lts as lts
-use Rattle.gather_move.proofs.run_f64.Reads as run-f64-reads
 
--- src/lib.rt:182:15
+dest-room : (s : tie.Start) → length (s .args .into .now) < 2 ^ 63
+dest-room s = omega (arith, s .good .1 .1 .1 .0 .1)
+
+starts-room : (s : tie.Start) → length (s .args .starts .now) < 2 ^ 63
+starts-room s = omega (arith, s .good .1 .1 .0 .1)
+
+dest-fits : (s : tie.Start) → SFits w64 (s .args .p .dest)
+dest-fits s = search needs
+
+part-length : (s : tie.Start) → length (take (s .args .high + 1 - s .args .low) (drop (s .args .low) (s .args .into .now))) ≡ s .args .high + 1 - s .args .low
+part-length s = length-take-le (s .args .high + 1 - s .args .low) (drop (s .args .low) (s .args .into .now)) (omega (arith, length-drop (s .args .low) (s .args .into .now), high-in (s .args .p) (s .args .low) (s .args .high) (length (s .args .source .now)) (s .args .starts .now) (length (s .args .into .now)) (s .pre), low-high (s .args .p) (s .args .low) (s .args .high) (length (s .args .source .now)) (s .args .starts .now) (length (s .args .into .now)) (s .pre)))
+
 add-end : tie.Need-add-end
-add-end c = ?
+add-end c = let s = c .before .before in omega (arith, high-in (s .args .p) (s .args .low) (s .args .high) (length (s .args .source .now)) (s .args .starts .now) (length (s .args .into .now)) (s .pre), dest-room s)
 
--- src/lib.rt:183:16
 cast-from : tie.Need-cast-from
-cast-from c = ?
+cast-from c = let s = c .before .before in low-fits (s .args .p) (s .args .low) (s .args .high) (length (s .args .source .now)) (s .args .starts .now) (length (s .args .into .now)) (s .pre) (dest-room s)
 
--- src/lib.rt:184:14
 sub-at : tie.Need-sub-at
-sub-at c = ?
+sub-at c = let s = c .before .before .before .before in sub-fits (s .args .p) (s .args .low) (s .args .high) (length (s .args .source .now)) (s .args .starts .now) (length (s .args .into .now)) (s .pre) (dest-fits s) (dest-room s)
 
--- src/lib.rt:185:32
 mul-run-f64 : tie.Need-mul-run-f64
-mul-run-f64 c = ?
+mul-run-f64 c = let s = c .before .before .before .before in omega (arith, low-high (s .args .p) (s .args .low) (s .args .high) (length (s .args .source .now)) (s .args .starts .now) (length (s .args .into .now)) (s .pre), high-in (s .args .p) (s .args .low) (s .args .high) (length (s .args .source .now)) (s .args .starts .now) (length (s .args .into .now)) (s .pre), s .good .1 .1 .1 .0 .1)
 
--- src/lib.rt:185:32
 sub-run-f64 : tie.Need-sub-run-f64
-sub-run-f64 c = ?
+sub-run-f64 c = let s = c .before .before .before .before in omega (arith, low-high (s .args .p) (s .args .low) (s .args .high) (length (s .args .source .now)) (s .args .starts .now) (length (s .args .into .now)) (s .pre))
 
--- src/lib.rt:185:32
 part-run-f64-start : tie.Need-part-run-f64-start
-part-run-f64-start c = ?
+part-run-f64-start c = let s = c .before .before .before .before in omega (arith, low-high (s .args .p) (s .args .low) (s .args .high) (length (s .args .source .now)) (s .args .starts .now) (length (s .args .into .now)) (s .pre))
 
--- src/lib.rt:185:32
 part-run-f64-end : tie.Need-part-run-f64-end
-part-run-f64-end c = ?
+part-run-f64-end c = let s = c .before .before .before .before in omega (arith, high-in (s .args .p) (s .args .low) (s .args .high) (length (s .args .source .now)) (s .args .starts .now) (length (s .args .into .now)) (s .pre))
 
--- src/lib.rt:185:5
 run-f64-requires : tie.Need-run-f64-requires
-run-f64-requires c κs = ?
+run-f64-requires c κs =
+    let s = c .before .before .before .before .before in
+    let w = s .args .p .numbers in
+    subst (Gathering (s .args .starts .now) (w .offsets) (w .strides) (w .limits) (w .count) (s .args .p .operand) (s .args .p .index) (read (read (s .args .p .dest) -ℤ toZ w64 (s .args .low))) (w .extents) (w .«window_steps») (w .«batch_steps») (w .«dest_steps») (w .rank) (length (s .args .source .now)))
+    (sym (part-length s))
+    (part-asks (s .args .p) (s .args .low) (s .args .high) (length (s .args .source .now)) (s .args .starts .now) (length (s .args .into .now)) (s .pre) _ refl _ (place-is (s .args .p) (s .args .low) (s .args .high) (length (s .args .source .now)) (s .args .starts .now) (length (s .args .into .now)) (s .pre) (dest-fits s) (dest-room s)) (starts-room s))
 
--- src/lib.rt:171:1
 same-length : tie.Need-same-length
 same-length c = search needs
 
--- src/lib.rt:171:1
 returns : tie.Need-returns
-returns c = ?
+returns c =
+    let s = c .before .before .before .before .before .before .before .before in
+    λ k. part-leaves (s .args .p) (s .args .low) (s .args .high) (length (s .args .source .now)) (s .args .starts .now) (length (s .args .into .now)) k _ refl _ (place-is (s .args .p) (s .args .low) (s .args .high) (length (s .args .source .now)) (s .args .starts .now) (length (s .args .into .now)) k (dest-fits s) (dest-room s)) nan (ruleF64 R.Copy) (λ x u. refl) (s .args .source .now) (s .args .into .now) refl _ (c .before .before .run-f64 .ensures)
 
 pub cells-f64-spec : {M : Type 1} → statement M
 cells-f64-spec =

@@ -1,21 +1,29 @@
+use mathlib.Core.Path.{_∙_}
+use lib.IntN.{pos}
+use mir.Syntax.{w64}
+use mir.Val.{SFits}
+use Rattle.integer.specs.Z.{back}
+use Rattle.runs.specs.Runs.{ruleI32}
+use Rattle.runs.specs.declared.Rule.the-variants as R
+use Rattle.gather_move.proofs.Parts.{back-end}
 use borrow.Author.Needs.{needs}
 use Rattle.gather_move.proofs.run_i32.Statement.{statement}
 use Rattle.gather_move.proofs.run_i32.Tie as tie
-use Rattle.gather_move.proofs.run_i32.Reads as reads
-use Rattle.gather_move.proofs.run_i32.Lts as lts
-use Rattle.gather_windows.proofs.gather_window.Reads as gather-window-reads
 
--- src/lib.rt:81:5
+bases : (s : tie.Start) → SFits w64 (s .args .p .operand) × SFits w64 (s .args .p .index)
+bases s = (search needs, search needs)
+
 gather-window-requires : tie.Need-gather-window-requires
-gather-window-requires c κs = ?
+gather-window-requires c κs = let s = c .before .before .before .before .before .before .before .before .before .before .before .before .before .before .before .before .before .before in simp (back (bases s .0), back (bases s .1), back (s .fits .at)) (s .pre)
 
--- src/lib.rt:69:1
 same-length : tie.Need-same-length
 same-length c = search needs
 
--- src/lib.rt:69:1
 returns : tie.Need-returns
-returns c = ?
+returns c =
+    let s = c .before .before .before .before .before .before .before .before .before .before .before .before .before .before .before .before .before .before .before .before in
+    let w = s .args .p .numbers in
+    back-end (pos 0) (ruleI32 R.Copy) (s .args .source .now) (s .args .starts .now) (w .offsets) (w .strides) (w .limits) (w .count) (s .args .p .operand) (s .args .p .index) (s .args .at) (w .extents) (w .«window_steps») (w .«batch_steps») (w .«dest_steps») (w .rank) (s .args .into .now) _ (bases s .0) (bases s .1) (s .fits .at) (c .before .gather-window .ensures)
 
 pub run-i32-spec : {M : Type 1} → statement M
 run-i32-spec = tie.close (tie.spec gather-window-requires same-length returns)
