@@ -1,6 +1,6 @@
 -- Whether two views have the same layout, as a test and as equations. Assumes nothing.
 use mathlib.Core.Path.{_≡_, refl, sym, ap, _∙_}
-use mathlib.Core.Bool.{Bool, true, false, _&&_}
+use mathlib.Core.Bool.{Bool, true, false, _&&_, true≢false}
 use mathlib.Core.List.{List}
 use Prim.Native.Nat.{ℕ}
 use lib.Dec.{eqb}
@@ -11,6 +11,15 @@ use Rattle.axis_lists.specs.Held.{Decides}
 use Rattle.equality.specs.Same.{sameBy}
 use Rattle.equality.proofs.Compare.{and-true, and-both, numbers-decide, ints-decide, lists-decide, both-ways}
 use Rattle.calls.specs.Calls.{sameView}
+
+-- tests one after the other
+pub first-no : (a r : Bool) → a ≡ false → false ≡ (a && r)
+first-no true r e = absurd (true≢false e)
+first-no false r e = refl
+
+pub first-yes : (a r q : Bool) → a ≡ true → q ≡ r → q ≡ (a && r)
+first-yes true r q e f = f
+first-yes false r q e f = absurd (true≢false (sym e))
 
 -- two flags that decide the same are the same
 decide-same : {A : Type 0} {r s : Bool} {a b : A} → Decides r a b → Decides s a b → r ≡ s

@@ -27,6 +27,10 @@ viewOf v = record { extents = extentsOf (v .layout); strides = stridesOf (v .lay
 abbrev pub sameView : C.View → C.View → Bool
 sameView v w = sameBy eqb (v .extents) (w .extents) && sameBy eqZ (v .strides) (w .strides)
 
+-- and three views with three others, in turn
+abbrev pub sameViews : C.View → C.View → C.View → C.View → C.View → C.View → Bool
+sameViews x y z u v w = sameView x u && (sameView y v && sameView z w)
+
 -- 8: "a call's layout is not the plan's; or (added) the plan is not what compile gives"
 abbrev pub planRefusal : Bool → Answer
 planRefusal fits = cond fits A.Done A.PlanLayoutMismatch

@@ -4,14 +4,16 @@ ghost use Prim.Native.Nat.{_-_, min};
 ghost use lib.ListN.{take, replicate};
 ghost use lib.IntN.{pos};
 ghost use Rattle.indexing.specs.Coordinates.{pick, tabulate};
-ghost use Rattle.layout.specs.Layouts.{rankLimit, padded};
-ghost use Rattle.axis_lists.specs.Held.{heldSteps};
+ghost use Rattle.layout.specs.Layouts.{rankLimit, padded, extentsOf};
+ghost use Rattle.axis_lists.specs.Held.{numbersOf, heldSteps};
 ghost use Rattle.checks.specs.Checks.{firstOf, offsetFits};
 ghost use Rattle.checks.specs.Values.{offsetOr};
 ghost use Rattle.components.specs.Components.{limitAt, unlessNone};
+use axis_lists::Numbers;
 use axis_lists::Steps;
 use integer::Checked;
 use layout::Answer;
+use layout::Layout;
 use layout::RAW_FUSED_RANK_LIMIT;
 
 fn check_offset(stride: i64, component: u64) -> Answer
@@ -102,6 +104,19 @@ pub fn limits_on(map: &[u64], extents: &[u64], sizes: &[u64]) -> [u64; RAW_FUSED
         i += 1;
     }
     out
+}
+
+// The same by a layout and lists that are held by value.
+pub fn limits_of(layout: Layout, sizes: Numbers, map: Numbers) -> [u64; RAW_FUSED_RANK_LIMIT]
+    ensures { λ r. ⌜ r ≡ tabulate rankLimit (limitAt (extentsOf layout) (numbersOf sizes) (numbersOf map)) ⌝ }
+{
+    let extents = layout.extents;
+    let windows = sizes.entries;
+    let axes = map.entries;
+    let n = layout::axis_count(layout.rank);
+    let m = layout::axis_count(sizes.count);
+    let k = layout::axis_count(map.count);
+    limits_on(&axes[0..k], &extents[0..n], &windows[0..m])
 }
 
 // The steps, or zeros where there are no components: then nothing of the index view is read or stepped.

@@ -1,23 +1,86 @@
-// Gather: the calls. A call takes a plan by value, made by compile or by anyone, the three views and their slices. It answers 8 where
-// the plan or a layout does not fit, then 9 for each view in turn; otherwise it is done.
+// Gather: the calls with a plan. A call takes a plan by value, made by compile or by anyone, the three views and their slices. It
+// answers 8 where the plan or a layout does not fit, then 9 for each view in turn; otherwise it is done.
 ghost use mathlib.Core.Path.{_≡_};
 ghost use mathlib.Core.Bool.{true};
 ghost use lib.Ieee.{nan};
 ghost use lib.IntN.{pos};
-ghost use lib.ListN.{length};
-ghost use Rattle.indexing.specs.Gather.{gathered};
+ghost use Rattle.calls.specs.Calls.{asIs, Gathers};
 ghost use Rattle.gather_same.specs.Same.{isCompiled};
-ghost use Rattle.gather_walk.specs.Walks.{gatherAt, Reached};
-ghost use Rattle.gather.specs.Calls.{planFits, planRefusal, callAnswer, Called};
+ghost use Rattle.gather_plan.specs.Plan.{heldGather};
+ghost use Rattle.gather_move.specs.Prepared.{gatherNumbers, Prepares};
+ghost use Rattle.gather.specs.Calls.{gatherOf, planFits, callAnswer, byPlan, windowStepsOf, batchStepsOf};
+use gather_move::GatherNumbers;
+use gather_move::PreparedGather;
+use gather_plan::Axis;
 use gather_plan::GatherPlan;
 use layout::Answer;
-use layout::Reach;
+use layout::RAW_FUSED_RANK_LIMIT;
 use layout::View;
 
-// Whether the views have the plan's layouts, and the plan is what compile gives; that is not tried where it is known.
-fn plan_fits(plan: GatherPlan, operand: View, index: View, dest: View, known: bool) -> bool
-    requires { ⌜ (known ≡ true → isCompiled plan ≡ true) ⌝ }
-    ensures { λ r. ⌜ r ≡ planFits plan operand index dest ⌝ }
+fn window_steps(axes: [Axis; RAW_FUSED_RANK_LIMIT]) -> [i64; RAW_FUSED_RANK_LIMIT]
+    ensures { λ r. ⌜ r ≡ windowStepsOf axes ⌝ }
+{
+    let mut out = [0i64; RAW_FUSED_RANK_LIMIT];
+    let mut i: usize = 0;
+    while i < RAW_FUSED_RANK_LIMIT {
+        let axis = axes[i];
+        let step = axis.window_step;
+        out[i] = step;
+        i += 1;
+    }
+    out
+}
+
+fn batch_steps(axes: [Axis; RAW_FUSED_RANK_LIMIT]) -> [i64; RAW_FUSED_RANK_LIMIT]
+    ensures { λ r. ⌜ r ≡ batchStepsOf axes ⌝ }
+{
+    let mut out = [0i64; RAW_FUSED_RANK_LIMIT];
+    let mut i: usize = 0;
+    while i < RAW_FUSED_RANK_LIMIT {
+        let axis = axes[i];
+        let step = axis.batch_step;
+        out[i] = step;
+        i += 1;
+    }
+    out
+}
+
+// The numbers that the cells of a plan are moved with.
+fn numbers_of(plan: GatherPlan) -> GatherNumbers
+    requires { ⌜ isCompiled plan ≡ true ⌝ }
+    ensures { λ r. ⌜ r ≡ gatherNumbers (heldGather plan) ⌝ }
+{
+    let dest = plan.dest;
+    let operand = plan.operand;
+    let map = plan.start_index_map;
+    let sizes = plan.slice_sizes;
+    let axes = plan.axes;
+    let component_offsets = plan.component_offsets;
+    let component_strides = plan.component_strides;
+    let window = window_steps(axes);
+    let batch = batch_steps(axes);
+    let stepped = components::unless_none(map.count, batch);
+    let limits = components::limits_of(operand, sizes, map);
+    let extents = dest.extents;
+    let dest_steps = dest.strides;
+    let offsets = component_offsets.entries;
+    let strides = component_strides.entries;
+    GatherNumbers {
+        rank: dest.rank,
+        extents,
+        window_steps: window,
+        batch_steps: stepped,
+        dest_steps,
+        count: map.count,
+        offsets,
+        strides,
+        limits,
+    }
+}
+
+// Whether the views have the plan's layouts, and the plan is what compile gives.
+fn plan_fits(plan: GatherPlan, operand: View, index: View, dest: View) -> bool
+    ensures { λ r. ⌜ r ≡ planFits plan (gatherOf plan operand index dest) ⌝ }
 {
     let a = operand.layout;
     let b = index.layout;
@@ -25,121 +88,48 @@ fn plan_fits(plan: GatherPlan, operand: View, index: View, dest: View, known: bo
     let x = plan.operand;
     let y = plan.index;
     let z = plan.dest;
-    if !equality::same_layout(a, x) {
-        return false;
-    }
-    if !equality::same_layout(b, y) {
-        return false;
-    }
-    if !equality::same_layout(c, z) {
-        return false;
-    }
-    if known {
-        return true;
-    }
-    gather_same::is_compiled(plan)
-}
-
-pub fn check_plan(fits: bool) -> Answer
-    ensures { λ r. ⌜ r ≡ planRefusal fits ⌝ }
-{
-    if fits {
-        Answer::Done
+    let first = calls::same_layout(a, x);
+    let second = calls::same_layout(b, y);
+    let third = calls::same_layout(c, z);
+    let views = equality::both(first, equality::both(second, third));
+    if views {
+        gather_same::is_compiled(plan)
     } else {
-        Answer::PlanLayoutMismatch
+        false
     }
 }
 
-// What a call answers, given the lengths of the three slices.
-pub fn check_call(
+// What a call decides before it touches an element, given the lengths of the three slices.
+fn prepare(
     plan: GatherPlan,
     operand: View,
     index: View,
     dest: View,
-    known: bool,
     operand_len: usize,
     starts_len: usize,
     dest_len: usize,
-) -> Answer
-    requires { ⌜ (known ≡ true → isCompiled plan ≡ true) ⌝ }
-    ensures { λ r. ⌜ r ≡ callAnswer plan operand index dest «operand_len» «starts_len» «dest_len» ⌝ }
+) -> PreparedGather
+    ensures { λ r. ⌜ Prepares r (callAnswer plan (gatherOf plan operand index dest) «operand_len» «starts_len» «dest_len») (gatherOf plan operand index dest) «operand_len» «starts_len» «dest_len» ⌝ }
 {
-    let fits = plan_fits(plan, operand, index, dest, known);
-    let eight = check_plan(fits);
+    let fits = plan_fits(plan, operand, index, dest);
+    let eight = calls::check_plan(fits);
     let x = spans::view_reach(operand, operand_len);
     let y = spans::view_reach(index, starts_len);
     let z = spans::view_reach(dest, dest_len);
-    let a = layout::check_reach(x, 1);
-    let b = layout::check_reach(y, 2);
-    let c = layout::check_reach(z, 3);
-    let views = checks::or_else(a, checks::or_else(b, c));
-    checks::or_else(eight, views)
-}
-
-// The gather where the destination has cells.
-fn cells_i32(
-    plan: GatherPlan,
-    source: &[i32],
-    starts: &[i64],
-    into: &mut [i32],
-    s: i64,
-    t: i64,
-    d: i64,
-    low: usize,
-    high: usize,
-)
-    requires { ⌜ Reached plan s t d low high (length (now source)) (length (now starts)) (length (now into)) ⌝ }
-    ensures { λ _. ⌜ now (into .exit) ≡ gathered (pos 0) (gatherAt plan s t d) (now (starts .entry)) (now (source .entry)) (now (into .entry)) ⌝ }
-{
-    let walk = gather_walk::walk_of(plan);
-    gather_walk::walked_i32(walk, source, starts, into, s, t, d, low, high);
-}
-
-// A gather of i32 with a plan that is known to be what compile gives, or with any plan.
-pub fn call_i32(
-    plan: GatherPlan,
-    operand: View,
-    index: View,
-    dest: View,
-    known: bool,
-    source: &[i32],
-    starts: &[i64],
-    into: &mut [i32],
-) -> Answer
-    requires { ⌜ (known ≡ true → isCompiled plan ≡ true) ⌝ }
-    ensures { λ r. ⌜ Called (pos 0) plan operand index dest (now (source .entry)) (now (starts .entry)) (now (into .entry)) (now (into .exit)) r ⌝ }
-{
-    let answer = check_call(
-        plan,
-        operand,
-        index,
-        dest,
-        known,
-        source.len(),
-        starts.len(),
-        into.len(),
-    );
+    let nine = calls::check_bounds(x, y, z);
+    let answer = checks::or_else(eight, nine);
     if !layout::is_done(answer) {
-        return answer;
+        return gather_move::refused(answer);
     }
-    let reach = spans::view_reach(dest, into.len());
-    match reach {
-        Reach::Cells(low, high) => {
-            cells_i32(
-                plan,
-                source,
-                starts,
-                into,
-                operand.offset,
-                index.offset,
-                dest.offset,
-                low,
-                high,
-            );
-            answer
-        }
-        Reach::NoCells => answer,
-        Reach::Outside => answer,
+    let numbers = numbers_of(plan);
+    let base = components::start_base(numbers.count, index.offset);
+    PreparedGather {
+        answer,
+        reach: z,
+        numbers,
+        operand: operand.offset,
+        index: base,
+        dest: dest.offset,
     }
 }
 
@@ -153,79 +143,21 @@ pub fn gather_i32(
     starts: &[i64],
     into: &mut [i32],
 ) -> Answer
-    ensures { λ r. ⌜ Called (pos 0) plan operand index dest (now (source .entry)) (now (starts .entry)) (now (into .entry)) (now (into .exit)) r ⌝ }
+    ensures { λ r. ⌜ Gathers (pos 0) asIs (byPlan plan operand index dest (now (starts .entry))) (now (source .entry)) (now (into .entry)) (now (into .exit)) r ⌝ }
 {
-    call_i32(plan, operand, index, dest, false, source, starts, into)
-}
-
-// The gather where the destination has cells.
-fn cells_f64(
-    plan: GatherPlan,
-    source: &[f64],
-    starts: &[i64],
-    into: &mut [f64],
-    s: i64,
-    t: i64,
-    d: i64,
-    low: usize,
-    high: usize,
-)
-    requires { ⌜ Reached plan s t d low high (length (now source)) (length (now starts)) (length (now into)) ⌝ }
-    ensures { λ _. ⌜ now (into .exit) ≡ gathered nan (gatherAt plan s t d) (now (starts .entry)) (now (source .entry)) (now (into .entry)) ⌝ }
-{
-    let walk = gather_walk::walk_of(plan);
-    gather_walk::walked_f64(walk, source, starts, into, s, t, d, low, high);
-}
-
-// A gather of f64 with a plan that is known to be what compile gives, or with any plan.
-pub fn call_f64(
-    plan: GatherPlan,
-    operand: View,
-    index: View,
-    dest: View,
-    known: bool,
-    source: &[f64],
-    starts: &[i64],
-    into: &mut [f64],
-) -> Answer
-    requires { ⌜ (known ≡ true → isCompiled plan ≡ true) ⌝ }
-    ensures { λ r. ⌜ Called nan plan operand index dest (now (source .entry)) (now (starts .entry)) (now (into .entry)) (now (into .exit)) r ⌝ }
-{
-    let answer = check_call(
+    let p = prepare(
         plan,
         operand,
         index,
         dest,
-        known,
         source.len(),
         starts.len(),
         into.len(),
     );
-    if !layout::is_done(answer) {
-        return answer;
-    }
-    let reach = spans::view_reach(dest, into.len());
-    match reach {
-        Reach::Cells(low, high) => {
-            cells_f64(
-                plan,
-                source,
-                starts,
-                into,
-                operand.offset,
-                index.offset,
-                dest.offset,
-                low,
-                high,
-            );
-            answer
-        }
-        Reach::NoCells => answer,
-        Reach::Outside => answer,
-    }
+    gather_move::move_i32(p, source, starts, into)
 }
 
-// The gather of a plan on these views.
+// The same for f64.
 pub fn gather_f64(
     plan: GatherPlan,
     operand: View,
@@ -235,7 +167,16 @@ pub fn gather_f64(
     starts: &[i64],
     into: &mut [f64],
 ) -> Answer
-    ensures { λ r. ⌜ Called nan plan operand index dest (now (source .entry)) (now (starts .entry)) (now (into .entry)) (now (into .exit)) r ⌝ }
+    ensures { λ r. ⌜ Gathers nan asIs (byPlan plan operand index dest (now (starts .entry))) (now (source .entry)) (now (into .entry)) (now (into .exit)) r ⌝ }
 {
-    call_f64(plan, operand, index, dest, false, source, starts, into)
+    let p = prepare(
+        plan,
+        operand,
+        index,
+        dest,
+        source.len(),
+        starts.len(),
+        into.len(),
+    );
+    gather_move::move_f64(p, source, starts, into)
 }

@@ -19,6 +19,7 @@ use Rattle.indexing.specs.Reach.{lowest, highest}
 use Rattle.indexing.specs.Steps.{windowSteps, batchSteps}
 use Rattle.indexing.specs.Valid.{Covered}
 use Rattle.indexing.specs.Parts.{rebased, covered-part, gathered-lent}
+use Rattle.layout.specs.declared.Answer.{Answer}
 use Rattle.layout.specs.declared.Answer.the-variants as A
 use Rattle.layout.specs.declared.Reach.the-variants as R
 use Rattle.layout.specs.Answers.{isDone}
@@ -32,7 +33,7 @@ use Rattle.runs.proofs.Place.{read}
 use Rattle.runs.proofs.Turns.{none}
 use Rattle.windows.proofs.Last.{no-cells}
 use Rattle.gather_windows.specs.Gathering.{gatheredBy, Gathering}
-use Rattle.gather_move.specs.Prepared.{gatherNumbers, startBase, Ready, Cells, Movable}
+use Rattle.gather_move.specs.Prepared.{gatherNumbers, startBase, Ready, Prepares, Cells, Movable}
 use Rattle.gather_move.specs.declared.GatherNumbers.{GatherNumbers}
 use Rattle.gather_move.specs.declared.PreparedGather.{PreparedGather}
 use Rattle.gather_move.proofs.Moving.{at-valid, gathering, move-is}
@@ -155,3 +156,7 @@ module _ (p : PreparedGather) (g : Gather) (on sn dn : ℕ) (r : Ready p g on sn
   without-cells z operand starts before e =
       none (λ j into. store into (writeAt g j) (elementAt z operand (readAt g starts j))) (product (g .result .extents)) before (no-cells (g .result .extents) (zero-of (g .result .extents) (g .result .strides) (g .result .offset) dn (sym (r .reach) ∙ e)))
       ∙ sym (gathered-loop z g starts operand before)
+
+-- what was prepared can be moved
+abbrev pub movable : {p : PreparedGather} {answer : Answer} {g : Gather} {on sn dn : ℕ} → Prepares p answer g on sn dn → Movable p on sn dn
+movable {g = g} q = record { gather = g; ready = λ d. q .ready (ap isDone (sym (q .answered)) ∙ d) }

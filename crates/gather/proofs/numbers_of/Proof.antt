@@ -1,0 +1,30 @@
+use mathlib.Core.Path.{_≡_}
+use borrow.Author.Needs.{needs}
+use Rattle.gather.proofs.Planned.{numbers-are}
+use Rattle.gather.proofs.numbers_of.Statement.{statement}
+use Rattle.gather.proofs.numbers_of.Tie as tie
+
+window-steps-requires : tie.Need-window-steps-requires
+window-steps-requires c κs = search needs
+
+batch-steps-requires : tie.Need-batch-steps-requires
+batch-steps-requires c κs = search needs
+
+unless-none-requires : tie.Need-unless-none-requires
+unless-none-requires c κs = search needs
+
+limits-of-requires : tie.Need-limits-of-requires
+limits-of-requires c κs = search needs
+
+returns : tie.Need-returns
+returns c = let s = c .before .before .before .before .before .before .before .before .before .before .before .before .before .before .before in numbers-are (s .args .plan) (s .pre) _ _ _ _ (c .before .before .before .before .before .before .before .window-steps .ensures) (c .before .before .before .before .before .before .batch-steps .ensures) (c .before .before .before .before .before .unless-none .ensures) (c .before .before .before .before .limits-of .ensures)
+
+pub numbers-of-spec : {M : Type 1} → statement M
+numbers-of-spec =
+    tie.close
+    (tie.spec
+    window-steps-requires
+    batch-steps-requires
+    unless-none-requires
+    limits-of-requires
+    returns)
