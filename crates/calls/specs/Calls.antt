@@ -23,6 +23,10 @@ use Rattle.equality.specs.Same.{sameBy}
 abbrev pub viewOf : View → C.View
 viewOf v = record { extents = extentsOf (v .layout); strides = stridesOf (v .layout); offset = v .offset }
 
+-- a view by its extents, strides and offset
+abbrev pub viewWith : List ℕ → List ℤ → ℤ → C.View
+viewWith es ss at = record { extents = es; strides = ss; offset = at }
+
 -- whether two views have the same layout: "a layout is extents with strides"
 abbrev pub sameView : C.View → C.View → Bool
 sameView v w = sameBy eqb (v .extents) (w .extents) && sameBy eqZ (v .strides) (w .strides)

@@ -10,9 +10,10 @@ use Rattle.indexing.specs.Coordinates.{tabulate}
 use Rattle.layout.specs.Layouts.{rankLimit}
 use Rattle.axis_lists.specs.Held.{heldSteps}
 use Rattle.checks.specs.Values.{offsetOr}
-use Rattle.gather_lent.proofs.Planned.{walk-is}
-use Rattle.gather_lent.proofs.walk_lent.Statement.{statement}
-use Rattle.gather_lent.proofs.walk_lent.Tie as tie
+use Rattle.gather_checks.specs.Refusals.{gatherFrom}
+use Rattle.gather_lists.proofs.Lent.{numbers-are}
+use Rattle.gather_lists.proofs.numbers_on.Statement.{statement}
+use Rattle.gather_lists.proofs.numbers_on.Tie as tie
 
 stride-at-requires : tie.Need-stride-at-requires
 stride-at-requires c κs = search needs
@@ -40,10 +41,10 @@ returns c =
     let s = c .before .before .before .before .before .before .before .before .before .before .before .before .before .before .before in
     let f : SFits w64 (c .before .before .before .before .before .before .before .stride-at .result) = search needs in
     let o = c .before .before .before .before .before .before .component-offsets .ensures ∙ ap (λ (z : ℤ). heldSteps (tabulate (min (length (s .args .start-index-map .now)) rankLimit) (offsetOr z))) (back f ∙ c .before .before .before .before .before .before .before .stride-at .ensures) in
-    walk-is (s .args .operand-extents .now) (s .args .operand-strides .now) (s .args .index-extents .now) (s .args .index-strides .now) (s .args .dest-extents .now) (s .args .dest-strides .now) (s .args .offset-dims .now) (s .args .collapsed-slice-dims .now) (s .args .start-index-map .now) (s .args .index-vector-dim) (s .args .slice-sizes .now) (s .pre .accepted) (s .args .window) (s .args .batch) (c .before .before .unless-none .result) (c .before .before .before .before .strides-on .result) (c .padded-strides .result) (c .before .padded-extents .result) (c .before .before .before .limits-on .result) (c .before .before .before .before .before .before .component-offsets .result) (s .pre .window-is) (s .pre .batch-is) (c .before .before .unless-none .ensures) o (c .before .before .before .before .strides-on .ensures) (c .before .padded-extents .ensures) (c .padded-strides .ensures) (c .before .before .before .limits-on .ensures)
+    numbers-are (gatherFrom (s .args .operand-extents .now) (s .args .operand-strides .now) (s .args .index-extents .now) (s .args .index-strides .now) (s .args .dest-extents .now) (s .args .dest-strides .now) (s .args .offset-dims .now) (s .args .collapsed-slice-dims .now) (s .args .start-index-map .now) (s .args .index-vector-dim) (s .args .slice-sizes .now)) (s .args .window) (s .args .batch) (s .pre) _ _ _ _ _ _ o (c .before .before .before .before .strides-on .ensures) (c .before .before .before .limits-on .ensures) (c .before .before .unless-none .ensures) (c .before .padded-extents .ensures) (c .padded-strides .ensures)
 
-pub walk-lent-spec : {M : Type 1} → statement M
-walk-lent-spec =
+pub numbers-on-spec : {M : Type 1} → statement M
+numbers-on-spec =
     tie.close
     (tie.spec
     stride-at-requires
