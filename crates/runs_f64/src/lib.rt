@@ -204,17 +204,3 @@ pub fn plane_f64(
     }
     strided_rows_f64(rule, src, dst, n, m, s, d, ss, ds, st, dt);
 }
-
-pub fn copy_run_f64(src: &[f64], dst: &mut [f64], n: usize, s: i64, d: i64, ss: i64, ds: i64)
-    requires { ⌜ Run s d ss ds n (length (now src)) (length (now dst)) ⌝ }
-    ensures { λ _. ⌜ now (dst .exit) ≡ inOrder (cellAt nan (ruleF64 R.Copy) (now (src .entry)) (line s ss) (line d ds)) n (now (dst .entry)) ⌝ }
-{
-    run_f64(Rule::Copy, src, dst, n, s, d, ss, ds);
-}
-
-pub fn add_run_f64(src: &[f64], dst: &mut [f64], n: usize, s: i64, d: i64, ss: i64, ds: i64)
-    requires { ⌜ Run s d ss ds n (length (now src)) (length (now dst)) ⌝ }
-    ensures { λ _. ⌜ now (dst .exit) ≡ inOrder (cellAt nan (ruleF64 R.Add) (now (src .entry)) (line s ss) (line d ds)) n (now (dst .entry)) ⌝ }
-{
-    run_f64(Rule::Add, src, dst, n, s, d, ss, ds);
-}

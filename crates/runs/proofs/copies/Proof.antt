@@ -5,7 +5,7 @@ use borrow.Author.Needs.{needs}
 use lib.ListN.{length}
 use lib.IntN.{pos}
 use Rattle.indexing.specs.Loops.{inOrder}
-use Rattle.runs.specs.Runs.{ruleI32, cellAt}
+use Rattle.runs.specs.Runs.{ruleI32, cellAt, blockCells}
 use Rattle.runs.specs.declared.Rule.the-variants as R
 use Rattle.runs.proofs.Turns.{none, length-cells}
 use Rattle.runs.proofs.Blocks.{block-more}
@@ -61,8 +61,8 @@ loop-again : tie.Need-loop-again Inv-loop μ-loop
 loop-again c = let h = c .before .before .before .before .before in
     let a = h .before in
     let at = h .loop .at in
-    let e = block-more (pos 0) (ruleI32 R.Copy) (a .args .src .now) (a .args .dst .now) (h .loop .dst) (c .before .block .last .1 .0) at 4096 (at + 4096 - at) (omega arith) (omega arith) (h .loop .inv .2) (c .before .block .ensures) in
-    (omega arith, ap length e ∙ length-cells (pos 0) (ruleI32 R.Copy) (a .args .src .now) pos pos (at + 4096) (a .args .dst .now), e)
+    let e = block-more (pos 0) (ruleI32 R.Copy) (a .args .src .now) (a .args .dst .now) (h .loop .dst) (c .before .block .last .1 .0) at blockCells (at + blockCells - at) (omega arith) (omega arith) (h .loop .inv .2) (c .before .block .ensures) in
+    (omega arith, ap length e ∙ length-cells (pos 0) (ruleI32 R.Copy) (a .args .src .now) pos pos (at + blockCells) (a .args .dst .now), e)
 
 mul-block-3 : tie.Need-mul-block-3 Inv-loop μ-loop
 mul-block-3 c = search needs

@@ -10,7 +10,6 @@ use mir.Syntax.{w64}
 use mir.Val.{SFits, toZ}
 use Rattle.indexing.specs.Loops.{inOrder}
 use Rattle.runs.specs.Runs.{ruleI32}
-use Rattle.runs.specs.declared.Rule.the-variants as R
 use Rattle.runs.proofs.Turns.{none}
 use Rattle.runs.proofs.Place.{read, machine, Step}
 use Rattle.takes.specs.Takes.{Starting}
@@ -26,7 +25,7 @@ use Rattle.scatter_windows.proofs.+scatter_cells.Tie.{close}
 
 -- the measure is the rank
 abbrev μ-axes : Measures 9 kinds.ps ℕ
-μ-axes κs a = a .1 .1 .1 .1 .1 .1 .1 .1 .1 .1 .1 .0
+μ-axes κs a = a .1 .1 .1 .1 .1 .1 .1 .1 .1 .1 .1 .1 .0
 
 abbrev at : ℕ → In 9 kinds.ps
 at t = and 9 kinds.ps (is 9 kinds.ps μ-axes t) axes.Pre
@@ -38,12 +37,12 @@ abbrev claims : ℕ → lts.Claims
 claims t = (run-reads.Asked, run-reads.Learnt, under t, axes.Post)
 
 abbrev Inv : lts.InvT-loop
-Inv src starts dst₀ extents ts us count offsets strides limits low rank t u d top n x y j₀ dst j =
+Inv rule src starts dst₀ extents ts us count offsets strides limits low rank t u d top n x y j₀ dst j =
     (j ≤ n) × (length dst ≡ length dst₀)
-    × (dst ≡ inOrder (below (put (pos 0) (ruleI32 R.Add) src starts offsets strides limits count (toZ w64 d)) extents ts us (toZ w64 t) (toZ w64 u) (toZ w64 x) (toZ w64 y) top) j dst₀)
+    × (dst ≡ inOrder (below (put (pos 0) (ruleI32 rule) src starts offsets strides limits count (toZ w64 d)) extents ts us (toZ w64 t) (toZ w64 u) (toZ w64 x) (toZ w64 y) top) j dst₀)
 
 abbrev μ : lts.MeasureT-loop
-μ src starts dst₀ extents ts us count offsets strides limits low rank t u d top n x y j₀ dst j = n - j
+μ rule src starts dst₀ extents ts us count offsets strides limits low rank t u d top n x y j₀ dst j = n - j
 
 module _ (t : ℕ) where
   abbrev Begun : Type 0
@@ -58,10 +57,10 @@ module _ (t : ℕ) where
 
   module _ (a : Begun) where
     src-room : length (a .args .src .now) < 2 ^ 63
-    src-room = omega (arith, a .good .0 .1)
+    src-room = omega (arith, a .good .1 .0 .1)
 
     dst-room : length (a .args .dst .now) < 2 ^ 63
-    dst-room = omega (arith, a .good .1 .1 .0 .1)
+    dst-room = omega (arith, a .good .1 .1 .1 .0 .1)
 
   module _ (B : Read) where
     top-is : start B .args .rank ≡ suc (start B .args .rank - 1)
@@ -108,7 +107,7 @@ module _ (t : ℕ) where
   same-length c = search needs
 
   returns : lts.Need-returns (claims t) (at t) axes.Post Inv μ
-  returns c = let B = c .before .before .before .before in let a = start B in run-end _ _ _ _ _ _ _ _ _ _ _ _ _ _ _ (a .pre .1) (a .fits .t) (a .fits .u) (a .fits .d) _ (top-is B) (x-fits B) (y-fits B) (pos 0) (ruleI32 R.Add) (a .args .src .now) (a .args .dst .now) _ (c .before .before .before .if1 .taken) (c .before .scatter-run .ensures)
+  returns c = let B = c .before .before .before .before in let a = start B in run-end _ _ _ _ _ _ _ _ _ _ _ _ _ _ _ (a .pre .1) (a .fits .t) (a .fits .u) (a .fits .d) _ (top-is B) (x-fits B) (y-fits B) (pos 0) (ruleI32 (a .args .rule)) (a .args .src .now) (a .args .dst .now) _ (c .before .before .before .if1 .taken) (c .before .scatter-run .ensures)
 
   loop-holds : lts.Need-loop-holds (claims t) (at t) axes.Post Inv μ
   loop-holds c = (omega arith, refl, none _ 0 _ refl)
@@ -151,8 +150,8 @@ module _ (t : ℕ) where
       let a = start B in
       let l = c .before .before .before .loop-test .taken in (
         omega arith,
-        c .before .scatter-cells .kept .1 .1 .0 ∙ h .loop .inv .1,
-        levels-more (λ d x y. Starting (a .args .starts .now) (a .args .offsets .now) (a .args .strides .now) (a .args .limits .now) d x (a .args .count) (length (a .args .dst .now))) _ _ _ _ _ _ _ _ (a .pre .1 .walk) (a .fits .t) (a .fits .u) (a .fits .d) _ (top-is B) (x-fits B) (y-fits B) (put (pos 0) (ruleI32 R.Add) (a .args .src .now) (a .args .starts .now) (a .args .offsets .now) (a .args .strides .now) (a .args .limits .now) (a .args .count)) (h .loop .j) _ (a .args .dst .now) (h .loop .dst) _ (index B (h .loop .j) l) (from B (h .loop .j) l) (h .loop .inv .2) (c .before .scatter-cells .ensures),
+        c .before .scatter-cells .kept .1 .1 .1 .0 ∙ h .loop .inv .1,
+        levels-more (λ d x y. Starting (a .args .starts .now) (a .args .offsets .now) (a .args .strides .now) (a .args .limits .now) d x (a .args .count) (length (a .args .dst .now))) _ _ _ _ _ _ _ _ (a .pre .1 .walk) (a .fits .t) (a .fits .u) (a .fits .d) _ (top-is B) (x-fits B) (y-fits B) (put (pos 0) (ruleI32 (a .args .rule)) (a .args .src .now) (a .args .starts .now) (a .args .offsets .now) (a .args .strides .now) (a .args .limits .now) (a .args .count)) (h .loop .j) _ (a .args .dst .now) (h .loop .dst) _ (index B (h .loop .j) l) (from B (h .loop .j) l) (h .loop .inv .2) (c .before .scatter-cells .ensures),
       )
 
   same-length-2 : lts.Need-same-length-2 (claims t) (at t) axes.Post Inv μ
@@ -163,7 +162,7 @@ module _ (t : ℕ) where
       let h = c .before in
       let B = h .before .before in
       let a = start B in
-      levels-end (λ d x y. Starting (a .args .starts .now) (a .args .offsets .now) (a .args .strides .now) (a .args .limits .now) d x (a .args .count) (length (a .args .dst .now))) _ _ _ _ _ _ _ _ (a .pre .1 .walk) (a .fits .t) (a .fits .u) (a .fits .d) _ (top-is B) (x-fits B) (y-fits B) (put (pos 0) (ruleI32 R.Add) (a .args .src .now) (a .args .starts .now) (a .args .offsets .now) (a .args .strides .now) (a .args .limits .now) (a .args .count)) (h .loop .j) (a .args .dst .now) (h .loop .dst) (omega arith) (h .loop .inv .2)
+      levels-end (λ d x y. Starting (a .args .starts .now) (a .args .offsets .now) (a .args .strides .now) (a .args .limits .now) d x (a .args .count) (length (a .args .dst .now))) _ _ _ _ _ _ _ _ (a .pre .1 .walk) (a .fits .t) (a .fits .u) (a .fits .d) _ (top-is B) (x-fits B) (y-fits B) (put (pos 0) (ruleI32 (a .args .rule)) (a .args .src .now) (a .args .starts .now) (a .args .offsets .now) (a .args .strides .now) (a .args .limits .now) (a .args .count)) (h .loop .j) (a .args .dst .now) (h .loop .dst) (omega arith) (h .loop .inv .2)
 
 pub +scatter-cells-spec : {M : Type 1} → statement M
 +scatter-cells-spec = close μ-axes λ t. lts.spec (claims t) (at t) axes.Post Inv μ

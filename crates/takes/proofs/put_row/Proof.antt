@@ -5,7 +5,6 @@ use borrow.Author.Needs.{needs}
 use lib.ListN.{length}
 use lib.IntN.{pos, natAbs}
 use Rattle.runs.specs.Runs.{ruleI32}
-use Rattle.runs.specs.declared.Rule.the-variants as R
 use Rattle.runs.proofs.Place.{read, Index, index}
 use Rattle.runs.proofs.Runs.{Part, part-of}
 use Rattle.takes.proofs.Ones.{part-place, place-in, ones-ask, part-put}
@@ -13,13 +12,13 @@ use Rattle.takes.proofs.put_row.Statement.{statement}
 use Rattle.takes.proofs.put_row.Tie as tie
 
 starts-room : (a : tie.Start) → length (a .args .starts .now) * 8 < 2 ^ 63
-starts-room a = a .good .1 .0 .1
+starts-room a = a .good .1 .1 .0 .1
 
 plain-room : (a : tie.Start) → length (a .args .src .now) * 4 < 2 ^ 63
-plain-room a = a .good .0 .1
+plain-room a = a .good .1 .0 .1
 
 moved-room : (a : tie.Start) → length (a .args .dst .now) * 4 < 2 ^ 63
-moved-room a = a .good .1 .1 .0 .1
+moved-room a = a .good .1 .1 .1 .0 .1
 
 starting : (a : tie.Start) → Part (a .args .t) (a .args .n) (length (a .args .starts .now))
 starting a = part-of _ _ _ (a .pre .1 .starting) (a .pre .0) (omega (arith, starts-room a))
@@ -100,7 +99,7 @@ returns c = let a = c .before .before .before .before .before in
     let x : ℕ = natAbs (read (a .args .t)) in
     let y : ℕ = natAbs (read (a .args .s)) in
     let u : ℕ = natAbs (read (a .args .base)) in
-    part-put (pos 0) (ruleI32 R.Add) (a .args .src .now) (a .args .dst .now) _ _ _ (a .args .s) y (a .args .n) (y + a .args .n - y) u (length (a .args .dst .now) - u) (omega arith) (plain a .is) (plain a .room) (omega (arith, first a .below)) (place-in (a .args .starts .now) _ _ _ _ _ _ _ (a .pre .1) x (x + a .args .n - x) (omega arith) (starting a .is) u (length (a .args .dst .now) - u) (first a .is) refl) (part-place (a .args .starts .now) _ _ _ _ _ _ _ (a .pre .1) x (x + a .args .n - x) (omega arith) (starting a .is) u (length (a .args .dst .now) - u) (first a .is) refl) (c .before .put-ones .ensures)
+    part-put (pos 0) (ruleI32 (a .args .rule)) (a .args .src .now) (a .args .dst .now) _ _ _ (a .args .s) y (a .args .n) (y + a .args .n - y) u (length (a .args .dst .now) - u) (omega arith) (plain a .is) (plain a .room) (omega (arith, first a .below)) (place-in (a .args .starts .now) _ _ _ _ _ _ _ (a .pre .1) x (x + a .args .n - x) (omega arith) (starting a .is) u (length (a .args .dst .now) - u) (first a .is) refl) (part-place (a .args .starts .now) _ _ _ _ _ _ _ (a .pre .1) x (x + a .args .n - x) (omega arith) (starting a .is) u (length (a .args .dst .now) - u) (first a .is) refl) (c .before .put-ones .ensures)
 
 pub put-row-spec : {M : Type 1} → statement M
 put-row-spec =
