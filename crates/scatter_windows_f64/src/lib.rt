@@ -1,17 +1,19 @@
-// The cells of a scatter of f64: those of `scatter_windows`, with the runs and windows of f64.
+// Written by tests/twins from crates/scatter_windows/src/lib.rt, for f64.
+// The batches of a scatter whose windows have one cell: each update is put on the destination by a rule, at a place that is moved
+// by a start, read at a place of the batch's own. What each leaves is the plain loop over every linear index, first axis fastest.
 ghost use mathlib.Core.Path.{_≡_};
 ghost use lib.Ieee.{nan};
 ghost use lib.ListN.{length};
 ghost use Rattle.indexing.specs.Loops.{inOrder};
 ghost use Rattle.runs.specs.Runs.{ruleF64, cellAt, line};
-ghost use Rattle.runs.specs.declared.Rule.the-variants as R;
 ghost use Rattle.takes.specs.Takes.{Starting, movedAt, Putting};
-ghost use Rattle.scatter_windows.specs.Scattering.{scatteredBy, putBy, Scattering, Walk, Landing, PutLevel};
+ghost use Rattle.scatter_windows.specs.Scattering.{putBy, Walk, PutLevel};
 use layout::RAW_FUSED_RANK_LIMIT;
 use runs::Rule;
 
 // One run of windows of one cell: the start of each is read.
-pub fn scatter_run_f64(
+pub fn scatter_run(
+    rule: Rule,
     src: &[f64],
     starts: &[i64],
     dst: &mut [f64],
@@ -27,17 +29,18 @@ pub fn scatter_run_f64(
     limits: &[u64; RAW_FUSED_RANK_LIMIT],
 )
     requires { ⌜ Putting (now starts) (now offsets) (now strides) (now limits) count u t d us ts n (length (now src)) (length (now dst)) ⌝ }
-    ensures { λ _. ⌜ now (dst .exit) ≡ inOrder (cellAt nan (ruleF64 R.Add) (now (src .entry)) (line u us) (movedAt (now (starts .entry)) (now (offsets .entry)) (now (strides .entry)) (now (limits .entry)) count (λ _. d) (line t ts))) n (now (dst .entry)) ⌝ }
+    ensures { λ _. ⌜ now (dst .exit) ≡ inOrder (cellAt nan (ruleF64 rule) (now (src .entry)) (line u us) (movedAt (now (starts .entry)) (now (offsets .entry)) (now (strides .entry)) (now (limits .entry)) count (λ _. d) (line t ts))) n (now (dst .entry)) ⌝ }
 {
     if n == 0 {
         return;
     }
     if count == 1 {
         let at = t + offsets[0];
-        takes_f64::put_run_f64(src, starts, dst, n, at, ts, d, strides[0], limits[0], u, us);
+        takes::put_run(rule, src, starts, dst, n, at, ts, d, strides[0], limits[0], u, us);
         return;
     }
-    takes_f64::put_cells_f64(
+    takes::put_cells(
+        rule,
         src,
         starts,
         dst,
@@ -55,7 +58,8 @@ pub fn scatter_run_f64(
 }
 
 // The batches of the first `rank` axes, whose windows have one cell. There are some, and the axes before `low` have one place each.
-pub fn scatter_cells_f64(
+pub fn scatter_cells(
+    rule: Rule,
     src: &[f64],
     starts: &[i64],
     dst: &mut [f64],
@@ -73,14 +77,15 @@ pub fn scatter_cells_f64(
     d: i64,
 )
     requires { ⌜ PutLevel (now starts) (now offsets) (now strides) (now limits) count t u d (now extents) (now ts) (now us) low rank (length (now src)) (length (now dst)) ⌝ }
-    ensures { λ _. ⌜ now (dst .exit) ≡ putBy nan (ruleF64 R.Add) (now (src .entry)) (now (starts .entry)) (now (offsets .entry)) (now (strides .entry)) (now (limits .entry)) count t u d (now (extents .entry)) (now (ts .entry)) (now (us .entry)) rank (now (dst .entry)) ⌝ }
+    ensures { λ _. ⌜ now (dst .exit) ≡ putBy nan (ruleF64 rule) (now (src .entry)) (now (starts .entry)) (now (offsets .entry)) (now (strides .entry)) (now (limits .entry)) count t u d (now (extents .entry)) (now (ts .entry)) (now (us .entry)) rank (now (dst .entry)) ⌝ }
 {
     let top = rank - 1;
     let n = extents[top];
     let x = ts[top];
     let y = us[top];
     if top == low {
-        scatter_run_f64(
+        scatter_run(
+            rule,
             src,
             starts,
             dst,
@@ -102,7 +107,8 @@ pub fn scatter_cells_f64(
         let k = j as i64;
         let p = t + x * k;
         let q = u + y * k;
-        scatter_cells_f64(
+        scatter_cells(
+            rule,
             src,
             starts,
             dst,
@@ -124,7 +130,8 @@ pub fn scatter_cells_f64(
 }
 
 // The same with any number of axes.
-pub fn scatter_each_f64(
+pub fn scatter_each(
+    rule: Rule,
     src: &[f64],
     starts: &[i64],
     dst: &mut [f64],
@@ -141,10 +148,11 @@ pub fn scatter_each_f64(
     d: i64,
 )
     requires { ⌜ Walk (λ x y. Starting (now starts) (now offsets) (now strides) (now limits) d x count (length (now dst))) t u (now extents) (now ts) (now us) rank (length (now src)) ⌝ }
-    ensures { λ _. ⌜ now (dst .exit) ≡ putBy nan (ruleF64 R.Add) (now (src .entry)) (now (starts .entry)) (now (offsets .entry)) (now (strides .entry)) (now (limits .entry)) count t u d (now (extents .entry)) (now (ts .entry)) (now (us .entry)) rank (now (dst .entry)) ⌝ }
+    ensures { λ _. ⌜ now (dst .exit) ≡ putBy nan (ruleF64 rule) (now (src .entry)) (now (starts .entry)) (now (offsets .entry)) (now (strides .entry)) (now (limits .entry)) count t u d (now (extents .entry)) (now (ts .entry)) (now (us .entry)) rank (now (dst .entry)) ⌝ }
 {
     if rank == 0 {
-        scatter_run_f64(
+        scatter_run(
+            rule,
             src,
             starts,
             dst,
@@ -162,7 +170,8 @@ pub fn scatter_each_f64(
         return;
     }
     let low = windows::run_axis(extents, rank);
-    scatter_cells_f64(
+    scatter_cells(
+        rule,
         src,
         starts,
         dst,
