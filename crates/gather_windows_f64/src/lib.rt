@@ -38,11 +38,11 @@ pub fn gather_run(
     if count == 1 {
         if ss == 0 {
             let at = t + offsets[0];
-            takes::take_run(src, starts, dst, n, at, ts, s, strides[0], limits[0], d, ds);
+            takes_f64::take_run(src, starts, dst, n, at, ts, s, strides[0], limits[0], d, ds);
             return;
         }
     }
-    takes::take_cells(
+    takes_f64::take_cells(
         src,
         starts,
         dst,
@@ -86,7 +86,7 @@ pub fn gather_axes(
 {
     if rank <= wide {
         let a = takes::started(starts, s, t, count, offsets, strides, limits);
-        windows::axes(Rule::Copy, src, dst, extents, ss, ds, low, rank, a, d);
+        windows_f64::axes(Rule::Copy, src, dst, extents, ss, ds, low, rank, a, d);
         return;
     }
     let top = rank - 1;

@@ -201,7 +201,7 @@ pub fn put_cells(
         let m = takes::started(starts, d, q, count, offsets, strides, limits);
         let b = m as usize;
         let a = (s + ss * k) as usize;
-        let v = runs::apply(rule, dst[b], src[a]);
+        let v = runs_f64::apply(rule, dst[b], src[a]);
         dst[b] = v;
         i += 1;
     }
@@ -234,7 +234,7 @@ pub fn put_strided(
         let c = y as i64;
         let b = (base + stride * c) as usize;
         let a = (s + ss * k) as usize;
-        let v = runs::apply(rule, dst[b], src[a]);
+        let v = runs_f64::apply(rule, dst[b], src[a]);
         dst[b] = v;
         i += 1;
     }
@@ -248,7 +248,7 @@ fn put_one(rule: Rule, src: &[f64], starts: &[i64], dst: &mut [f64], limit: i64,
     let x = starts[i];
     let y = takes::clamped(x, limit);
     let b = y as usize;
-    let v = runs::apply(rule, dst[b], src[i]);
+    let v = runs_f64::apply(rule, dst[b], src[i]);
     dst[b] = v;
 }
 

@@ -31,14 +31,14 @@ pub fn axes(
     let a = ss[top];
     let b = ds[top];
     if top == low {
-        runs::run(rule, src, dst, n as usize, s, d, a, b);
+        runs_f64::run(rule, src, dst, n as usize, s, d, a, b);
         return;
     }
     if top == low + 1 {
         let m = extents[low];
         let x = ss[low];
         let y = ds[low];
-        runs::plane(rule, src, dst, m as usize, n, s, d, x, y, a, b);
+        runs_f64::plane(rule, src, dst, m as usize, n, s, d, x, y, a, b);
         return;
     }
     let mut j: u64 = 0;

@@ -15,7 +15,7 @@ use Rattle.takes_f64.proofs.put_one.Tie as tie
 -- the place of the destination
 module _ (c : tie.After-clamped) where
   abbrev at-start : tie.Start
-  at-start = c .before .before
+  at-start = search
 
   place : Index (c .clamped .result) (length (at-start .args .dst .now))
   place = let a = at-start in ones-index _ _ _ _ (a .pre .1) (a .fits .limit) (omega (arith, a .good .1 .1 .1 .0 .1)) _ (a .pre .0) (sfits-of (c .before .x .given)) _ (c .clamped .ensures)
@@ -39,7 +39,7 @@ mul-apply : tie.Need-mul-apply
 mul-apply c = omega (arith, place c .below, at-start c .good .1 .1 .1 .0 .1)
 
 slice-read-apply : tie.Need-slice-read-apply
-slice-read-apply c = place c .below
+slice-read-apply c = let l : tie.After-clamped = search in place l .below
 
 mul-apply-2 : tie.Need-mul-apply-2
 mul-apply-2 c = search needs
