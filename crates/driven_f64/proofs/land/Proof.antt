@@ -13,18 +13,24 @@ dst-room : (a : tie.Start) → length (a .args .dst .now) < 2 ^ 63
 dst-room a = omega (arith, a .good .1 .1 .1 .0 .1)
 
 started-requires : tie.Need-started-requires
-started-requires c κs = start-asks _ _ _ _ _ _ _ _ _ _ _ _ _ _ _ (c .pre) (c .fits .t) (c .fits .u) (c .fits .d) (dst-room c)
+started-requires c κs =
+    let a : tie.Start = search in
+    start-asks _ _ _ _ _ _ _ _ _ _ _ _ _ _ _ (a .pre) (a .fits .t) (a .fits .u) (a .fits .d) (dst-room a)
 
 axes-requires : tie.Need-axes-requires
-axes-requires c κs = let a = c .before .before in window-asks _ _ _ _ _ _ _ _ _ _ _ _ _ _ _ (a .pre) (a .fits .t) (a .fits .u) (a .fits .d) (dst-room a) _ (c .before .started .ensures)
+axes-requires c κs =
+    let a : tie.Start = search in
+    window-asks _ _ _ _ _ _ _ _ _ _ _ _ _ _ _ (a .pre) (a .fits .t) (a .fits .u) (a .fits .d) (dst-room a) _ (c .before .started .ensures)
 
 same-length : tie.Need-same-length
 same-length c = search needs
 
 returns : tie.Need-returns
 returns c =
-    let a = c .before .before .before .before in
-    window-end _ _ _ _ _ _ _ _ _ _ _ _ _ _ _ (a .pre) (a .fits .t) (a .fits .u) (a .fits .d) (dst-room a) _ (c .before .before .before .started .ensures) nan (ruleF64 (a .args .rule)) (a .args .src .now) (a .args .dst .now) _ (c .before .axes .ensures)
+    let s : tie.After-started = search in
+    let x : tie.After-axes = search in
+    let a : tie.Start = search in
+    window-end _ _ _ _ _ _ _ _ _ _ _ _ _ _ _ (a .pre) (a .fits .t) (a .fits .u) (a .fits .d) (dst-room a) _ (s .started .ensures) nan (ruleF64 (a .args .rule)) (a .args .src .now) (a .args .dst .now) _ (x .axes .ensures)
 
 pub land-spec : {M : Type 1} → statement M
 land-spec = tie.close (tie.spec started-requires axes-requires same-length returns)

@@ -43,19 +43,20 @@ start-requires : tie.Need-start-requires Inv-loop μ-loop
 start-requires c κs = tt
 
 loop-holds : tie.Need-loop-holds Inv-loop μ-loop
-loop-holds c = let a = c .before in (omega arith, refl, begun (Asked a) _ _ _ _ _ _ _ (a .pre) (a .fits .t) (a .fits .u) (a .fits .d) (shape-full a) (rows-full a) _ (c .start .ensures), none _ 0 _ refl)
+loop-holds c =
+    let a : tie.Start Inv-loop μ-loop = search in (omega arith, refl, begun (Asked a) _ _ _ _ _ _ _ (a .pre) (a .fits .t) (a .fits .u) (a .fits .d) (shape-full a) (rows-full a) _ (c .start .ensures), none _ 0 _ refl)
 
 land-requires : tie.Need-land-requires Inv-loop μ-loop
 land-requires c κs =
     let h = c .before .before .before .before in
-    let a = h .before .before in
+    let a : tie.Start Inv-loop μ-loop = search in
     subst (λ (m : ℕ). Landing (a .args .starts .now) (a .args .offsets .now) (a .args .strides .now) (a .args .limits .now) (a .args .count) (read (a .args .d)) (a .args .wextents .now) (a .args .ws .now) (a .args .ds .now) (a .args .low) (a .args .wrank) (length (a .args .src .now)) m (read (h .loop .state .«source_offset»)) (read (h .loop .state .«dest_offset»))) (sym (h .loop .inv .1))
     (body-asks (Asked a) _ _ _ _ _ _ _ (a .pre) (a .fits .t) (a .fits .u) (a .fits .d) (shape-full a) (rows-full a) (h .loop .b) (h .loop .state) (h .loop .inv .2) (c .before .before .before .loop-test .taken))
 
 moved-requires : tie.Need-moved-requires Inv-loop μ-loop
 moved-requires c κs =
-    let h = c .before .before .before .before .before .before in
-    let a = h .before .before in
+    let h : tie.At-loop Inv-loop μ-loop = search in
+    let a : tie.Start Inv-loop μ-loop = search in
     step-asks (Asked a) _ _ _ _ _ _ _ (a .pre) (a .fits .t) (a .fits .u) (a .fits .d) (shape-full a) (rows-full a) (h .loop .b) (h .loop .state) (h .loop .inv .2)
 
 add-b : tie.Need-add-b Inv-loop μ-loop
@@ -66,12 +67,14 @@ loop-less c = omega arith
 
 loop-again : tie.Need-loop-again Inv-loop μ-loop
 loop-again c =
-    let h = c .before .before .before .before .before .before .before in
-    let a = h .before .before in (
-      omega (arith, c .before .before .before .before .before .before .loop-test .taken),
-      c .before .before .land .kept .1 .1 .1 .0 ∙ h .loop .inv .1,
+    let d : tie.In-loop Inv-loop μ-loop = search in
+    let l : tie.After-land Inv-loop μ-loop = search in
+    let h : tie.At-loop Inv-loop μ-loop = search in
+    let a : tie.Start Inv-loop μ-loop = search in (
+      omega (arith, d .loop-test .taken),
+      l .land .kept .1 .1 .1 .0 ∙ h .loop .inv .1,
       step-gives (Asked a) _ _ _ _ _ _ _ (a .pre) (a .fits .t) (a .fits .u) (a .fits .d) (shape-full a) (rows-full a) (h .loop .b) (h .loop .state) (h .loop .inv .2) _ (c .moved .ensures),
-      body-gives (Asked a) _ _ _ _ _ _ _ (a .pre) (a .fits .t) (a .fits .u) (a .fits .d) (shape-full a) (rows-full a) (land nan (ruleF64 (a .args .rule)) (a .args .src .now) (a .args .starts .now) (a .args .offsets .now) (a .args .strides .now) (a .args .limits .now) (a .args .count) (a .args .wextents .now) (a .args .ws .now) (a .args .ds .now) (a .args .wrank)) (h .loop .b) (h .loop .state) (h .loop .inv .2) (a .args .dst .now) (h .loop .dst) _ (h .loop .inv .3) (c .before .before .land .ensures),
+      body-gives (Asked a) _ _ _ _ _ _ _ (a .pre) (a .fits .t) (a .fits .u) (a .fits .d) (shape-full a) (rows-full a) (land nan (ruleF64 (a .args .rule)) (a .args .src .now) (a .args .starts .now) (a .args .offsets .now) (a .args .strides .now) (a .args .limits .now) (a .args .count) (a .args .wextents .now) (a .args .ws .now) (a .args .ds .now) (a .args .wrank)) (h .loop .b) (h .loop .state) (h .loop .inv .2) (a .args .dst .now) (h .loop .dst) _ (h .loop .inv .3) (l .land .ensures),
     )
 
 same-length : tie.Need-same-length Inv-loop μ-loop
@@ -80,7 +83,7 @@ same-length c = c .before .loop .inv .1
 returns : tie.Need-returns Inv-loop μ-loop
 returns c =
     let h = c .before in
-    let a = h .before .before in
+    let a : tie.Start Inv-loop μ-loop = search in
     ended (Asked a) _ _ _ _ _ _ _ (a .pre) (a .fits .t) (a .fits .u) (a .fits .d) (shape-full a) (rows-full a) (land nan (ruleF64 (a .args .rule)) (a .args .src .now) (a .args .starts .now) (a .args .offsets .now) (a .args .strides .now) (a .args .limits .now) (a .args .count) (a .args .wextents .now) (a .args .ws .now) (a .args .ds .now) (a .args .wrank)) (h .loop .b) (a .args .dst .now) (h .loop .dst) (omega arith) (h .loop .inv .3)
 
 pub scatter-driven-spec : {M : Type 1} → statement M
