@@ -15,7 +15,7 @@ tested : (a : tie.Start) (r : Bool) → r ≡ accepted (a .args .rank) (a .args 
 tested a r e = record { is = e; shape-long = search needs; source-long = search needs; dest-long = search needs }
 
 -- what is known where the cells have been found few
-few : (f : tie.After-all-few) → tie.Start
+abbrev few : tie.After-all-few → tie.Start
 few f = f .before .before .before .before .before
 
 source : (t : tie.After-inside) → covers (take (few (t .before .before) .args .rank) (few (t .before .before) .args .extents)) (take (few (t .before .before) .args .rank) (few (t .before .before) .args .ss)) (few (t .before .before) .args .s) (few (t .before .before) .args .sn) ≡ t .inside .result
