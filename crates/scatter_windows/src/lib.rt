@@ -52,7 +52,20 @@ pub fn scatter_run(
     }
     if count == 1 {
         let at = t + offsets[0];
-        takes::put_run(rule, src, starts, dst, n, at, ts, d, strides[0], limits[0], u, us);
+        takes::put_run(
+            rule,
+            src,
+            starts,
+            dst,
+            n,
+            at,
+            ts,
+            d,
+            strides[0],
+            limits[0],
+            u,
+            us,
+        );
         return;
     }
     takes::put_cells(

@@ -9,9 +9,8 @@ use Rattle.indexing.specs.Loops.{inOrder}
 use Rattle.runs.specs.Runs.{ruleI32, cellAt}
 use Rattle.runs.specs.declared.Rule.the-variants as R
 use Rattle.runs.proofs.Turns.{none, more}
-use Rattle.runs.proofs.Place.{read}
 use Rattle.takes.specs.Takes.{oneAt}
-use Rattle.takes.proofs.Ones.{ones-left, turn-length, take-ones-end}
+use Rattle.takes.proofs.Ones.{ones-left, take-ones-end}
 use Rattle.takes.proofs.take_few.Statement.{statement}
 use Rattle.takes.proofs.take_few.Tie as tie
 
@@ -39,14 +38,12 @@ loop-less c = let d : tie.In-loop Inv-loop μ-loop = search in omega (arith, d .
 
 loop-again : tie.Need-loop-again Inv-loop μ-loop
 loop-again c =
-    let t : tie.After-take-one Inv-loop μ-loop = search in
+    let p : tie.After-take-one Inv-loop μ-loop = search in
     let d : tie.In-loop Inv-loop μ-loop = search in
-    let h : tie.At-loop Inv-loop μ-loop = search in
-    let a : tie.Start Inv-loop μ-loop = search in
-    let e = t .take-one .ensures in (
+    let h : tie.At-loop Inv-loop μ-loop = search in (
       omega (arith, d .loop-test .taken),
-      turn-length (pos 0) (ruleI32 R.Copy) (a .args .src .now) (oneAt (a .args .starts .now) (read (a .args .limit))) pos (h .loop .i) (h .loop .dst) _ e ∙ h .loop .inv .1,
-      more _ (h .loop .i) _ _ _ (h .loop .inv .2) e,
+      p .take-one .kept .1 .1 .0 ∙ h .loop .inv .1,
+      more _ (h .loop .i) _ _ _ (h .loop .inv .2) (p .take-one .ensures),
     )
 
 same-length : tie.Need-same-length Inv-loop μ-loop
