@@ -1,4 +1,4 @@
-// Written by tests/twins from crates/gather_windows/src/lib.rt, for f64.
+// Written by tests/twins from crates/gather_windows/src/lib.rt.
 // The cells of a gather: all cells of up to eight axes, where the source's place is moved by a start that is read at a place of its
 // own. What each leaves is the plain loop over every linear index, first axis fastest.
 ghost use mathlib.Core.Path.{_≡_};

@@ -1,4 +1,4 @@
-// Written by tests/twins from crates/runs/src/lib.rt, for f64.
+// Written by tests/twins from crates/runs/src/lib.rt.
 // Runs along one axis of two strided slices. What each leaves is the plain loop, cell by cell: `inOrder` of `cellAt`.
 ghost use mathlib.Core.Path.{_≡_};
 ghost use Prim.Native.Nat.{_<_, _≤_};

@@ -1,4 +1,4 @@
-// Written by tests/twins from crates/scatter_windows/src/lib.rt, for f64.
+// Written by tests/twins from crates/scatter_windows/src/lib.rt.
 // The batches of a scatter whose windows have one cell: each update is put on the destination by a rule, at a place that is moved
 // by a start, read at a place of the batch's own. What each leaves is the plain loop over every linear index, first axis fastest.
 ghost use mathlib.Core.Path.{_≡_};

@@ -1,4 +1,4 @@
-// Written by tests/twins from crates/takes/src/lib.rt, for f64.
+// Written by tests/twins from crates/takes/src/lib.rt.
 // Runs whose places on one side are given by starts, each clamped: windows of one cell, whose start changes with each cell.
 ghost use mathlib.Core.Path.{_≡_};
 ghost use Prim.Native.Nat.{_<_, _≤_};

@@ -1,4 +1,4 @@
-// Written by tests/twins from crates/windows/src/lib.rt, for f64.
+// Written by tests/twins from crates/windows/src/lib.rt.
 // Windows: all cells of up to eight axes of two strided slices, a run at a time. What each leaves is the plain loop over every
 // linear index, first axis fastest. There are no coordinates and no resets: the last axis moves both bases, and below it stands
 // the window of the axes before it.

@@ -1,4 +1,4 @@
--- Written by tests/twins from crates/driven/proofs/land/Proof.antt, for f64.
+-- Written by tests/twins from crates/driven/proofs/land/Proof.antt.
 use Prim.Native.Nat.{_<_, _^_}
 use native.Mathlib.Omega.{arith}
 use borrow.Author.Needs.{needs}

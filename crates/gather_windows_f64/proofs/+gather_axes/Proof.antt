@@ -1,4 +1,4 @@
--- Written by tests/twins from crates/gather_windows/proofs/+gather_axes/Proof.antt, for f64.
+-- Written by tests/twins from crates/gather_windows/proofs/+gather_axes/Proof.antt.
 use mathlib.Core.Path.{_≡_, refl, sym, subst, _∙_}
 use Prim.Native.Nat.{ℕ, suc, _-_, _<_, _≤_, _^_}
 use native.Mathlib.Omega.{arith}

@@ -1,3 +1,4 @@
+-- Kept by hand: tests/twins does not write it. A sum of floats is the sum that the rule says.
 use mathlib.Core.Path.{sym, ap}
 use Rattle.runs.specs.Runs.{ruleF64}
 use Rattle.runs.specs.declared.Rule.{Rule}

@@ -1,4 +1,4 @@
--- Written by tests/twins from crates/runs/proofs/block/Proof.antt, for f64.
+-- Written by tests/twins from crates/runs/proofs/block/Proof.antt.
 use mathlib.Core.Path.{refl}
 use Prim.Native.Nat.{_-_}
 use native.Mathlib.Omega.{arith}

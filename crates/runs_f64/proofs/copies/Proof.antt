@@ -1,4 +1,4 @@
--- Written by tests/twins from crates/runs/proofs/copies/Proof.antt, for f64.
+-- Written by tests/twins from crates/runs/proofs/copies/Proof.antt.
 use mathlib.Core.Path.{_≡_, refl, ap, _∙_}
 use Prim.Native.Nat.{ℕ, _+_, _-_, _≤_}
 use native.Mathlib.Omega.{arith}

@@ -1,4 +1,4 @@
--- Written by tests/twins from crates/runs/proofs/ones/Proof.antt, for f64.
+-- Written by tests/twins from crates/runs/proofs/ones/Proof.antt.
 use borrow.Author.Needs.{needs}
 use Rattle.runs_f64.proofs.ones.Statement.{statement}
 use Rattle.runs_f64.proofs.ones.Tie as tie

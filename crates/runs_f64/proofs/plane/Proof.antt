@@ -1,4 +1,4 @@
--- Written by tests/twins from crates/runs/proofs/plane/Proof.antt, for f64.
+-- Written by tests/twins from crates/runs/proofs/plane/Proof.antt.
 use mathlib.Core.Path.{refl}
 use lib.Ieee.{nan}
 use Rattle.runs.specs.Runs.{ruleF64}

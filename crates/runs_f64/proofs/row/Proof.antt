@@ -1,4 +1,4 @@
--- Written by tests/twins from crates/runs/proofs/row/Proof.antt, for f64.
+-- Written by tests/twins from crates/runs/proofs/row/Proof.antt.
 use Prim.Native.Nat.{ℕ, _+_, _-_}
 use native.Mathlib.Omega.{arith}
 use lib.Ieee.{nan}

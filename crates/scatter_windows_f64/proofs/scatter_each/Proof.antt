@@ -1,4 +1,4 @@
--- Written by tests/twins from crates/scatter_windows/proofs/scatter_each/Proof.antt, for f64.
+-- Written by tests/twins from crates/scatter_windows/proofs/scatter_each/Proof.antt.
 use lib.Ieee.{nan}
 use Rattle.runs.specs.Runs.{ruleF64}
 use Rattle.scatter_windows.proofs.Whole.{one-batch, one-end, put-level, put-end}

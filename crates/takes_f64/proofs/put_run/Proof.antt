@@ -1,4 +1,4 @@
--- Written by tests/twins from crates/takes/proofs/put_run/Proof.antt, for f64.
+-- Written by tests/twins from crates/takes/proofs/put_run/Proof.antt.
 use mathlib.Core.Path.{refl}
 use borrow.Author.Needs.{needs}
 use lib.Ieee.{nan}
