@@ -266,7 +266,7 @@ fn put_few(rule: Rule, src: &[f64], starts: &[i64], dst: &mut [f64], limit: i64,
 
 // A cell for each start, by the rule: of the source in order; of the destination where the start says, clamped. Four to a turn,
 // behind those that are over.
-pub fn put_ones(rule: Rule, src: &[f64], starts: &[i64], dst: &mut [f64], limit: i64)
+fn put_fours(rule: Rule, src: &[f64], starts: &[i64], dst: &mut [f64], limit: i64)
     requires { ⌜ Ones (now starts) limit (length (now src)) (length (now dst)) ⌝ }
     ensures { λ _. ⌜ now (dst .exit) ≡ inOrder (cellAt nan (ruleF64 rule) (now (src .entry)) pos (oneAt (now (starts .entry)) limit)) (length (now (src .entry))) (now (dst .entry)) ⌝ }
 {
@@ -281,6 +281,23 @@ pub fn put_ones(rule: Rule, src: &[f64], starts: &[i64], dst: &mut [f64], limit:
         put_one(rule, src, starts, dst, limit, i + 3);
         i += 4;
         fours -= 1;
+    }
+}
+
+// The same. The compiler does not move the question for the rule out of a loop of four cells to a turn, so only one rule goes by
+// it, and the compiler knows which; the others go one to a turn.
+pub fn put_ones(rule: Rule, src: &[f64], starts: &[i64], dst: &mut [f64], limit: i64)
+    requires { ⌜ Ones (now starts) limit (length (now src)) (length (now dst)) ⌝ }
+    ensures { λ _. ⌜ now (dst .exit) ≡ inOrder (cellAt nan (ruleF64 rule) (now (src .entry)) pos (oneAt (now (starts .entry)) limit)) (length (now (src .entry))) (now (dst .entry)) ⌝ }
+{
+    match rule {
+        Rule::Copy => {
+            let n = src.len();
+            put_few(rule, src, starts, dst, limit, n);
+        }
+        Rule::Add => {
+            put_fours(Rule::Add, src, starts, dst, limit);
+        }
     }
 }
 
