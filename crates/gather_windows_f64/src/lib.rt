@@ -1,4 +1,6 @@
-// The cells of a gather over f64: as `gather_windows` over i32.
+// Written by tests/twins from crates/gather_windows/src/lib.rt.
+// The cells of a gather: all cells of up to eight axes, where the source's place is moved by a start that is read at a place of its
+// own. What each leaves is the plain loop over every linear index, first axis fastest.
 ghost use mathlib.Core.Path.{_≡_};
 ghost use lib.Ieee.{nan};
 ghost use lib.ListN.{length};
@@ -11,7 +13,7 @@ use layout::RAW_FUSED_RANK_LIMIT;
 use runs::Rule;
 
 // One run: windows of one cell, whose start is read at each.
-pub fn gather_run_f64(
+pub fn gather_run(
     src: &[f64],
     starts: &[i64],
     dst: &mut [f64],
@@ -36,11 +38,11 @@ pub fn gather_run_f64(
     if count == 1 {
         if ss == 0 {
             let at = t + offsets[0];
-            takes_f64::take_run_f64(src, starts, dst, n, at, ts, s, strides[0], limits[0], d, ds);
+            takes_f64::take_run(src, starts, dst, n, at, ts, s, strides[0], limits[0], d, ds);
             return;
         }
     }
-    takes_f64::take_cells_f64(
+    takes_f64::take_cells(
         src,
         starts,
         dst,
@@ -60,7 +62,7 @@ pub fn gather_run_f64(
 
 // The cells of the first `rank` axes. There are some, the axes before `low` have one place each, and those before `wide` move no
 // start: where only such axes are left, the start is read once, and what is left is a window.
-pub fn gather_axes_f64(
+pub fn gather_axes(
     src: &[f64],
     starts: &[i64],
     dst: &mut [f64],
@@ -84,7 +86,7 @@ pub fn gather_axes_f64(
 {
     if rank <= wide {
         let a = takes::started(starts, s, t, count, offsets, strides, limits);
-        windows_f64::axes_f64(Rule::Copy, src, dst, extents, ss, ds, low, rank, a, d);
+        windows_f64::axes(Rule::Copy, src, dst, extents, ss, ds, low, rank, a, d);
         return;
     }
     let top = rank - 1;
@@ -93,7 +95,7 @@ pub fn gather_axes_f64(
     let y = ts[top];
     let z = ds[top];
     if top == low {
-        gather_run_f64(
+        gather_run(
             src,
             starts,
             dst,
@@ -117,7 +119,7 @@ pub fn gather_axes_f64(
         let p = s + x * k;
         let q = t + y * k;
         let r = d + z * k;
-        gather_axes_f64(
+        gather_axes(
             src,
             starts,
             dst,
@@ -141,7 +143,7 @@ pub fn gather_axes_f64(
 }
 
 // The cells of the first `rank` axes, of which there may be none.
-pub fn gather_window_f64(
+pub fn gather_window(
     src: &[f64],
     starts: &[i64],
     dst: &mut [f64],
@@ -162,7 +164,7 @@ pub fn gather_window_f64(
     ensures { λ _. ⌜ now (dst .exit) ≡ gatheredBy nan (ruleF64 R.Copy) (now (src .entry)) (now (starts .entry)) (now (offsets .entry)) (now (strides .entry)) (now (limits .entry)) count s t d (now (extents .entry)) (now (ss .entry)) (now (ts .entry)) (now (ds .entry)) rank (now (dst .entry)) ⌝ }
 {
     if rank == 0 {
-        gather_run_f64(
+        gather_run(
             src,
             starts,
             dst,
@@ -185,7 +187,7 @@ pub fn gather_window_f64(
     }
     let low = windows::run_axis(extents, rank);
     let wide = gather_windows::still_axes(extents, ts, rank);
-    gather_axes_f64(
+    gather_axes(
         src,
         starts,
         dst,

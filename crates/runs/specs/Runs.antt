@@ -40,6 +40,10 @@ pub record Run (s d ss ds : ℤ) (n sn dn : ℕ) : Type 0 where
 abbrev pub runAt : {A : Type 0} → A → (A → A → A) → List A → ℤ → ℤ → ℤ → ℤ → ℤ → ℤ → ℕ → ℕ → List A → List A
 runAt z rule src s d ss ds st dt n j = inOrder (cellAt z rule src (line (line s st j) ss) (line (line d dt j) ds)) n
 
+-- the most cells that are copied at a time
+abbrev pub blockCells : ℕ
+blockCells = 4096
+
 -- m runs of n cells each lie inside their slices
 pub record Plane (s d ss ds st dt : ℤ) (n m sn dn : ℕ) : Type 0 where
   pub some : 0 < n

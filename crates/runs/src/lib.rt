@@ -4,11 +4,14 @@ ghost use Prim.Native.Nat.{_<_, _≤_};
 ghost use lib.IntN.{pos};
 ghost use lib.ListN.{length};
 ghost use Rattle.indexing.specs.Loops.{inOrder};
-ghost use Rattle.runs.specs.Runs.{ruleI32, cellAt, line, Run, Plane, runAt};
+ghost use Rattle.runs.specs.Runs.{ruleI32, cellAt, line, Run, Plane, runAt, blockCells};
 ghost use Rattle.runs.specs.declared.Rule.the-variants as R;
 
 // The most cells that are copied at a time.
 pub const BLOCK: usize = 4096;
+
+// A copy of fewer cells goes element by element.
+pub const FEW: usize = 8;
 
 // What is done at a cell: the source's element replaces what is there, or is added to it.
 pub enum Rule {
@@ -40,7 +43,7 @@ fn each(rule: Rule, src: &[i32], dst: &mut [i32])
 
 // A copy of at most BLOCK cells, by way of an array: the compiler makes one move of memory of it.
 fn block(src: &[i32], dst: &mut [i32])
-    requires { ⌜ (length (now src) ≡ length (now dst)) × (length (now dst) ≤ 4096) ⌝ }
+    requires { ⌜ (length (now src) ≡ length (now dst)) × (length (now dst) ≤ blockCells) ⌝ }
     ensures { λ _. ⌜ now (dst .exit) ≡ inOrder (cellAt (pos 0) (ruleI32 R.Copy) (now (src .entry)) pos pos) (length (now (dst .entry))) (now (dst .entry)) ⌝ }
 {
     let n = dst.len();
@@ -71,7 +74,7 @@ pub fn ones(rule: Rule, src: &[i32], dst: &mut [i32])
 {
     match rule {
         Rule::Copy => {
-            if dst.len() < 8 {
+            if dst.len() < FEW {
                 each(rule, src, dst);
             } else {
                 copies(src, dst);
@@ -200,18 +203,4 @@ pub fn plane(
         }
     }
     strided_rows(rule, src, dst, n, m, s, d, ss, ds, st, dt);
-}
-
-pub fn copy_run(src: &[i32], dst: &mut [i32], n: usize, s: i64, d: i64, ss: i64, ds: i64)
-    requires { ⌜ Run s d ss ds n (length (now src)) (length (now dst)) ⌝ }
-    ensures { λ _. ⌜ now (dst .exit) ≡ inOrder (cellAt (pos 0) (ruleI32 R.Copy) (now (src .entry)) (line s ss) (line d ds)) n (now (dst .entry)) ⌝ }
-{
-    run(Rule::Copy, src, dst, n, s, d, ss, ds);
-}
-
-pub fn add_run(src: &[i32], dst: &mut [i32], n: usize, s: i64, d: i64, ss: i64, ds: i64)
-    requires { ⌜ Run s d ss ds n (length (now src)) (length (now dst)) ⌝ }
-    ensures { λ _. ⌜ now (dst .exit) ≡ inOrder (cellAt (pos 0) (ruleI32 R.Add) (now (src .entry)) (line s ss) (line d ds)) n (now (dst .entry)) ⌝ }
-{
-    run(Rule::Add, src, dst, n, s, d, ss, ds);
 }

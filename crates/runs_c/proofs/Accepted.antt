@@ -1,11 +1,11 @@
 -- What is accepted meets what the runs and windows ask. Assumes nothing.
 use mathlib.Core.Path.{_≡_, refl, sym, ap, ap₂, _∙_}
-use mathlib.Core.Bool.{Bool, true, false, cond, _&&_, true≢false}
+use mathlib.Core.Bool.{Bool, true, false, cond, not, _&&_, true≢false}
 use mathlib.Core.List.{List, [], _∷_}
 use Prim.Native.Nat.{ℕ, zero, suc, _+_, _<_, _≤_, _^_}
 use native.Mathlib.Numerals.{add-one}
 use native.Mathlib.Omega.{arith}
-use borrow.Author.Tests.{leb-true, lt-leb, le-leb}
+use borrow.Author.Tests.{leb-true, lt-leb, le-leb, not-true}
 use lib.Dec.{leb}
 use lib.ListN.{length, getD, take, drop, replicate, drop-of-length-le}
 use lib.Seq.{drop-cons, getD-take, length-take-le}
@@ -13,12 +13,15 @@ use lib.IntN.{ℤ}
 use mir.Syntax.{w64}
 use mir.Val.{SFits}
 use Rattle.integer.specs.Z.{back}
+use Rattle.indexing.specs.Odometer.{AllPos}
 use Rattle.indexing.specs.Loops.{inOrder}
 use Rattle.layout.specs.Layouts.{rankLimit}
+use Rattle.layout.specs.Nested.{hasZero}
 use Rattle.runs.specs.Runs.{cellAt, line, Run}
 use Rattle.runs.specs.declared.Rule.{Rule}
 use Rattle.runs.proofs.Place.{read}
-use Rattle.windows.specs.Windows.{windowed, Window}
+use Rattle.windows.specs.Windows.{windowed, Window, Units, Level}
+use Rattle.windows.proofs.Last.{some-cells}
 use Rattle.windows.proofs.Levels.{region-line}
 use Rattle.windows.proofs.Reached.{reached}
 use Rattle.runs_c.specs.Bench.{allFew, covers, accepted, Ran}
@@ -60,34 +63,64 @@ few-each (suc n) (d ∷ ds) e l (suc i) h = few-each n ds (and-right (leb d (2 ^
 
 -- the answers, in the order of the tests
 module _ (rank : ℕ) (shape : List ℕ) (ss ds : List ℤ) (s d : ℤ) (sn dn : ℕ) where
-  pub rank-no : rankLimit < rank → false ≡ accepted rank shape ss ds s d sn dn
+  pub none-no : rank ≡ 0 → false ≡ accepted rank shape ss ds s d sn dn
   unfolding accepted
-  rank-no h = rw (lt-leb rank rankLimit h)
+  none-no e = rw (lt-leb 1 rank (omega arith))
 
-  pub few-no : rank ≤ rankLimit → allFew (take rank shape) ≡ false → false ≡ accepted rank shape ss ds s d sn dn
-  unfolding accepted
-  few-no h e = rw (le-leb rank rankLimit h, e)
+  -- where there are axes
+  module _ (some : rank ≡ 0 → ⊥) where
+    any : leb 1 rank ≡ true
+    any = le-leb 1 rank (omega (arith, some))
 
-  pub source-no : rank ≤ rankLimit → allFew (take rank shape) ≡ true → covers (take rank shape) (take rank ss) s sn ≡ false → false ≡ accepted rank shape ss ds s d sn dn
-  unfolding accepted
-  source-no h e f = rw (le-leb rank rankLimit h, e, f)
+    pub rank-no : rankLimit < rank → false ≡ accepted rank shape ss ds s d sn dn
+    unfolding accepted
+    rank-no h = rw (any, lt-leb rank rankLimit h)
 
-  pub source-yes : rank ≤ rankLimit → allFew (take rank shape) ≡ true → covers (take rank shape) (take rank ss) s sn ≡ true → covers (take rank shape) (take rank ds) d dn ≡ accepted rank shape ss ds s d sn dn
-  unfolding accepted
-  source-yes h e f = rw (le-leb rank rankLimit h, e, f)
+    pub zero-no : rank ≤ rankLimit → hasZero (take rank shape) ≡ true → false ≡ accepted rank shape ss ds s d sn dn
+    unfolding accepted
+    zero-no h z = rw (any, le-leb rank rankLimit h, z)
 
-  pub accepted-window : length shape ≡ rankLimit → length ss ≡ rankLimit → length ds ≡ rankLimit → accepted rank shape ss ds s d sn dn ≡ true → Window s d shape ss ds rank sn dn
-  unfolding accepted covers
-  accepted-window lh ls ld e =
-      let h : rank ≤ rankLimit = leb-true rank rankLimit (and-left (leb rank rankLimit) _ e) in
-      let e₁ = and-right (leb rank rankLimit) _ e in
-      let e₂ = and-right (allFew (take rank shape)) _ e₁ in
-      let f : (i : ℕ) → i < rank → getD shape i 0 ≤ 2 ^ 63 = few-each rank shape (and-left (allFew (take rank shape)) _ e₁) (omega arith) in
-      record {
-        small = h;
-        source = reached s shape ss rank sn 0 (omega arith) (omega arith) f (and-left (covers (take rank shape) (take rank ss) s sn) _ e₂);
-        dest = reached d shape ds rank dn 0 (omega arith) (omega arith) f (and-right (covers (take rank shape) (take rank ss) s sn) _ e₂);
-      }
+    -- and cells
+    module _ (h : rank ≤ rankLimit) (z : hasZero (take rank shape) ≡ false) where
+      pub few-no : allFew (take rank shape) ≡ false → false ≡ accepted rank shape ss ds s d sn dn
+      unfolding accepted
+      few-no e = rw (any, le-leb rank rankLimit h, z, e)
+
+      pub source-no : allFew (take rank shape) ≡ true → covers (take rank shape) (take rank ss) s sn ≡ false → false ≡ accepted rank shape ss ds s d sn dn
+      unfolding accepted
+      source-no e f = rw (any, le-leb rank rankLimit h, z, e, f)
+
+      pub source-yes : allFew (take rank shape) ≡ true → covers (take rank shape) (take rank ss) s sn ≡ true → covers (take rank shape) (take rank ds) d dn ≡ accepted rank shape ss ds s d sn dn
+      unfolding accepted
+      source-yes e f = rw (any, le-leb rank rankLimit h, z, e, f)
+
+  module _ (lh : length shape ≡ rankLimit) (ls : length ss ≡ rankLimit) (ld : length ds ≡ rankLimit) (e : accepted rank shape ss ds s d sn dn ≡ true) where
+    ranked : (leb rank rankLimit && (not (hasZero (take rank shape)) && (allFew (take rank shape) && (covers (take rank shape) (take rank ss) s sn && covers (take rank shape) (take rank ds) d dn)))) ≡ true
+    unfolding accepted
+    ranked = and-right (leb 1 rank) _ e
+
+    pub accepted-some : 0 < rank
+    unfolding accepted
+    accepted-some = leb-true 1 rank (and-left (leb 1 rank) _ e)
+
+    pub accepted-cells : AllPos (take rank shape)
+    accepted-cells = some-cells (take rank shape) (not-true _ (and-left (not (hasZero (take rank shape))) _ (and-right (leb rank rankLimit) _ ranked)))
+
+    pub accepted-window : Window s d shape ss ds rank sn dn
+    unfolding covers
+    accepted-window =
+        let h : rank ≤ rankLimit = leb-true rank rankLimit (and-left (leb rank rankLimit) _ ranked) in
+        let e₁ = and-right (not (hasZero (take rank shape))) _ (and-right (leb rank rankLimit) _ ranked) in
+        let e₂ = and-right (allFew (take rank shape)) _ e₁ in
+        let f : (i : ℕ) → i < rank → getD shape i 0 ≤ 2 ^ 63 = few-each rank shape (and-left (allFew (take rank shape)) _ e₁) (omega arith) in
+        record {
+          small = h;
+          source = reached s shape ss rank sn 0 (omega arith) (omega arith) f (and-left (covers (take rank shape) (take rank ss) s sn) _ e₂);
+          dest = reached d shape ds rank dn 0 (omega arith) (omega arith) f (and-right (covers (take rank shape) (take rank ss) s sn) _ e₂);
+        }
+
+    pub accepted-level : (low : ℕ) → low < rank → Units low shape → SFits w64 s → SFits w64 d → Level (read s) (read d) shape ss ds low rank sn dn
+    accepted-level low h u fs fd = simp (back fs, back fd) (record { below = h; units = u; positive = accepted-cells; window = accepted-window })
 
 -- one axis is a run
 pub accepted-run : (n : ℕ) (ss ds s d : ℤ) (sn dn : ℕ) → accepted 1 (replicate rankLimit n) (replicate rankLimit ss) (replicate rankLimit ds) s d sn dn ≡ true → Run s d ss ds n sn dn

@@ -1,5 +1,5 @@
-// The runs and the windows for the benchmark to call. Each export tests that every cell lies inside its slice, answers whether
-// it does, and if so makes the run or the window `times` times.
+// The runs and the windows for the benchmark to call. Each export tests that there are cells and that every one lies inside its
+// slice, answers whether that is so, and if so makes the run or the window `times` times.
 ghost use mathlib.Core.Path.{_≡_};
 ghost use Prim.Native.Nat.{_≤_};
 ghost use lib.Ieee.{nan};
@@ -51,7 +51,7 @@ fn inside(
     layout::is_done(answer)
 }
 
-// Whether all cells of both sides lie inside slices of sn and dn elements.
+// Whether there are axes and cells, and all cells of both sides lie inside slices of sn and dn elements.
 fn accepts(
     extents: [u64; RAW_FUSED_RANK_LIMIT],
     ss: [i64; RAW_FUSED_RANK_LIMIT],
@@ -64,7 +64,13 @@ fn accepts(
 ) -> bool
     ensures { λ r. ⌜ Tested r rank extents ss ds s d sn dn ⌝ }
 {
+    if rank == 0 {
+        return false;
+    }
     if RAW_FUSED_RANK_LIMIT < rank {
+        return false;
+    }
+    if spans::has_zero(extents, rank) {
         return false;
     }
     if !all_few(extents, rank) {
@@ -132,7 +138,8 @@ pub extern "C" fn bench_window_i32(
     let rule = rule_of(add);
     let mut i: u64 = 0;
     while i < times {
-        windows::window(rule, src, dst, extents, ss, ds, rank, s, d);
+        let low = windows::run_axis(extents, rank);
+        windows::axes(rule, src, dst, extents, ss, ds, low, rank, s, d);
         i += 1;
     }
     true
@@ -161,7 +168,7 @@ pub extern "C" fn bench_run_f64(
     let rule = rule_of(add);
     let mut i: u64 = 0;
     while i < times {
-        runs_f64::run_f64(rule, src, dst, n as usize, s, d, ss, ds);
+        runs_f64::run(rule, src, dst, n as usize, s, d, ss, ds);
         i += 1;
     }
     true
@@ -188,7 +195,8 @@ pub extern "C" fn bench_window_f64(
     let rule = rule_of(add);
     let mut i: u64 = 0;
     while i < times {
-        windows_f64::window_f64(rule, src, dst, extents, ss, ds, rank, s, d);
+        let low = windows::run_axis(extents, rank);
+        windows_f64::axes(rule, src, dst, extents, ss, ds, low, rank, s, d);
         i += 1;
     }
     true

@@ -1,16 +1,18 @@
-// Runs over f64: those of `runs`, for another element.
+// Written by tests/twins from crates/runs/src/lib.rt.
+// Runs along one axis of two strided slices. What each leaves is the plain loop, cell by cell: `inOrder` of `cellAt`.
 ghost use mathlib.Core.Path.{_≡_};
 ghost use Prim.Native.Nat.{_<_, _≤_};
 ghost use lib.Ieee.{nan};
 ghost use lib.IntN.{pos};
 ghost use lib.ListN.{length};
 ghost use Rattle.indexing.specs.Loops.{inOrder};
-ghost use Rattle.runs.specs.Runs.{ruleF64, cellAt, line, Run, Plane, runAt};
+ghost use Rattle.runs.specs.Runs.{ruleF64, cellAt, line, Run, Plane, runAt, blockCells};
 ghost use Rattle.runs.specs.declared.Rule.the-variants as R;
 use runs::BLOCK;
+use runs::FEW;
 use runs::Rule;
 
-pub fn apply_f64(rule: Rule, x: f64, u: f64) -> f64
+pub fn apply(rule: Rule, x: f64, u: f64) -> f64
     ensures { λ r. ⌜ r ≡ ruleF64 rule x u ⌝ }
 {
     match rule {
@@ -20,31 +22,31 @@ pub fn apply_f64(rule: Rule, x: f64, u: f64) -> f64
 }
 
 // Two slices of one length, element by element.
-fn each_f64(rule: Rule, src: &[f64], dst: &mut [f64])
+fn each(rule: Rule, src: &[f64], dst: &mut [f64])
     requires { ⌜ length (now src) ≡ length (now dst) ⌝ }
     ensures { λ _. ⌜ now (dst .exit) ≡ inOrder (cellAt nan (ruleF64 rule) (now (src .entry)) pos pos) (length (now (dst .entry))) (now (dst .entry)) ⌝ }
 {
     let mut at: usize = 0;
     while at < dst.len() {
-        let v = apply_f64(rule, dst[at], src[at]);
+        let v = apply(rule, dst[at], src[at]);
         dst[at] = v;
         at += 1;
     }
 }
 
 // A copy of at most BLOCK cells, by way of an array: the compiler makes one move of memory of it.
-fn block_f64(src: &[f64], dst: &mut [f64])
-    requires { ⌜ (length (now src) ≡ length (now dst)) × (length (now dst) ≤ 4096) ⌝ }
+fn block(src: &[f64], dst: &mut [f64])
+    requires { ⌜ (length (now src) ≡ length (now dst)) × (length (now dst) ≤ blockCells) ⌝ }
     ensures { λ _. ⌜ now (dst .exit) ≡ inOrder (cellAt nan (ruleF64 R.Copy) (now (src .entry)) pos pos) (length (now (dst .entry))) (now (dst .entry)) ⌝ }
 {
     let n = dst.len();
     let mut held = [0.0f64; BLOCK];
-    each_f64(Rule::Copy, src, &mut held[0..n]);
-    each_f64(Rule::Copy, &held[0..n], dst);
+    each(Rule::Copy, src, &mut held[0..n]);
+    each(Rule::Copy, &held[0..n], dst);
 }
 
 // A copy, a block at a time.
-fn copies_f64(src: &[f64], dst: &mut [f64])
+fn copies(src: &[f64], dst: &mut [f64])
     requires { ⌜ length (now src) ≡ length (now dst) ⌝ }
     ensures { λ _. ⌜ now (dst .exit) ≡ inOrder (cellAt nan (ruleF64 R.Copy) (now (src .entry)) pos pos) (length (now (dst .entry))) (now (dst .entry)) ⌝ }
 {
@@ -52,33 +54,33 @@ fn copies_f64(src: &[f64], dst: &mut [f64])
     let mut at: usize = 0;
     while BLOCK < n - at {
         let e = at + BLOCK;
-        block_f64(&src[at..e], &mut dst[at..e]);
+        block(&src[at..e], &mut dst[at..e]);
         at = e;
     }
-    block_f64(&src[at..n], &mut dst[at..n]);
+    block(&src[at..n], &mut dst[at..n]);
 }
 
 // Two slices of one length: a copy of more than a few cells by blocks, all else element by element.
-pub fn ones_f64(rule: Rule, src: &[f64], dst: &mut [f64])
+pub fn ones(rule: Rule, src: &[f64], dst: &mut [f64])
     requires { ⌜ length (now src) ≡ length (now dst) ⌝ }
     ensures { λ _. ⌜ now (dst .exit) ≡ inOrder (cellAt nan (ruleF64 rule) (now (src .entry)) pos pos) (length (now (dst .entry))) (now (dst .entry)) ⌝ }
 {
     match rule {
         Rule::Copy => {
-            if dst.len() < 8 {
-                each_f64(rule, src, dst);
+            if dst.len() < FEW {
+                each(rule, src, dst);
             } else {
-                copies_f64(src, dst);
+                copies(src, dst);
             }
         }
         Rule::Add => {
-            each_f64(rule, src, dst);
+            each(rule, src, dst);
         }
     }
 }
 
 // n cells of stride 1 on both sides, from the places s and d: on the parts of the slices that they are.
-pub fn row_f64(rule: Rule, src: &[f64], dst: &mut [f64], n: usize, s: i64, d: i64)
+pub fn row(rule: Rule, src: &[f64], dst: &mut [f64], n: usize, s: i64, d: i64)
     requires { ⌜ (0 < n) × Run s d (pos 1) (pos 1) n (length (now src)) (length (now dst)) ⌝ }
     ensures { λ _. ⌜ now (dst .exit) ≡ inOrder (cellAt nan (ruleF64 rule) (now (src .entry)) (line s (pos 1)) (line d (pos 1))) n (now (dst .entry)) ⌝ }
 {
@@ -86,20 +88,11 @@ pub fn row_f64(rule: Rule, src: &[f64], dst: &mut [f64], n: usize, s: i64, d: i6
     let b = d as usize;
     let e = a + n;
     let f = b + n;
-    ones_f64(rule, &src[a..e], &mut dst[b..f]);
+    ones(rule, &src[a..e], &mut dst[b..f]);
 }
 
 // n cells, from the places s and d by the strides ss and ds.
-pub fn strided_f64(
-    rule: Rule,
-    src: &[f64],
-    dst: &mut [f64],
-    n: usize,
-    s: i64,
-    d: i64,
-    ss: i64,
-    ds: i64,
-)
+pub fn strided(rule: Rule, src: &[f64], dst: &mut [f64], n: usize, s: i64, d: i64, ss: i64, ds: i64)
     requires { ⌜ Run s d ss ds n (length (now src)) (length (now dst)) ⌝ }
     ensures { λ _. ⌜ now (dst .exit) ≡ inOrder (cellAt nan (ruleF64 rule) (now (src .entry)) (line s ss) (line d ds)) n (now (dst .entry)) ⌝ }
 {
@@ -108,14 +101,14 @@ pub fn strided_f64(
         let k = i as i64;
         let a = (s + ss * k) as usize;
         let b = (d + ds * k) as usize;
-        let v = apply_f64(rule, dst[b], src[a]);
+        let v = apply(rule, dst[b], src[a]);
         dst[b] = v;
         i += 1;
     }
 }
 
 // The same, with a way of its own for strides of 1 on both sides.
-pub fn run_f64(rule: Rule, src: &[f64], dst: &mut [f64], n: usize, s: i64, d: i64, ss: i64, ds: i64)
+pub fn run(rule: Rule, src: &[f64], dst: &mut [f64], n: usize, s: i64, d: i64, ss: i64, ds: i64)
     requires { ⌜ Run s d ss ds n (length (now src)) (length (now dst)) ⌝ }
     ensures { λ _. ⌜ now (dst .exit) ≡ inOrder (cellAt nan (ruleF64 rule) (now (src .entry)) (line s ss) (line d ds)) n (now (dst .entry)) ⌝ }
 {
@@ -124,15 +117,15 @@ pub fn run_f64(rule: Rule, src: &[f64], dst: &mut [f64], n: usize, s: i64, d: i6
     }
     if ss == 1 {
         if ds == 1 {
-            row_f64(rule, src, dst, n, s, d);
+            row(rule, src, dst, n, s, d);
             return;
         }
     }
-    strided_f64(rule, src, dst, n, s, d, ss, ds);
+    strided(rule, src, dst, n, s, d, ss, ds);
 }
 
 // m rows of n cells each: those of row j from places moved by j times st and dt.
-pub fn rows_f64(
+pub fn rows(
     rule: Rule,
     src: &[f64],
     dst: &mut [f64],
@@ -149,13 +142,13 @@ pub fn rows_f64(
     let mut j: u64 = 0;
     while j < m {
         let k = j as i64;
-        row_f64(rule, src, dst, n, s + st * k, d + dt * k);
+        row(rule, src, dst, n, s + st * k, d + dt * k);
         j += 1;
     }
 }
 
 // m runs of n cells each, by strides.
-pub fn strided_rows_f64(
+pub fn strided_rows(
     rule: Rule,
     src: &[f64],
     dst: &mut [f64],
@@ -174,13 +167,13 @@ pub fn strided_rows_f64(
     let mut j: u64 = 0;
     while j < m {
         let k = j as i64;
-        strided_f64(rule, src, dst, n, s + st * k, d + dt * k, ss, ds);
+        strided(rule, src, dst, n, s + st * k, d + dt * k, ss, ds);
         j += 1;
     }
 }
 
 // The same, with a way of its own for strides of 1 on both sides.
-pub fn plane_f64(
+pub fn plane(
     rule: Rule,
     src: &[f64],
     dst: &mut [f64],
@@ -198,23 +191,9 @@ pub fn plane_f64(
 {
     if ss == 1 {
         if ds == 1 {
-            rows_f64(rule, src, dst, n, m, s, d, st, dt);
+            rows(rule, src, dst, n, m, s, d, st, dt);
             return;
         }
     }
-    strided_rows_f64(rule, src, dst, n, m, s, d, ss, ds, st, dt);
-}
-
-pub fn copy_run_f64(src: &[f64], dst: &mut [f64], n: usize, s: i64, d: i64, ss: i64, ds: i64)
-    requires { ⌜ Run s d ss ds n (length (now src)) (length (now dst)) ⌝ }
-    ensures { λ _. ⌜ now (dst .exit) ≡ inOrder (cellAt nan (ruleF64 R.Copy) (now (src .entry)) (line s ss) (line d ds)) n (now (dst .entry)) ⌝ }
-{
-    run_f64(Rule::Copy, src, dst, n, s, d, ss, ds);
-}
-
-pub fn add_run_f64(src: &[f64], dst: &mut [f64], n: usize, s: i64, d: i64, ss: i64, ds: i64)
-    requires { ⌜ Run s d ss ds n (length (now src)) (length (now dst)) ⌝ }
-    ensures { λ _. ⌜ now (dst .exit) ≡ inOrder (cellAt nan (ruleF64 R.Add) (now (src .entry)) (line s ss) (line d ds)) n (now (dst .entry)) ⌝ }
-{
-    run_f64(Rule::Add, src, dst, n, s, d, ss, ds);
+    strided_rows(rule, src, dst, n, m, s, d, ss, ds, st, dt);
 }

@@ -1,5 +1,5 @@
--- Batches whose windows have one cell end in runs, and a batch of any window in that window. Over any elements and any rank. Assumes nothing.
-use mathlib.Core.Path.{_≡_, refl, sym, ap, ap₂, subst, _∙_}
+-- Batches whose windows have one cell end in runs. Over any elements and any rank. Assumes nothing.
+use mathlib.Core.Path.{_≡_, refl, sym, ap, subst, _∙_}
 use mathlib.Core.List.{List}
 use Prim.Native.Nat.{ℕ, suc, _-_, _<_, _^_}
 use native.Mathlib.Omega.{arith}
@@ -8,19 +8,17 @@ use lib.IntN.{ℤ, pos, _+ℤ_}
 use mir.Syntax.{w64}
 use mir.Val.{SFits}
 use Rattle.integer.specs.Z.{back}
-use Rattle.indexing.specs.Coordinates.{InSlice}
 use Rattle.indexing.specs.Loops.{inOrder}
 use Rattle.runs.specs.Runs.{cellAt, line}
 use Rattle.runs.proofs.Turns.{same-places}
-use Rattle.runs.proofs.Place.{read, machine, in-fits}
-use Rattle.windows.specs.Windows.{placeAt, windowed, Level}
+use Rattle.runs.proofs.Place.{read, machine}
+use Rattle.windows.specs.Windows.{placeAt, windowed}
 use Rattle.windows.proofs.Last.{units-product, units-place}
 use Rattle.windows.proofs.Levels.{region-line}
 use Rattle.takes.specs.Takes.{startAt, Starting, movedAt, Putting}
-use Rattle.takes.proofs.Starts.{wider}
 use Rattle.takes.proofs.Puts.{puts-end}
-use Rattle.scatter_windows.specs.Scattering.{scatteredBy, putBy, Walk, Landing, PutLevel}
-use Rattle.scatter_windows.proofs.Batches.{over-none, first-batch, step-walk}
+use Rattle.scatter_windows.specs.Scattering.{putBy, PutLevel}
+use Rattle.scatter_windows.proofs.Batches.{step-walk}
 
 module _ {A : Type 0} (z : A) (rule : A → A → A) (src : List A) (starts offsets strides : List ℤ) (limits : List ℕ) (count : ℕ) where
   -- what is done at a batch whose start is read at x and whose first update is at y: where its window has one cell, and else
@@ -77,32 +75,3 @@ module _ (starts offsets strides : List ℤ) (limits : List ℕ) (count : ℕ) (
       puts-end z rule src starts offsets strides limits count u t d (getD us top (pos 0)) (getD ts top (pos 0)) (getD shape top 0) (getD shape top 0) x y fu ft fd fc fa refl h
       ∙ run-is starts offsets strides limits count t u d shape ts us top sn dn (run-here g) z rule src x
       ∙ ap (λ (r : ℕ). putBy z rule src starts offsets strides limits count t u d shape ts us r x) (sym e)
-
--- ---- any window: no axis is left
-module _ (starts offsets strides : List ℤ) (limits : List ℕ) (count : ℕ) (t u d : ℤ) (bshape : List ℕ) (ts us : List ℤ) (rank : ℕ) (wshape : List ℕ) (ws ds : List ℤ) (low wrank sn dn : ℕ)
-    (w : Walk (Landing starts offsets strides limits count d wshape ws ds low wrank sn dn) t u bshape ts us rank sn) (ft : SFits w64 t) (fu : SFits w64 u) (fd : SFits w64 d) (e : rank ≡ 0) (r : dn < 2 ^ 63) where
-  first : Landing starts offsets strides limits count d wshape ws ds low wrank sn dn t u
-  first = first-batch (Landing starts offsets strides limits count d wshape ws ds low wrank sn dn) t u bshape ts us rank sn w e
-
-  pub start-asks : Starting starts offsets strides limits (read d) (read t) count (2 ^ 63 - 1)
-  start-asks = simp (back fd, back ft) (wider starts offsets strides limits d t count dn (2 ^ 63 - 1) (omega arith) (first .starting))
-
-  module _ (a : ℤ) (q : a ≡ read d +ℤ startAt starts offsets strides limits (read t) count) where
-    base-is : a ≡ d +ℤ startAt starts offsets strides limits t count
-    base-is = q ∙ ap₂ (λ (x y : ℤ). x +ℤ startAt starts offsets strides limits y count) (back fd) (back ft)
-
-    base-fits : SFits w64 a
-    base-fits = in-fits a dn (subst (InSlice dn) (sym base-is) (first .starting .partly count (omega arith))) r
-
-    pub window-asks : Level (read u) (read a) wshape ws ds low wrank sn dn
-    window-asks =
-        subst (λ (x : ℤ). Level (read u) x wshape ws ds low wrank sn dn) (sym (back base-fits ∙ base-is))
-        (subst (λ (x : ℤ). Level x (d +ℤ startAt starts offsets strides limits t count) wshape ws ds low wrank sn dn) (sym (back fu)) (first .window))
-
-    pub window-end : {A : Type 0} (z : A) (rule : A → A → A) (src x y : List A) → y ≡ windowed z rule src (read u) (read a) wshape ws ds wrank x
-        → y ≡ scatteredBy z rule src starts offsets strides limits count t u d bshape ts us rank wshape ws ds wrank x
-    window-end z rule src x y h =
-        h
-        ∙ ap₂ (λ (a b : ℤ). windowed z rule src a b wshape ws ds wrank x) (back fu) (back base-fits ∙ base-is)
-        ∙ over-none (land z rule src starts offsets strides limits count wshape ws ds wrank d) bshape ts us t u x
-        ∙ ap (λ (k : ℕ). scatteredBy z rule src starts offsets strides limits count t u d bshape ts us k wshape ws ds wrank x) (sym e)

@@ -1,5 +1,5 @@
-// The cells of a scatter: batch by batch, the updates of a window are added to the destination, whose place is moved by a start
-// that is read at a place of the batch's own. What each leaves is the plain loop over every linear index, first axis fastest.
+// The batches of a scatter whose windows have one cell: each update is put on the destination by a rule, at a place that is moved
+// by a start, read at a place of the batch's own. What each leaves is the plain loop over every linear index, first axis fastest.
 ghost use mathlib.Core.Path.{_≡_};
 ghost use Prim.Native.Nat.{_≤_};
 ghost use lib.IntN.{pos};
@@ -7,9 +7,8 @@ ghost use lib.ListN.{length};
 ghost use Rattle.indexing.specs.Loops.{inOrder};
 ghost use Rattle.layout.specs.Layouts.{rankLimit};
 ghost use Rattle.runs.specs.Runs.{ruleI32, cellAt, line};
-ghost use Rattle.runs.specs.declared.Rule.the-variants as R;
 ghost use Rattle.takes.specs.Takes.{Starting, movedAt, Putting};
-ghost use Rattle.scatter_windows.specs.Scattering.{scatteredBy, putBy, Scattering, OneCell, Walk, Landing, PutLevel};
+ghost use Rattle.scatter_windows.specs.Scattering.{putBy, OneCell, Walk, PutLevel};
 use layout::RAW_FUSED_RANK_LIMIT;
 use runs::Rule;
 
@@ -30,6 +29,7 @@ pub fn one_cell(extents: &[u64; RAW_FUSED_RANK_LIMIT], rank: usize) -> bool
 
 // One run of windows of one cell: the start of each is read.
 pub fn scatter_run(
+    rule: Rule,
     src: &[i32],
     starts: &[i64],
     dst: &mut [i32],
@@ -45,17 +45,31 @@ pub fn scatter_run(
     limits: &[u64; RAW_FUSED_RANK_LIMIT],
 )
     requires { ⌜ Putting (now starts) (now offsets) (now strides) (now limits) count u t d us ts n (length (now src)) (length (now dst)) ⌝ }
-    ensures { λ _. ⌜ now (dst .exit) ≡ inOrder (cellAt (pos 0) (ruleI32 R.Add) (now (src .entry)) (line u us) (movedAt (now (starts .entry)) (now (offsets .entry)) (now (strides .entry)) (now (limits .entry)) count (λ _. d) (line t ts))) n (now (dst .entry)) ⌝ }
+    ensures { λ _. ⌜ now (dst .exit) ≡ inOrder (cellAt (pos 0) (ruleI32 rule) (now (src .entry)) (line u us) (movedAt (now (starts .entry)) (now (offsets .entry)) (now (strides .entry)) (now (limits .entry)) count (λ _. d) (line t ts))) n (now (dst .entry)) ⌝ }
 {
     if n == 0 {
         return;
     }
     if count == 1 {
         let at = t + offsets[0];
-        takes::put_run(src, starts, dst, n, at, ts, d, strides[0], limits[0], u, us);
+        takes::put_run(
+            rule,
+            src,
+            starts,
+            dst,
+            n,
+            at,
+            ts,
+            d,
+            strides[0],
+            limits[0],
+            u,
+            us,
+        );
         return;
     }
     takes::put_cells(
+        rule,
         src,
         starts,
         dst,
@@ -74,6 +88,7 @@ pub fn scatter_run(
 
 // The batches of the first `rank` axes, whose windows have one cell. There are some, and the axes before `low` have one place each.
 pub fn scatter_cells(
+    rule: Rule,
     src: &[i32],
     starts: &[i64],
     dst: &mut [i32],
@@ -91,7 +106,7 @@ pub fn scatter_cells(
     d: i64,
 )
     requires { ⌜ PutLevel (now starts) (now offsets) (now strides) (now limits) count t u d (now extents) (now ts) (now us) low rank (length (now src)) (length (now dst)) ⌝ }
-    ensures { λ _. ⌜ now (dst .exit) ≡ putBy (pos 0) (ruleI32 R.Add) (now (src .entry)) (now (starts .entry)) (now (offsets .entry)) (now (strides .entry)) (now (limits .entry)) count t u d (now (extents .entry)) (now (ts .entry)) (now (us .entry)) rank (now (dst .entry)) ⌝ }
+    ensures { λ _. ⌜ now (dst .exit) ≡ putBy (pos 0) (ruleI32 rule) (now (src .entry)) (now (starts .entry)) (now (offsets .entry)) (now (strides .entry)) (now (limits .entry)) count t u d (now (extents .entry)) (now (ts .entry)) (now (us .entry)) rank (now (dst .entry)) ⌝ }
 {
     let top = rank - 1;
     let n = extents[top];
@@ -99,6 +114,7 @@ pub fn scatter_cells(
     let y = us[top];
     if top == low {
         scatter_run(
+            rule,
             src,
             starts,
             dst,
@@ -121,6 +137,7 @@ pub fn scatter_cells(
         let p = t + x * k;
         let q = u + y * k;
         scatter_cells(
+            rule,
             src,
             starts,
             dst,
@@ -143,6 +160,7 @@ pub fn scatter_cells(
 
 // The same with any number of axes.
 pub fn scatter_each(
+    rule: Rule,
     src: &[i32],
     starts: &[i64],
     dst: &mut [i32],
@@ -159,10 +177,11 @@ pub fn scatter_each(
     d: i64,
 )
     requires { ⌜ Walk (λ x y. Starting (now starts) (now offsets) (now strides) (now limits) d x count (length (now dst))) t u (now extents) (now ts) (now us) rank (length (now src)) ⌝ }
-    ensures { λ _. ⌜ now (dst .exit) ≡ putBy (pos 0) (ruleI32 R.Add) (now (src .entry)) (now (starts .entry)) (now (offsets .entry)) (now (strides .entry)) (now (limits .entry)) count t u d (now (extents .entry)) (now (ts .entry)) (now (us .entry)) rank (now (dst .entry)) ⌝ }
+    ensures { λ _. ⌜ now (dst .exit) ≡ putBy (pos 0) (ruleI32 rule) (now (src .entry)) (now (starts .entry)) (now (offsets .entry)) (now (strides .entry)) (now (limits .entry)) count t u d (now (extents .entry)) (now (ts .entry)) (now (us .entry)) rank (now (dst .entry)) ⌝ }
 {
     if rank == 0 {
         scatter_run(
+            rule,
             src,
             starts,
             dst,
@@ -181,6 +200,7 @@ pub fn scatter_each(
     }
     let low = windows::run_axis(extents, rank);
     scatter_cells(
+        rule,
         src,
         starts,
         dst,
@@ -193,144 +213,6 @@ pub fn scatter_each(
         limits,
         low,
         rank,
-        t,
-        u,
-        d,
-    );
-}
-
-// The batches of the first `rank` axes. There are some, their windows have cells, and the windows' axes before `low` have one place
-// each.
-pub fn scatter_axes(
-    src: &[i32],
-    starts: &[i64],
-    dst: &mut [i32],
-    bextents: &[u64; RAW_FUSED_RANK_LIMIT],
-    ts: &[i64; RAW_FUSED_RANK_LIMIT],
-    us: &[i64; RAW_FUSED_RANK_LIMIT],
-    count: usize,
-    offsets: &[i64; RAW_FUSED_RANK_LIMIT],
-    strides: &[i64; RAW_FUSED_RANK_LIMIT],
-    limits: &[u64; RAW_FUSED_RANK_LIMIT],
-    wextents: &[u64; RAW_FUSED_RANK_LIMIT],
-    ws: &[i64; RAW_FUSED_RANK_LIMIT],
-    ds: &[i64; RAW_FUSED_RANK_LIMIT],
-    low: usize,
-    wrank: usize,
-    rank: usize,
-    t: i64,
-    u: i64,
-    d: i64,
-)
-    requires { ⌜ Walk (Landing (now starts) (now offsets) (now strides) (now limits) count d (now wextents) (now ws) (now ds) low wrank (length (now src)) (length (now dst))) t u (now bextents) (now ts) (now us) rank (length (now src)) ⌝ }
-    ensures { λ _. ⌜ now (dst .exit) ≡ scatteredBy (pos 0) (ruleI32 R.Add) (now (src .entry)) (now (starts .entry)) (now (offsets .entry)) (now (strides .entry)) (now (limits .entry)) count t u d (now (bextents .entry)) (now (ts .entry)) (now (us .entry)) rank (now (wextents .entry)) (now (ws .entry)) (now (ds .entry)) wrank (now (dst .entry)) ⌝ }
-{
-    if rank == 0 {
-        let a = takes::started(starts, d, t, count, offsets, strides, limits);
-        windows::axes(Rule::Add, src, dst, wextents, ws, ds, low, wrank, u, a);
-        return;
-    }
-    let top = rank - 1;
-    let n = bextents[top];
-    let x = ts[top];
-    let y = us[top];
-    let mut j: u64 = 0;
-    while j < n {
-        let k = j as i64;
-        let at = t + x * k;
-        let from = u + y * k;
-        scatter_axes(
-            src,
-            starts,
-            dst,
-            bextents,
-            ts,
-            us,
-            count,
-            offsets,
-            strides,
-            limits,
-            wextents,
-            ws,
-            ds,
-            low,
-            wrank,
-            top,
-            at,
-            from,
-            d,
-        );
-        j += 1;
-    }
-}
-
-// All batches and all cells of their windows, of which there may be none.
-pub fn scatter_window(
-    src: &[i32],
-    starts: &[i64],
-    dst: &mut [i32],
-    bextents: &[u64; RAW_FUSED_RANK_LIMIT],
-    ts: &[i64; RAW_FUSED_RANK_LIMIT],
-    us: &[i64; RAW_FUSED_RANK_LIMIT],
-    brank: usize,
-    count: usize,
-    offsets: &[i64; RAW_FUSED_RANK_LIMIT],
-    strides: &[i64; RAW_FUSED_RANK_LIMIT],
-    limits: &[u64; RAW_FUSED_RANK_LIMIT],
-    wextents: &[u64; RAW_FUSED_RANK_LIMIT],
-    ws: &[i64; RAW_FUSED_RANK_LIMIT],
-    ds: &[i64; RAW_FUSED_RANK_LIMIT],
-    wrank: usize,
-    t: i64,
-    u: i64,
-    d: i64,
-)
-    requires { ⌜ Scattering (now starts) (now offsets) (now strides) (now limits) count t u d (now bextents) (now ts) (now us) brank (now wextents) (now ws) (now ds) wrank (length (now src)) (length (now dst)) ⌝ }
-    ensures { λ _. ⌜ now (dst .exit) ≡ scatteredBy (pos 0) (ruleI32 R.Add) (now (src .entry)) (now (starts .entry)) (now (offsets .entry)) (now (strides .entry)) (now (limits .entry)) count t u d (now (bextents .entry)) (now (ts .entry)) (now (us .entry)) brank (now (wextents .entry)) (now (ws .entry)) (now (ds .entry)) wrank (now (dst .entry)) ⌝ }
-{
-    if spans::has_zero(*bextents, brank) {
-        return;
-    }
-    if spans::has_zero(*wextents, wrank) {
-        return;
-    }
-    if one_cell(wextents, wrank) {
-        scatter_each(
-            src,
-            starts,
-            dst,
-            bextents,
-            ts,
-            us,
-            count,
-            offsets,
-            strides,
-            limits,
-            brank,
-            t,
-            u,
-            d,
-        );
-        return;
-    }
-    let low = windows::run_axis(wextents, wrank);
-    scatter_axes(
-        src,
-        starts,
-        dst,
-        bextents,
-        ts,
-        us,
-        count,
-        offsets,
-        strides,
-        limits,
-        wextents,
-        ws,
-        ds,
-        low,
-        wrank,
-        brank,
         t,
         u,
         d,

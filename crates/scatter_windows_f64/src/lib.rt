@@ -1,17 +1,19 @@
-// The cells of a scatter of f64: those of `scatter_windows`, with the runs and windows of f64.
+// Written by tests/twins from crates/scatter_windows/src/lib.rt.
+// The batches of a scatter whose windows have one cell: each update is put on the destination by a rule, at a place that is moved
+// by a start, read at a place of the batch's own. What each leaves is the plain loop over every linear index, first axis fastest.
 ghost use mathlib.Core.Path.{_≡_};
 ghost use lib.Ieee.{nan};
 ghost use lib.ListN.{length};
 ghost use Rattle.indexing.specs.Loops.{inOrder};
 ghost use Rattle.runs.specs.Runs.{ruleF64, cellAt, line};
-ghost use Rattle.runs.specs.declared.Rule.the-variants as R;
 ghost use Rattle.takes.specs.Takes.{Starting, movedAt, Putting};
-ghost use Rattle.scatter_windows.specs.Scattering.{scatteredBy, putBy, Scattering, Walk, Landing, PutLevel};
+ghost use Rattle.scatter_windows.specs.Scattering.{putBy, Walk, PutLevel};
 use layout::RAW_FUSED_RANK_LIMIT;
 use runs::Rule;
 
 // One run of windows of one cell: the start of each is read.
-pub fn scatter_run_f64(
+pub fn scatter_run(
+    rule: Rule,
     src: &[f64],
     starts: &[i64],
     dst: &mut [f64],
@@ -27,17 +29,31 @@ pub fn scatter_run_f64(
     limits: &[u64; RAW_FUSED_RANK_LIMIT],
 )
     requires { ⌜ Putting (now starts) (now offsets) (now strides) (now limits) count u t d us ts n (length (now src)) (length (now dst)) ⌝ }
-    ensures { λ _. ⌜ now (dst .exit) ≡ inOrder (cellAt nan (ruleF64 R.Add) (now (src .entry)) (line u us) (movedAt (now (starts .entry)) (now (offsets .entry)) (now (strides .entry)) (now (limits .entry)) count (λ _. d) (line t ts))) n (now (dst .entry)) ⌝ }
+    ensures { λ _. ⌜ now (dst .exit) ≡ inOrder (cellAt nan (ruleF64 rule) (now (src .entry)) (line u us) (movedAt (now (starts .entry)) (now (offsets .entry)) (now (strides .entry)) (now (limits .entry)) count (λ _. d) (line t ts))) n (now (dst .entry)) ⌝ }
 {
     if n == 0 {
         return;
     }
     if count == 1 {
         let at = t + offsets[0];
-        takes_f64::put_run_f64(src, starts, dst, n, at, ts, d, strides[0], limits[0], u, us);
+        takes_f64::put_run(
+            rule,
+            src,
+            starts,
+            dst,
+            n,
+            at,
+            ts,
+            d,
+            strides[0],
+            limits[0],
+            u,
+            us,
+        );
         return;
     }
-    takes_f64::put_cells_f64(
+    takes_f64::put_cells(
+        rule,
         src,
         starts,
         dst,
@@ -55,7 +71,8 @@ pub fn scatter_run_f64(
 }
 
 // The batches of the first `rank` axes, whose windows have one cell. There are some, and the axes before `low` have one place each.
-pub fn scatter_cells_f64(
+pub fn scatter_cells(
+    rule: Rule,
     src: &[f64],
     starts: &[i64],
     dst: &mut [f64],
@@ -73,14 +90,15 @@ pub fn scatter_cells_f64(
     d: i64,
 )
     requires { ⌜ PutLevel (now starts) (now offsets) (now strides) (now limits) count t u d (now extents) (now ts) (now us) low rank (length (now src)) (length (now dst)) ⌝ }
-    ensures { λ _. ⌜ now (dst .exit) ≡ putBy nan (ruleF64 R.Add) (now (src .entry)) (now (starts .entry)) (now (offsets .entry)) (now (strides .entry)) (now (limits .entry)) count t u d (now (extents .entry)) (now (ts .entry)) (now (us .entry)) rank (now (dst .entry)) ⌝ }
+    ensures { λ _. ⌜ now (dst .exit) ≡ putBy nan (ruleF64 rule) (now (src .entry)) (now (starts .entry)) (now (offsets .entry)) (now (strides .entry)) (now (limits .entry)) count t u d (now (extents .entry)) (now (ts .entry)) (now (us .entry)) rank (now (dst .entry)) ⌝ }
 {
     let top = rank - 1;
     let n = extents[top];
     let x = ts[top];
     let y = us[top];
     if top == low {
-        scatter_run_f64(
+        scatter_run(
+            rule,
             src,
             starts,
             dst,
@@ -102,7 +120,8 @@ pub fn scatter_cells_f64(
         let k = j as i64;
         let p = t + x * k;
         let q = u + y * k;
-        scatter_cells_f64(
+        scatter_cells(
+            rule,
             src,
             starts,
             dst,
@@ -124,7 +143,8 @@ pub fn scatter_cells_f64(
 }
 
 // The same with any number of axes.
-pub fn scatter_each_f64(
+pub fn scatter_each(
+    rule: Rule,
     src: &[f64],
     starts: &[i64],
     dst: &mut [f64],
@@ -141,10 +161,11 @@ pub fn scatter_each_f64(
     d: i64,
 )
     requires { ⌜ Walk (λ x y. Starting (now starts) (now offsets) (now strides) (now limits) d x count (length (now dst))) t u (now extents) (now ts) (now us) rank (length (now src)) ⌝ }
-    ensures { λ _. ⌜ now (dst .exit) ≡ putBy nan (ruleF64 R.Add) (now (src .entry)) (now (starts .entry)) (now (offsets .entry)) (now (strides .entry)) (now (limits .entry)) count t u d (now (extents .entry)) (now (ts .entry)) (now (us .entry)) rank (now (dst .entry)) ⌝ }
+    ensures { λ _. ⌜ now (dst .exit) ≡ putBy nan (ruleF64 rule) (now (src .entry)) (now (starts .entry)) (now (offsets .entry)) (now (strides .entry)) (now (limits .entry)) count t u d (now (extents .entry)) (now (ts .entry)) (now (us .entry)) rank (now (dst .entry)) ⌝ }
 {
     if rank == 0 {
-        scatter_run_f64(
+        scatter_run(
+            rule,
             src,
             starts,
             dst,
@@ -162,7 +183,8 @@ pub fn scatter_each_f64(
         return;
     }
     let low = windows::run_axis(extents, rank);
-    scatter_cells_f64(
+    scatter_cells(
+        rule,
         src,
         starts,
         dst,
@@ -175,144 +197,6 @@ pub fn scatter_each_f64(
         limits,
         low,
         rank,
-        t,
-        u,
-        d,
-    );
-}
-
-// The batches of the first `rank` axes. There are some, their windows have cells, and the windows' axes before `low` have one place
-// each.
-pub fn scatter_axes_f64(
-    src: &[f64],
-    starts: &[i64],
-    dst: &mut [f64],
-    bextents: &[u64; RAW_FUSED_RANK_LIMIT],
-    ts: &[i64; RAW_FUSED_RANK_LIMIT],
-    us: &[i64; RAW_FUSED_RANK_LIMIT],
-    count: usize,
-    offsets: &[i64; RAW_FUSED_RANK_LIMIT],
-    strides: &[i64; RAW_FUSED_RANK_LIMIT],
-    limits: &[u64; RAW_FUSED_RANK_LIMIT],
-    wextents: &[u64; RAW_FUSED_RANK_LIMIT],
-    ws: &[i64; RAW_FUSED_RANK_LIMIT],
-    ds: &[i64; RAW_FUSED_RANK_LIMIT],
-    low: usize,
-    wrank: usize,
-    rank: usize,
-    t: i64,
-    u: i64,
-    d: i64,
-)
-    requires { ⌜ Walk (Landing (now starts) (now offsets) (now strides) (now limits) count d (now wextents) (now ws) (now ds) low wrank (length (now src)) (length (now dst))) t u (now bextents) (now ts) (now us) rank (length (now src)) ⌝ }
-    ensures { λ _. ⌜ now (dst .exit) ≡ scatteredBy nan (ruleF64 R.Add) (now (src .entry)) (now (starts .entry)) (now (offsets .entry)) (now (strides .entry)) (now (limits .entry)) count t u d (now (bextents .entry)) (now (ts .entry)) (now (us .entry)) rank (now (wextents .entry)) (now (ws .entry)) (now (ds .entry)) wrank (now (dst .entry)) ⌝ }
-{
-    if rank == 0 {
-        let a = takes::started(starts, d, t, count, offsets, strides, limits);
-        windows_f64::axes_f64(Rule::Add, src, dst, wextents, ws, ds, low, wrank, u, a);
-        return;
-    }
-    let top = rank - 1;
-    let n = bextents[top];
-    let x = ts[top];
-    let y = us[top];
-    let mut j: u64 = 0;
-    while j < n {
-        let k = j as i64;
-        let at = t + x * k;
-        let from = u + y * k;
-        scatter_axes_f64(
-            src,
-            starts,
-            dst,
-            bextents,
-            ts,
-            us,
-            count,
-            offsets,
-            strides,
-            limits,
-            wextents,
-            ws,
-            ds,
-            low,
-            wrank,
-            top,
-            at,
-            from,
-            d,
-        );
-        j += 1;
-    }
-}
-
-// All batches and all cells of their windows, of which there may be none.
-pub fn scatter_window_f64(
-    src: &[f64],
-    starts: &[i64],
-    dst: &mut [f64],
-    bextents: &[u64; RAW_FUSED_RANK_LIMIT],
-    ts: &[i64; RAW_FUSED_RANK_LIMIT],
-    us: &[i64; RAW_FUSED_RANK_LIMIT],
-    brank: usize,
-    count: usize,
-    offsets: &[i64; RAW_FUSED_RANK_LIMIT],
-    strides: &[i64; RAW_FUSED_RANK_LIMIT],
-    limits: &[u64; RAW_FUSED_RANK_LIMIT],
-    wextents: &[u64; RAW_FUSED_RANK_LIMIT],
-    ws: &[i64; RAW_FUSED_RANK_LIMIT],
-    ds: &[i64; RAW_FUSED_RANK_LIMIT],
-    wrank: usize,
-    t: i64,
-    u: i64,
-    d: i64,
-)
-    requires { ⌜ Scattering (now starts) (now offsets) (now strides) (now limits) count t u d (now bextents) (now ts) (now us) brank (now wextents) (now ws) (now ds) wrank (length (now src)) (length (now dst)) ⌝ }
-    ensures { λ _. ⌜ now (dst .exit) ≡ scatteredBy nan (ruleF64 R.Add) (now (src .entry)) (now (starts .entry)) (now (offsets .entry)) (now (strides .entry)) (now (limits .entry)) count t u d (now (bextents .entry)) (now (ts .entry)) (now (us .entry)) brank (now (wextents .entry)) (now (ws .entry)) (now (ds .entry)) wrank (now (dst .entry)) ⌝ }
-{
-    if spans::has_zero(*bextents, brank) {
-        return;
-    }
-    if spans::has_zero(*wextents, wrank) {
-        return;
-    }
-    if scatter_windows::one_cell(wextents, wrank) {
-        scatter_each_f64(
-            src,
-            starts,
-            dst,
-            bextents,
-            ts,
-            us,
-            count,
-            offsets,
-            strides,
-            limits,
-            brank,
-            t,
-            u,
-            d,
-        );
-        return;
-    }
-    let low = windows::run_axis(wextents, wrank);
-    scatter_axes_f64(
-        src,
-        starts,
-        dst,
-        bextents,
-        ts,
-        us,
-        count,
-        offsets,
-        strides,
-        limits,
-        wextents,
-        ws,
-        ds,
-        low,
-        wrank,
-        brank,
         t,
         u,
         d,

@@ -1,7 +1,7 @@
 -- Runs by clamped starts where every step is 1: a cell's place, and the parts of the slices that such a run is on. Assumes nothing.
 use mathlib.Core.Path.{_≡_, refl, sym, ap, ap₂, subst, _∙_}
 use mathlib.Core.List.{List, _++_}
-use Prim.Native.Nat.{ℕ, zero, suc, _+_, _*_, _-_, _<_, _≤_, _^_, min}
+use Prim.Native.Nat.{ℕ, zero, suc, _+_, _-_, _<_, _≤_, _^_, min}
 use native.Mathlib.Omega.{arith}
 use lib.ListN.{length, getD, take, drop, length-drop, take-append-drop}
 use lib.Seq.{length-take-le, getD-take, getD-drop}
@@ -15,11 +15,10 @@ use Rattle.integer.specs.Machine.{same-bits}
 use Rattle.indexing.specs.Coordinates.{InSlice, elementAt, store}
 use Rattle.indexing.specs.Start.{clamp}
 use Rattle.indexing.specs.Inside.{clamp-is}
-use Rattle.indexing.specs.Cuts.{length-store}
 use Rattle.indexing.specs.Loops.{inOrder}
 use Rattle.indexing.specs.Parts.{element-mid, store-mid}
 use Rattle.runs.specs.Runs.{cellAt, line}
-use Rattle.runs.proofs.Turns.{more, same-turns, same-places}
+use Rattle.runs.proofs.Turns.{more, same-turns, same-places, length-cells}
 use Rattle.runs.proofs.Place.{read, Index, index}
 use Rattle.takes.specs.Takes.{clampedAt, Clamped, oneAt, Ones}
 
@@ -44,21 +43,10 @@ module _ (starts : List ℤ) (limit : ℤ) (n cn : ℕ) (w : Ones starts limit n
   ones-is = ones-index .is ∙ start-is
 
 -- ---- turns
-length-cells : {A : Type 0} (z : A) (rule : A → A → A) (src : List A) (f g : ℕ → ℤ) (n : ℕ) (x : List A) → length (inOrder (cellAt z rule src f g) n x) ≡ length x
-unfolding inOrder
-length-cells z rule src f g zero x = refl
-length-cells z rule src f g (suc n) x = length-store (inOrder (cellAt z rule src f g) n x) (g n) _ ∙ length-cells z rule src f g n x
-
 module _ {A : Type 0} (z : A) (rule : A → A → A) (src : List A) where
   -- a turn as the machine makes it: v is stored at index b
   pub one-turn : (f g : ℕ → ℤ) (y : List A) (i a b : ℕ) (v : A) → pos a ≡ f i → pos b ≡ g i → v ≡ rule (getD y b z) (getD src a z) → store y (pos b) v ≡ cellAt z rule src f g i y
   one-turn f g y i a b v p q w = ap (store y (pos b)) w ∙ ap₂ (λ (s d : ℤ). store y d (rule (elementAt z y d) (elementAt z src s))) p q
-
-  pub turn-length : (f g : ℕ → ℤ) (i : ℕ) (x y : List A) → y ≡ cellAt z rule src f g i x → length y ≡ length x
-  turn-length f g i x y e = ap length e ∙ length-store x (g i) _
-
-  pub cells-length : (f g : ℕ → ℤ) (n : ℕ) (x y : List A) → y ≡ inOrder (cellAt z rule src f g) n x → length y ≡ length x
-  cells-length f g n x y e = ap length e ∙ length-cells z rule src f g n x
 
 pub four-turns : {C : Type 0} (turn : ℕ → C → C) (i : ℕ) (x y a b c d : C) → y ≡ inOrder turn i x → a ≡ turn i y → b ≡ turn (i + 1) a → c ≡ turn (i + 2) b → d ≡ turn (i + 3) c → d ≡ inOrder turn (i + 4) x
 four-turns turn i x y a b c d e ea eb ec ed =

@@ -11,6 +11,7 @@ ghost use Rattle.runs.specs.Runs.{ruleI32, cellAt, line};
 ghost use Rattle.runs.specs.declared.Rule.the-variants as R;
 ghost use Rattle.takes.specs.Takes.{startAt, Starting, movedAt, Taking, Putting, clampedAt, Clamped, oneAt, Ones};
 use layout::RAW_FUSED_RANK_LIMIT;
+use runs::Rule;
 
 // s, moved by the components of the start that is read at t: each is clamped, and times its stride.
 pub fn started(
@@ -216,8 +217,9 @@ pub fn take_run(
     take_strided(src, starts, dst, n, t, ts, base, stride, limit, d, ds);
 }
 
-// n cells: the source's place from s by ss; the destination's is d, moved by the start read at t by ts. Each is added.
+// n cells by the rule: the source's place from s by ss; the destination's is d, moved by the start read at t by ts.
 pub fn put_cells(
+    rule: Rule,
     src: &[i32],
     starts: &[i64],
     dst: &mut [i32],
@@ -233,7 +235,7 @@ pub fn put_cells(
     limits: &[u64; RAW_FUSED_RANK_LIMIT],
 )
     requires { ⌜ Putting (now starts) (now offsets) (now strides) (now limits) count s t d ss ts n (length (now src)) (length (now dst)) ⌝ }
-    ensures { λ _. ⌜ now (dst .exit) ≡ inOrder (cellAt (pos 0) (ruleI32 R.Add) (now (src .entry)) (line s ss) (movedAt (now (starts .entry)) (now (offsets .entry)) (now (strides .entry)) (now (limits .entry)) count (λ _. d) (line t ts))) n (now (dst .entry)) ⌝ }
+    ensures { λ _. ⌜ now (dst .exit) ≡ inOrder (cellAt (pos 0) (ruleI32 rule) (now (src .entry)) (line s ss) (movedAt (now (starts .entry)) (now (offsets .entry)) (now (strides .entry)) (now (limits .entry)) count (λ _. d) (line t ts))) n (now (dst .entry)) ⌝ }
 {
     let mut i: usize = 0;
     while i < n {
@@ -242,14 +244,15 @@ pub fn put_cells(
         let m = started(starts, d, q, count, offsets, strides, limits);
         let b = m as usize;
         let a = (s + ss * k) as usize;
-        let v = integer::wrapping_add_i32(dst[b], src[a]);
+        let v = runs::apply(rule, dst[b], src[a]);
         dst[b] = v;
         i += 1;
     }
 }
 
-// n cells: the source's place from s by ss; the destination's by the start read at t by ts, clamped, times the stride. Each is added.
+// n cells by the rule: the source's place from s by ss; the destination's by the start read at t by ts, clamped, times the stride.
 pub fn put_strided(
+    rule: Rule,
     src: &[i32],
     starts: &[i64],
     dst: &mut [i32],
@@ -263,7 +266,7 @@ pub fn put_strided(
     ss: i64,
 )
     requires { ⌜ Clamped (now starts) t ts base stride s ss limit n (length (now dst)) (length (now src)) ⌝ }
-    ensures { λ _. ⌜ now (dst .exit) ≡ inOrder (cellAt (pos 0) (ruleI32 R.Add) (now (src .entry)) (line s ss) (clampedAt (now (starts .entry)) (line t ts) base stride limit)) n (now (dst .entry)) ⌝ }
+    ensures { λ _. ⌜ now (dst .exit) ≡ inOrder (cellAt (pos 0) (ruleI32 rule) (now (src .entry)) (line s ss) (clampedAt (now (starts .entry)) (line t ts) base stride limit)) n (now (dst .entry)) ⌝ }
 {
     let mut i: usize = 0;
     while i < n {
@@ -274,58 +277,76 @@ pub fn put_strided(
         let c = y as i64;
         let b = (base + stride * c) as usize;
         let a = (s + ss * k) as usize;
-        let v = integer::wrapping_add_i32(dst[b], src[a]);
+        let v = runs::apply(rule, dst[b], src[a]);
         dst[b] = v;
         i += 1;
     }
 }
 
-// Cell i: of the source in order; of the destination where start i says, clamped. It is added.
-fn put_one(src: &[i32], starts: &[i64], dst: &mut [i32], limit: i64, i: usize)
+// Cell i by the rule: of the source in order; of the destination where start i says, clamped.
+fn put_one(rule: Rule, src: &[i32], starts: &[i64], dst: &mut [i32], limit: i64, i: usize)
     requires { ⌜ (i < length (now src)) × Ones (now starts) limit (length (now src)) (length (now dst)) ⌝ }
-    ensures { λ _. ⌜ now (dst .exit) ≡ cellAt (pos 0) (ruleI32 R.Add) (now (src .entry)) pos (oneAt (now (starts .entry)) limit) i (now (dst .entry)) ⌝ }
+    ensures { λ _. ⌜ now (dst .exit) ≡ cellAt (pos 0) (ruleI32 rule) (now (src .entry)) pos (oneAt (now (starts .entry)) limit) i (now (dst .entry)) ⌝ }
 {
     let x = starts[i];
     let y = clamped(x, limit);
     let b = y as usize;
-    let v = integer::wrapping_add_i32(dst[b], src[i]);
+    let v = runs::apply(rule, dst[b], src[i]);
     dst[b] = v;
 }
 
 // The first n cells.
-fn put_few(src: &[i32], starts: &[i64], dst: &mut [i32], limit: i64, n: usize)
+fn put_few(rule: Rule, src: &[i32], starts: &[i64], dst: &mut [i32], limit: i64, n: usize)
     requires { ⌜ (n ≤ length (now src)) × Ones (now starts) limit (length (now src)) (length (now dst)) ⌝ }
-    ensures { λ _. ⌜ now (dst .exit) ≡ inOrder (cellAt (pos 0) (ruleI32 R.Add) (now (src .entry)) pos (oneAt (now (starts .entry)) limit)) n (now (dst .entry)) ⌝ }
+    ensures { λ _. ⌜ now (dst .exit) ≡ inOrder (cellAt (pos 0) (ruleI32 rule) (now (src .entry)) pos (oneAt (now (starts .entry)) limit)) n (now (dst .entry)) ⌝ }
 {
     let mut i: usize = 0;
     while i < n {
-        put_one(src, starts, dst, limit, i);
+        put_one(rule, src, starts, dst, limit, i);
         i += 1;
     }
 }
 
-// A cell for each start: of the source in order; of the destination where the start says, clamped. Each is added. Four to a turn,
+// A cell for each start, by the rule: of the source in order; of the destination where the start says, clamped. Four to a turn,
 // behind those that are over.
-pub fn put_ones(src: &[i32], starts: &[i64], dst: &mut [i32], limit: i64)
+fn put_fours(rule: Rule, src: &[i32], starts: &[i64], dst: &mut [i32], limit: i64)
     requires { ⌜ Ones (now starts) limit (length (now src)) (length (now dst)) ⌝ }
-    ensures { λ _. ⌜ now (dst .exit) ≡ inOrder (cellAt (pos 0) (ruleI32 R.Add) (now (src .entry)) pos (oneAt (now (starts .entry)) limit)) (length (now (src .entry))) (now (dst .entry)) ⌝ }
+    ensures { λ _. ⌜ now (dst .exit) ≡ inOrder (cellAt (pos 0) (ruleI32 rule) (now (src .entry)) pos (oneAt (now (starts .entry)) limit)) (length (now (src .entry))) (now (dst .entry)) ⌝ }
 {
     let n = src.len();
     let mut fours = n / 4;
     let mut i = n - 4 * fours;
-    put_few(src, starts, dst, limit, i);
+    put_few(rule, src, starts, dst, limit, i);
     while 0 < fours {
-        put_one(src, starts, dst, limit, i);
-        put_one(src, starts, dst, limit, i + 1);
-        put_one(src, starts, dst, limit, i + 2);
-        put_one(src, starts, dst, limit, i + 3);
+        put_one(rule, src, starts, dst, limit, i);
+        put_one(rule, src, starts, dst, limit, i + 1);
+        put_one(rule, src, starts, dst, limit, i + 2);
+        put_one(rule, src, starts, dst, limit, i + 3);
         i += 4;
         fours -= 1;
     }
 }
 
-// n cells whose every step is 1: on the parts of the source and the starts that they are, and the destination from the base on.
+// The same. The compiler does not move the question for the rule out of a loop of four cells to a turn, so only one rule goes by
+// it, and the compiler knows which; the others go one to a turn.
+pub fn put_ones(rule: Rule, src: &[i32], starts: &[i64], dst: &mut [i32], limit: i64)
+    requires { ⌜ Ones (now starts) limit (length (now src)) (length (now dst)) ⌝ }
+    ensures { λ _. ⌜ now (dst .exit) ≡ inOrder (cellAt (pos 0) (ruleI32 rule) (now (src .entry)) pos (oneAt (now (starts .entry)) limit)) (length (now (src .entry))) (now (dst .entry)) ⌝ }
+{
+    match rule {
+        Rule::Copy => {
+            let n = src.len();
+            put_few(rule, src, starts, dst, limit, n);
+        }
+        Rule::Add => {
+            put_fours(Rule::Add, src, starts, dst, limit);
+        }
+    }
+}
+
+// n cells by the rule, whose every step is 1: on the parts of the source and the starts that they are, and the destination from the base on.
 pub fn put_row(
+    rule: Rule,
     src: &[i32],
     starts: &[i64],
     dst: &mut [i32],
@@ -336,7 +357,7 @@ pub fn put_row(
     s: i64,
 )
     requires { ⌜ (0 < n) × Clamped (now starts) t (pos 1) base (pos 1) s (pos 1) limit n (length (now dst)) (length (now src)) ⌝ }
-    ensures { λ _. ⌜ now (dst .exit) ≡ inOrder (cellAt (pos 0) (ruleI32 R.Add) (now (src .entry)) (line s (pos 1)) (clampedAt (now (starts .entry)) (line t (pos 1)) base (pos 1) limit)) n (now (dst .entry)) ⌝ }
+    ensures { λ _. ⌜ now (dst .exit) ≡ inOrder (cellAt (pos 0) (ruleI32 rule) (now (src .entry)) (line s (pos 1)) (clampedAt (now (starts .entry)) (line t (pos 1)) base (pos 1) limit)) n (now (dst .entry)) ⌝ }
 {
     let l = limit as i64;
     let a = s as usize;
@@ -345,11 +366,12 @@ pub fn put_row(
     let e = a + n;
     let f = b + n;
     let m = dst.len();
-    put_ones(&src[a..e], &starts[b..f], &mut dst[c..m], l);
+    put_ones(rule, &src[a..e], &starts[b..f], &mut dst[c..m], l);
 }
 
-// n cells: by put_row where every step is 1, else by put_strided. Each is added.
+// n cells by the rule: by put_row where every step is 1, else by put_strided.
 pub fn put_run(
+    rule: Rule,
     src: &[i32],
     starts: &[i64],
     dst: &mut [i32],
@@ -363,7 +385,7 @@ pub fn put_run(
     ss: i64,
 )
     requires { ⌜ Clamped (now starts) t ts base stride s ss limit n (length (now dst)) (length (now src)) ⌝ }
-    ensures { λ _. ⌜ now (dst .exit) ≡ inOrder (cellAt (pos 0) (ruleI32 R.Add) (now (src .entry)) (line s ss) (clampedAt (now (starts .entry)) (line t ts) base stride limit)) n (now (dst .entry)) ⌝ }
+    ensures { λ _. ⌜ now (dst .exit) ≡ inOrder (cellAt (pos 0) (ruleI32 rule) (now (src .entry)) (line s ss) (clampedAt (now (starts .entry)) (line t ts) base stride limit)) n (now (dst .entry)) ⌝ }
 {
     if n == 0 {
         return;
@@ -371,10 +393,10 @@ pub fn put_run(
     if ts == 1 {
         if stride == 1 {
             if ss == 1 {
-                put_row(src, starts, dst, n, t, base, limit, s);
+                put_row(rule, src, starts, dst, n, t, base, limit, s);
                 return;
             }
         }
     }
-    put_strided(src, starts, dst, n, t, ts, base, stride, limit, s, ss);
+    put_strided(rule, src, starts, dst, n, t, ts, base, stride, limit, s, ss);
 }

@@ -1,6 +1,5 @@
 -- A window is the windows below the places of its last axis; below the last there is a run. Over any elements, any rule and any rank. Assumes nothing.
 use mathlib.Core.Path.{_≡_, refl, sym, ap, ap₂, subst, _∙_}
-use mathlib.Core.Bool.{true}
 use mathlib.Core.List.{List}
 use Prim.Native.Nat.{ℕ, suc, _+_, _*_, _<_, _^_}
 use native.Mathlib.Omega.{arith}
@@ -13,13 +12,12 @@ use Rattle.indexing.specs.Coordinates.{product, InSlice}
 use Rattle.indexing.specs.Odometer.{AllPos}
 use Rattle.indexing.specs.Fusion.{product-pos}
 use Rattle.indexing.specs.Loops.{inOrder}
-use Rattle.layout.specs.Nested.{hasZero}
 use Rattle.runs.specs.Runs.{cellAt, line, Line, Run, Plane, runAt}
-use Rattle.runs.proofs.Turns.{none, more, in-runs, same-turns, same-places}
-use Rattle.runs.proofs.Place.{read, machine, Step, step, line-zero}
+use Rattle.runs.proofs.Turns.{more, in-runs, same-turns, same-places}
+use Rattle.runs.proofs.Place.{read, machine, Step, step}
 use Rattle.runs.proofs.Runs.{ends, runs-end}
-use Rattle.windows.specs.Windows.{placeAt, windowed, Region, Window, Units, Level}
-use Rattle.windows.proofs.Last.{product-top, positive-top, place-top, digit-below, units-product, units-place, place-first, no-cells}
+use Rattle.windows.specs.Windows.{placeAt, windowed, Region, Units, Level}
+use Rattle.windows.proofs.Last.{product-top, positive-top, place-top, digit-below, units-product, units-place, place-first}
 
 -- ---- where the cells lie
 module _ (base : ℤ) (shape : List ℕ) (strides : List ℤ) (top m : ℕ) (w : Region base shape strides (suc top) m) where
@@ -196,36 +194,3 @@ module _ (s d : ℤ) (shape : List ℕ) (ss ds : List ℤ) (low rank top sn dn :
           ∙ plane-is z rule src s d shape ss ds low sn dn (subst (λ (k : ℕ). Level s d shape ss ds low (suc k) sn dn) t here) x
           ∙ ap (λ (k : ℕ). windowed z rule src s d shape ss ds (suc k) x) (sym t)
           ∙ at-rank
-
--- ---- with no axes there is one cell, and with an extent of 0 there is none
-module _ (s d : ℤ) (shape : List ℕ) (ss ds : List ℤ) (rank sn dn : ℕ) (w : Window s d shape ss ds rank sn dn) where
-  one-line : (base : ℤ) (strides : List ℤ) (m : ℕ) → rank ≡ 0 → Region base shape strides rank m → Line base (pos 0) 1 m
-  unfolding product
-  one-line base strides m e r =
-      let one : 0 < product (take rank shape) = subst (λ (k : ℕ). 0 < product (take k shape)) (sym e) (omega arith) in
-      record { few = omega arith; inside = λ i l. let z : 0 ≡ i = omega arith in subst (λ (k : ℕ). InSlice m (line base (pos 0) k)) z (subst (InSlice m) (place-first base shape strides rank ∙ sym (line-zero base (pos 0))) (r .inside 0 one)) }
-
-  pub one-cell : rank ≡ 0 → SFits w64 s → SFits w64 d → Run (read s) (read d) (pos 0) (pos 0) 1 sn dn
-  one-cell e fs fd = simp (back fs, back fd) (record { source = one-line s ss sn e (w .source); dest = one-line d ds dn e (w .dest) })
-
-  pub window-level : (low : ℕ) → low < rank → Units low shape → AllPos (take rank shape) → SFits w64 s → SFits w64 d → Level (read s) (read d) shape ss ds low rank sn dn
-  window-level low h u p fs fd = simp (back fs, back fd) (record { below = h; units = u; positive = p; window = w })
-
-module _ {A : Type 0} (z : A) (rule : A → A → A) (src : List A) (s d : ℤ) (shape : List ℕ) (ss ds : List ℤ) (rank : ℕ) (x y : List A) where
-  pub one-end : rank ≡ 0 → SFits w64 s → SFits w64 d → y ≡ inOrder (cellAt z rule src (line (read s) (pos 0)) (line (read d) (pos 0))) 1 x → y ≡ windowed z rule src s d shape ss ds rank x
-  unfolding product
-  one-end e fs fd h =
-      h
-      ∙ ap₂ (λ (u v : ℤ). inOrder (cellAt z rule src (line u (pos 0)) (line v (pos 0))) 1 x) (back fs) (back fd)
-      ∙ same-places z rule src (line s (pos 0)) (line d (pos 0)) (placeAt s shape ss 0) (placeAt d shape ds 0) 1 (λ k l. one s ss k l) (λ k l. one d ds k l) x
-      ∙ ap (λ (r : ℕ). windowed z rule src s d shape ss ds r x) (sym e)
-    where
-      one : (b : ℤ) (ts : List ℤ) (k : ℕ) → k < 1 → line b (pos 0) k ≡ placeAt b shape ts 0 k
-      one b ts k l = let q : k ≡ 0 = omega arith in ap (line b (pos 0)) q ∙ line-zero b (pos 0) ∙ sym (place-first b shape ts 0) ∙ ap (placeAt b shape ts 0) (sym q)
-
-  pub window-end : SFits w64 s → SFits w64 d → y ≡ windowed z rule src (read s) (read d) shape ss ds rank x → y ≡ windowed z rule src s d shape ss ds rank x
-  window-end fs fd h = h ∙ ap₂ (λ (u v : ℤ). windowed z rule src u v shape ss ds rank x) (back fs) (back fd)
-
--- so where an extent is 0 nothing is done
-pub nothing : {A : Type 0} (z : A) (rule : A → A → A) (src : List A) (s d : ℤ) (shape : List ℕ) (ss ds : List ℤ) (rank : ℕ) (x : List A) → hasZero (take rank shape) ≡ true → x ≡ windowed z rule src s d shape ss ds rank x
-nothing z rule src s d shape ss ds rank x e = none (cellAt z rule src (placeAt s shape ss rank) (placeAt d shape ds rank)) (product (take rank shape)) x (no-cells (take rank shape) e)

@@ -7,8 +7,7 @@ ghost use lib.IntN.{pos};
 ghost use lib.ListN.{length};
 ghost use Rattle.layout.specs.Layouts.{rankLimit};
 ghost use Rattle.runs.specs.Runs.{ruleI32};
-ghost use Rattle.runs.specs.declared.Rule.the-variants as R;
-ghost use Rattle.windows.specs.Windows.{windowed, Window, Level, RunAxis};
+ghost use Rattle.windows.specs.Windows.{windowed, Level, RunAxis};
 use layout::RAW_FUSED_RANK_LIMIT;
 use runs::Rule;
 
@@ -66,62 +65,4 @@ pub fn axes(
         axes(rule, src, dst, extents, ss, ds, low, top, p, q);
         j += 1;
     }
-}
-
-// The cells of the first `rank` axes, of which there may be none.
-pub fn window(
-    rule: Rule,
-    src: &[i32],
-    dst: &mut [i32],
-    extents: &[u64; RAW_FUSED_RANK_LIMIT],
-    ss: &[i64; RAW_FUSED_RANK_LIMIT],
-    ds: &[i64; RAW_FUSED_RANK_LIMIT],
-    rank: usize,
-    s: i64,
-    d: i64,
-)
-    requires { ⌜ Window s d (now extents) (now ss) (now ds) rank (length (now src)) (length (now dst)) ⌝ }
-    ensures { λ _. ⌜ now (dst .exit) ≡ windowed (pos 0) (ruleI32 rule) (now (src .entry)) s d (now (extents .entry)) (now (ss .entry)) (now (ds .entry)) rank (now (dst .entry)) ⌝ }
-{
-    if rank == 0 {
-        runs::run(rule, src, dst, 1, s, d, 0, 0);
-        return;
-    }
-    if spans::has_zero(*extents, rank) {
-        return;
-    }
-    let low = run_axis(extents, rank);
-    axes(rule, src, dst, extents, ss, ds, low, rank, s, d);
-}
-
-pub fn copy_window(
-    src: &[i32],
-    dst: &mut [i32],
-    extents: &[u64; RAW_FUSED_RANK_LIMIT],
-    ss: &[i64; RAW_FUSED_RANK_LIMIT],
-    ds: &[i64; RAW_FUSED_RANK_LIMIT],
-    rank: usize,
-    s: i64,
-    d: i64,
-)
-    requires { ⌜ Window s d (now extents) (now ss) (now ds) rank (length (now src)) (length (now dst)) ⌝ }
-    ensures { λ _. ⌜ now (dst .exit) ≡ windowed (pos 0) (ruleI32 R.Copy) (now (src .entry)) s d (now (extents .entry)) (now (ss .entry)) (now (ds .entry)) rank (now (dst .entry)) ⌝ }
-{
-    window(Rule::Copy, src, dst, extents, ss, ds, rank, s, d);
-}
-
-pub fn add_window(
-    src: &[i32],
-    dst: &mut [i32],
-    extents: &[u64; RAW_FUSED_RANK_LIMIT],
-    ss: &[i64; RAW_FUSED_RANK_LIMIT],
-    ds: &[i64; RAW_FUSED_RANK_LIMIT],
-    rank: usize,
-    s: i64,
-    d: i64,
-)
-    requires { ⌜ Window s d (now extents) (now ss) (now ds) rank (length (now src)) (length (now dst)) ⌝ }
-    ensures { λ _. ⌜ now (dst .exit) ≡ windowed (pos 0) (ruleI32 R.Add) (now (src .entry)) s d (now (extents .entry)) (now (ss .entry)) (now (ds .entry)) rank (now (dst .entry)) ⌝ }
-{
-    window(Rule::Add, src, dst, extents, ss, ds, rank, s, d);
 }

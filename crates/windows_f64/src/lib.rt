@@ -1,15 +1,17 @@
-// Windows over f64: those of `windows`, with the runs of f64.
+// Written by tests/twins from crates/windows/src/lib.rt.
+// Windows: all cells of up to eight axes of two strided slices, a run at a time. What each leaves is the plain loop over every
+// linear index, first axis fastest. There are no coordinates and no resets: the last axis moves both bases, and below it stands
+// the window of the axes before it.
 ghost use mathlib.Core.Path.{_≡_};
 ghost use lib.Ieee.{nan};
 ghost use lib.ListN.{length};
 ghost use Rattle.runs.specs.Runs.{ruleF64};
-ghost use Rattle.runs.specs.declared.Rule.the-variants as R;
-ghost use Rattle.windows.specs.Windows.{windowed, Window, Level};
+ghost use Rattle.windows.specs.Windows.{windowed, Level};
 use layout::RAW_FUSED_RANK_LIMIT;
 use runs::Rule;
 
 // The cells of the first `rank` axes. There are some, and the axes before `low` have one place each.
-pub fn axes_f64(
+pub fn axes(
     rule: Rule,
     src: &[f64],
     dst: &mut [f64],
@@ -29,14 +31,14 @@ pub fn axes_f64(
     let a = ss[top];
     let b = ds[top];
     if top == low {
-        runs_f64::run_f64(rule, src, dst, n as usize, s, d, a, b);
+        runs_f64::run(rule, src, dst, n as usize, s, d, a, b);
         return;
     }
     if top == low + 1 {
         let m = extents[low];
         let x = ss[low];
         let y = ds[low];
-        runs_f64::plane_f64(rule, src, dst, m as usize, n, s, d, x, y, a, b);
+        runs_f64::plane(rule, src, dst, m as usize, n, s, d, x, y, a, b);
         return;
     }
     let mut j: u64 = 0;
@@ -44,65 +46,7 @@ pub fn axes_f64(
         let k = j as i64;
         let p = s + a * k;
         let q = d + b * k;
-        axes_f64(rule, src, dst, extents, ss, ds, low, top, p, q);
+        axes(rule, src, dst, extents, ss, ds, low, top, p, q);
         j += 1;
     }
-}
-
-// The cells of the first `rank` axes, of which there may be none.
-pub fn window_f64(
-    rule: Rule,
-    src: &[f64],
-    dst: &mut [f64],
-    extents: &[u64; RAW_FUSED_RANK_LIMIT],
-    ss: &[i64; RAW_FUSED_RANK_LIMIT],
-    ds: &[i64; RAW_FUSED_RANK_LIMIT],
-    rank: usize,
-    s: i64,
-    d: i64,
-)
-    requires { ⌜ Window s d (now extents) (now ss) (now ds) rank (length (now src)) (length (now dst)) ⌝ }
-    ensures { λ _. ⌜ now (dst .exit) ≡ windowed nan (ruleF64 rule) (now (src .entry)) s d (now (extents .entry)) (now (ss .entry)) (now (ds .entry)) rank (now (dst .entry)) ⌝ }
-{
-    if rank == 0 {
-        runs_f64::run_f64(rule, src, dst, 1, s, d, 0, 0);
-        return;
-    }
-    if spans::has_zero(*extents, rank) {
-        return;
-    }
-    let low = windows::run_axis(extents, rank);
-    axes_f64(rule, src, dst, extents, ss, ds, low, rank, s, d);
-}
-
-pub fn copy_window_f64(
-    src: &[f64],
-    dst: &mut [f64],
-    extents: &[u64; RAW_FUSED_RANK_LIMIT],
-    ss: &[i64; RAW_FUSED_RANK_LIMIT],
-    ds: &[i64; RAW_FUSED_RANK_LIMIT],
-    rank: usize,
-    s: i64,
-    d: i64,
-)
-    requires { ⌜ Window s d (now extents) (now ss) (now ds) rank (length (now src)) (length (now dst)) ⌝ }
-    ensures { λ _. ⌜ now (dst .exit) ≡ windowed nan (ruleF64 R.Copy) (now (src .entry)) s d (now (extents .entry)) (now (ss .entry)) (now (ds .entry)) rank (now (dst .entry)) ⌝ }
-{
-    window_f64(Rule::Copy, src, dst, extents, ss, ds, rank, s, d);
-}
-
-pub fn add_window_f64(
-    src: &[f64],
-    dst: &mut [f64],
-    extents: &[u64; RAW_FUSED_RANK_LIMIT],
-    ss: &[i64; RAW_FUSED_RANK_LIMIT],
-    ds: &[i64; RAW_FUSED_RANK_LIMIT],
-    rank: usize,
-    s: i64,
-    d: i64,
-)
-    requires { ⌜ Window s d (now extents) (now ss) (now ds) rank (length (now src)) (length (now dst)) ⌝ }
-    ensures { λ _. ⌜ now (dst .exit) ≡ windowed nan (ruleF64 R.Add) (now (src .entry)) s d (now (extents .entry)) (now (ss .entry)) (now (ds .entry)) rank (now (dst .entry)) ⌝ }
-{
-    window_f64(Rule::Add, src, dst, extents, ss, ds, rank, s, d);
 }

@@ -54,7 +54,7 @@ module _ (t : ℕ) where
   Read = lts.After-z (claims t) (at t) axes.Post Inv μ
 
   abbrev start : Read → Begun
-  start B = B .before .before .before .before .before
+  start B = search
 
   module _ (a : Begun) where
     src-room : length (a .args .src .now) < 2 ^ 63
@@ -94,43 +94,53 @@ module _ (t : ℕ) where
       next = let a = start B in step-level _ _ _ _ _ _ _ _ _ _ _ _ _ _ _ _ _ (a .pre .1) (a .fits .s) (a .fits .t) (a .fits .d) _ top-is x-fits y-fits z-fits (src-room a) (dst-room a) j h
 
   started-requires : lts.Need-started-requires (claims t) (at t) axes.Post Inv μ
-  started-requires c κs = let a = c .before in start-asks _ _ _ _ _ _ _ _ _ _ _ _ _ _ _ _ _ (a .pre .1) (a .fits .s) (a .fits .t) (a .fits .d) (c .if1 .taken) (src-room a)
+  started-requires c κs =
+      let a : Begun = search in
+      start-asks _ _ _ _ _ _ _ _ _ _ _ _ _ _ _ _ _ (a .pre .1) (a .fits .s) (a .fits .t) (a .fits .d) (c .if1 .taken) (src-room a)
 
   axes-requires : lts.Need-axes-requires (claims t) (at t) axes.Post Inv μ
-  axes-requires c κs = let p = c .before .before in let a = p .before in window-asks _ _ _ _ _ _ _ _ _ _ _ _ _ _ _ _ _ (a .pre .1) (a .fits .s) (a .fits .t) (a .fits .d) (p .if1 .taken) (src-room a) _ (c .before .started .ensures)
+  axes-requires c κs =
+      let p = c .before .before in
+      let a : Begun = search in
+      window-asks _ _ _ _ _ _ _ _ _ _ _ _ _ _ _ _ _ (a .pre .1) (a .fits .s) (a .fits .t) (a .fits .d) (p .if1 .taken) (src-room a) _ (c .before .started .ensures)
 
   same-length : lts.Need-same-length (claims t) (at t) axes.Post Inv μ
   same-length c = search needs
 
   returns : lts.Need-returns (claims t) (at t) axes.Post Inv μ
-  returns c = let p = c .before .before .before .before in let a = p .before in window-end _ _ _ _ _ _ _ _ _ _ _ _ _ _ _ _ _ (a .pre .1) (a .fits .s) (a .fits .t) (a .fits .d) (p .if1 .taken) (src-room a) _ (c .before .before .before .started .ensures) (pos 0) (ruleI32 R.Copy) (a .args .src .now) (a .args .dst .now) _ (c .before .axes .ensures)
+  returns c =
+      let s : lts.After-started (claims t) (at t) axes.Post Inv μ = search in
+      let x : lts.After-axes (claims t) (at t) axes.Post Inv μ = search in
+      let p : lts.Then1 (claims t) (at t) axes.Post Inv μ = search in
+      let a : Begun = search in
+      window-end _ _ _ _ _ _ _ _ _ _ _ _ _ _ _ _ _ (a .pre .1) (a .fits .s) (a .fits .t) (a .fits .d) (p .if1 .taken) (src-room a) _ (s .started .ensures) (pos 0) (ruleI32 R.Copy) (a .args .src .now) (a .args .dst .now) _ (x .axes .ensures)
 
   sub-top : lts.Need-sub-top (claims t) (at t) axes.Post Inv μ
-  sub-top c = omega (arith, c .before .pre .1 .below)
+  sub-top c = let a : Begun = search in omega (arith, a .pre .1 .below)
 
   mul-n : lts.Need-mul-n (claims t) (at t) axes.Post Inv μ
-  mul-n c = omega (arith, c .before .pre .1 .below, c .before .pre .1 .walk .small)
+  mul-n c = let a : Begun = search in omega (arith, a .pre .1 .below, a .pre .1 .walk .small)
 
   element-copy-out-n : lts.Need-element-copy-out-n (claims t) (at t) axes.Post Inv μ
-  element-copy-out-n c = omega (arith, c .before .pre .1 .below, c .before .pre .1 .walk .small)
+  element-copy-out-n c = let a : Begun = search in omega (arith, a .pre .1 .below, a .pre .1 .walk .small)
 
   mul-x : lts.Need-mul-x (claims t) (at t) axes.Post Inv μ
-  mul-x c = omega (arith, c .before .before .pre .1 .below, c .before .before .pre .1 .walk .small)
+  mul-x c = let a : Begun = search in omega (arith, a .pre .1 .below, a .pre .1 .walk .small)
 
   element-copy-out-x : lts.Need-element-copy-out-x (claims t) (at t) axes.Post Inv μ
-  element-copy-out-x c = omega (arith, c .before .before .pre .1 .below, c .before .before .pre .1 .walk .small)
+  element-copy-out-x c = let a : Begun = search in omega (arith, a .pre .1 .below, a .pre .1 .walk .small)
 
   mul-y : lts.Need-mul-y (claims t) (at t) axes.Post Inv μ
-  mul-y c = omega (arith, c .before .before .before .pre .1 .below, c .before .before .before .pre .1 .walk .small)
+  mul-y c = let a : Begun = search in omega (arith, a .pre .1 .below, a .pre .1 .walk .small)
 
   element-copy-out-y : lts.Need-element-copy-out-y (claims t) (at t) axes.Post Inv μ
-  element-copy-out-y c = omega (arith, c .before .before .before .pre .1 .below, c .before .before .before .pre .1 .walk .small)
+  element-copy-out-y c = let a : Begun = search in omega (arith, a .pre .1 .below, a .pre .1 .walk .small)
 
   mul-z : lts.Need-mul-z (claims t) (at t) axes.Post Inv μ
-  mul-z c = omega (arith, c .before .before .before .before .pre .1 .below, c .before .before .before .before .pre .1 .walk .small)
+  mul-z c = let a : Begun = search in omega (arith, a .pre .1 .below, a .pre .1 .walk .small)
 
   element-copy-out-z : lts.Need-element-copy-out-z (claims t) (at t) axes.Post Inv μ
-  element-copy-out-z c = omega (arith, c .before .before .before .before .pre .1 .below, c .before .before .before .before .pre .1 .walk .small)
+  element-copy-out-z c = let a : Begun = search in omega (arith, a .pre .1 .below, a .pre .1 .walk .small)
 
   gather-run-requires : lts.Need-gather-run-requires (claims t) (at t) axes.Post Inv μ
   gather-run-requires c κs = let B = c .before .before in let a = start B in run-asks _ _ _ _ _ _ _ _ _ _ _ _ _ _ _ _ _ (a .pre .1) (a .fits .s) (a .fits .t) (a .fits .d) _ (top-is B) (x-fits B) (y-fits B) (z-fits B) (c .before .if2 .taken)
@@ -139,7 +149,11 @@ module _ (t : ℕ) where
   same-length-2 c = search needs
 
   returns-2 : lts.Need-returns-2 (claims t) (at t) axes.Post Inv μ
-  returns-2 c = let B = c .before .before .before .before in let a = start B in run-end _ _ _ _ _ _ _ _ _ _ _ _ _ _ _ _ _ (a .pre .1) (a .fits .s) (a .fits .t) (a .fits .d) _ (top-is B) (x-fits B) (y-fits B) (z-fits B) (pos 0) (ruleI32 R.Copy) (a .args .src .now) (a .args .dst .now) _ (c .before .before .before .if2 .taken) (c .before .gather-run .ensures)
+  returns-2 c =
+      let t2 : lts.Then2 (claims t) (at t) axes.Post Inv μ = search in
+      let g : lts.After-gather-run (claims t) (at t) axes.Post Inv μ = search in
+      let B : Read = search in
+      let a = start B in run-end _ _ _ _ _ _ _ _ _ _ _ _ _ _ _ _ _ (a .pre .1) (a .fits .s) (a .fits .t) (a .fits .d) _ (top-is B) (x-fits B) (y-fits B) (z-fits B) (pos 0) (ruleI32 R.Copy) (a .args .src .now) (a .args .dst .now) _ (t2 .if2 .taken) (g .gather-run .ensures)
 
   loop-holds : lts.Need-loop-holds (claims t) (at t) axes.Post Inv μ
   loop-holds c = (omega arith, refl, none _ 0 _ refl)
@@ -178,20 +192,24 @@ module _ (t : ℕ) where
       )
 
   add-j : lts.Need-add-j (claims t) (at t) axes.Post Inv μ
-  add-j c = let B = c .before .before .before .before .before .before in omega (arith, start B .pre .1 .walk .source .few (start B .args .rank - 1) (omega (arith, top-is B)))
+  add-j c =
+      let B : Read = search in
+      omega (arith, start B .pre .1 .walk .source .few (start B .args .rank - 1) (omega (arith, top-is B)))
 
   loop-less : lts.Need-loop-less (claims t) (at t) axes.Post Inv μ
   loop-less c = omega arith
 
   loop-again : lts.Need-loop-again (claims t) (at t) axes.Post Inv μ
   loop-again c =
-      let h = c .before .before .before .before in
+      let d : lts.In-loop (claims t) (at t) axes.Post Inv μ = search in
+      let g : lts.After-gather-axes (claims t) (at t) axes.Post Inv μ = search in
+      let h : lts.At-loop (claims t) (at t) axes.Post Inv μ = search in
       let B = h .before .before in
       let a = start B in
-      let l = c .before .before .before .loop-test .taken in (
+      let l = d .loop-test .taken in (
         omega arith,
-        c .before .gather-axes .kept .1 .1 .0 ∙ h .loop .inv .1,
-        levels-more _ _ _ _ _ _ _ _ _ _ _ _ _ _ _ _ _ (a .pre .1) (a .fits .s) (a .fits .t) (a .fits .d) _ (top-is B) (x-fits B) (y-fits B) (z-fits B) (pos 0) (ruleI32 R.Copy) (a .args .src .now) (h .loop .j) _ _ (a .args .dst .now) (h .loop .dst) _ (from B (h .loop .j) l) (index B (h .loop .j) l) (to B (h .loop .j) l) (h .loop .inv .2) (c .before .gather-axes .ensures),
+        g .gather-axes .kept .1 .1 .0 ∙ h .loop .inv .1,
+        levels-more _ _ _ _ _ _ _ _ _ _ _ _ _ _ _ _ _ (a .pre .1) (a .fits .s) (a .fits .t) (a .fits .d) _ (top-is B) (x-fits B) (y-fits B) (z-fits B) (pos 0) (ruleI32 R.Copy) (a .args .src .now) (h .loop .j) _ _ (a .args .dst .now) (h .loop .dst) _ (from B (h .loop .j) l) (index B (h .loop .j) l) (to B (h .loop .j) l) (h .loop .inv .2) (g .gather-axes .ensures),
       )
 
   same-length-3 : lts.Need-same-length-3 (claims t) (at t) axes.Post Inv μ

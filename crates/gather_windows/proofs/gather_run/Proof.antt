@@ -14,49 +14,53 @@ use borrow.Author.Needs.{needs}
 use Rattle.gather_windows.proofs.gather_run.Statement.{statement}
 use Rattle.gather_windows.proofs.gather_run.Tie as tie
 
--- src/lib.rt:58:9
 returns : tie.Need-returns
-returns c = none _ (c .before .args .n) (c .before .args .dst .now) (c .if1 .taken)
+returns c = let a : tie.Start = search in none _ (a .args .n) (a .args .dst .now) (c .if1 .taken)
 
--- src/lib.rt:62:26
 element-copy-out-at : tie.Need-element-copy-out-at
 element-copy-out-at c = search needs
 
--- src/lib.rt:62:22
 add-at : tie.Need-add-at
-add-at c = let a = c .before .before .before .before in at-sum _ _ _ _ _ _ _ _ _ _ _ _ _ _ (a .pre) (c .before .before .before .if1 .left) (c .before .before .if2 .taken) (a .fits .ss) (c .before .if3 .taken) (omega (arith, a .good .1 .0 .1)) (a .fits .s) (a .fits .t) (a .fits .d) (a .fits .ts) (a .fits .ds) (sfits-of (c .at .given))
+add-at c =
+    let a : tie.Start = search in
+    at-sum _ _ _ _ _ _ _ _ _ _ _ _ _ _ (a .pre) (c .before .before .before .if1 .left) (c .before .before .if2 .taken) (a .fits .ss) (c .before .if3 .taken) (omega (arith, a .good .1 .0 .1)) (a .fits .s) (a .fits .t) (a .fits .d) (a .fits .ts) (a .fits .ds) (sfits-of (c .at .given))
 
--- src/lib.rt:63:61
 element-copy-out-take-run : tie.Need-element-copy-out-take-run
 element-copy-out-take-run c = search needs
 
--- src/lib.rt:63:73
 element-copy-out-take-run-2 : tie.Need-element-copy-out-take-run-2
 element-copy-out-take-run-2 c = search needs
 
--- src/lib.rt:63:13
 take-run-requires : tie.Need-take-run-requires
-take-run-requires c κs = let b = c .before .before .before in let a = b .before .before .before .before in single-asks _ _ _ _ _ _ _ _ _ _ _ _ _ _ (a .pre) (b .before .before .before .if1 .left) (b .before .before .if2 .taken) (a .fits .ss) (b .before .if3 .taken) (omega (arith, a .good .1 .0 .1)) (a .fits .s) (a .fits .t) (a .fits .d) (a .fits .ts) (a .fits .ds) (sfits-of (b .at .given)) (sfits-of (c .before .take-run-arg2 .given))
+take-run-requires c κs =
+    let b = c .before .before .before in
+    let a : tie.Start = search in
+    single-asks _ _ _ _ _ _ _ _ _ _ _ _ _ _ (a .pre) (b .before .before .before .if1 .left) (b .before .before .if2 .taken) (a .fits .ss) (b .before .if3 .taken) (omega (arith, a .good .1 .0 .1)) (a .fits .s) (a .fits .t) (a .fits .d) (a .fits .ts) (a .fits .ds) (sfits-of (b .at .given)) (sfits-of (c .before .take-run-arg2 .given))
 
--- src/lib.rt:64:13
 same-length : tie.Need-same-length
 same-length c = search needs
 
--- src/lib.rt:64:13
 returns-2 : tie.Need-returns-2
-returns-2 c = let b = c .before .before .before .before .before in let a = b .before .before .before .before in single-end _ _ _ _ _ _ _ _ _ _ _ _ _ _ (a .pre) (b .before .before .before .if1 .left) (b .before .before .if2 .taken) (a .fits .ss) (b .before .if3 .taken) (omega (arith, a .good .1 .0 .1)) (a .fits .s) (a .fits .t) (a .fits .d) (a .fits .ts) (a .fits .ds) (sfits-of (b .at .given)) (pos 0) (ruleI32 R.Copy) (a .args .src .now) (a .args .dst .now) _ (sfits-of (c .before .before .before .take-run-arg2 .given)) (c .before .take-run .ensures)
+returns-2 c =
+    let t : tie.After-take-run = search in
+    let s : tie.After-take-run-arg2 = search in
+    let b : tie.After-at = search in
+    let a : tie.Start = search in
+    single-end _ _ _ _ _ _ _ _ _ _ _ _ _ _ (a .pre) (b .before .before .before .if1 .left) (b .before .before .if2 .taken) (a .fits .ss) (b .before .if3 .taken) (omega (arith, a .good .1 .0 .1)) (a .fits .s) (a .fits .t) (a .fits .d) (a .fits .ts) (a .fits .ds) (sfits-of (b .at .given)) (pos 0) (ruleI32 R.Copy) (a .args .src .now) (a .args .dst .now) _ (sfits-of (s .take-run-arg2 .given)) (t .take-run .ensures)
 
--- src/lib.rt:67:5
 take-cells-requires : tie.Need-take-cells-requires
-take-cells-requires c κs = let a = c .before .before .before in simp (back (a .fits .s), back (a .fits .t), back (a .fits .d), back (a .fits .ss), back (a .fits .ts), back (a .fits .ds)) (a .pre)
+take-cells-requires c κs =
+    let a : tie.Start = search in
+    simp (back (a .fits .s), back (a .fits .t), back (a .fits .d), back (a .fits .ss), back (a .fits .ts), back (a .fits .ds)) (a .pre)
 
--- src/lib.rt:38:1
 same-length-2 : tie.Need-same-length-2
 same-length-2 c = search needs
 
--- src/lib.rt:38:1
 returns-3 : tie.Need-returns-3
-returns-3 c = let a = c .before .before .before .before .before in cells-end (pos 0) (ruleI32 R.Copy) (a .args .src .now) (a .args .starts .now) (a .args .offsets .now) (a .args .strides .now) (a .args .limits .now) (a .args .count) _ _ _ _ _ _ (a .args .n) (a .args .n) (a .args .dst .now) _ (a .fits .s) (a .fits .t) (a .fits .d) (a .fits .ss) (a .fits .ts) (a .fits .ds) refl (c .before .take-cells .ensures)
+returns-3 c =
+    let t : tie.After-take-cells = search in
+    let a : tie.Start = search in
+    cells-end (pos 0) (ruleI32 R.Copy) (a .args .src .now) (a .args .starts .now) (a .args .offsets .now) (a .args .strides .now) (a .args .limits .now) (a .args .count) _ _ _ _ _ _ (a .args .n) (a .args .n) (a .args .dst .now) _ (a .fits .s) (a .fits .t) (a .fits .d) (a .fits .ss) (a .fits .ts) (a .fits .ds) refl (t .take-cells .ensures)
 
 pub gather-run-spec : {M : Type 1} → statement M
 gather-run-spec =

@@ -10,19 +10,27 @@ use Rattle.gather_windows.proofs.gather_window.Statement.{statement}
 use Rattle.gather_windows.proofs.gather_window.Tie as tie
 
 gather-run-requires : tie.Need-gather-run-requires
-gather-run-requires c κs = let a = c .before .before in one-cell _ _ _ _ _ _ _ _ _ _ _ _ _ _ _ (a .pre) (a .fits .s) (a .fits .t) (a .fits .d) (c .before .if1 .taken)
+gather-run-requires c κs =
+    let a : tie.Start = search in
+    one-cell _ _ _ _ _ _ _ _ _ _ _ _ _ _ _ (a .pre) (a .fits .s) (a .fits .t) (a .fits .d) (c .before .if1 .taken)
 
 same-length : tie.Need-same-length
 same-length c = search needs
 
 returns : tie.Need-returns
-returns c = let a = c .before .before .before .before in one-end _ _ _ _ _ _ _ _ _ _ _ _ _ _ _ (a .pre) (a .fits .s) (a .fits .t) (a .fits .d) (c .before .before .before .if1 .taken) (pos 0) (ruleI32 R.Copy) (a .args .src .now) (a .args .dst .now) _ (c .before .gather-run .ensures)
+returns c =
+    let t1 : tie.Then1 = search in
+    let g : tie.After-gather-run = search in
+    let a : tie.Start = search in
+    one-end _ _ _ _ _ _ _ _ _ _ _ _ _ _ _ (a .pre) (a .fits .s) (a .fits .t) (a .fits .d) (t1 .if1 .taken) (pos 0) (ruleI32 R.Copy) (a .args .src .now) (a .args .dst .now) _ (g .gather-run .ensures)
 
 has-zero-requires : tie.Need-has-zero-requires
 has-zero-requires c κs = search needs
 
 returns-2 : tie.Need-returns-2
-returns-2 c = let a = c .before .before .before .before in nothing _ _ _ _ _ _ _ _ _ _ _ _ _ _ _ (a .pre) (a .fits .s) (a .fits .t) (a .fits .d) (pos 0) (ruleI32 R.Copy) (a .args .src .now) (a .args .dst .now) (sym (c .before .has-zero .ensures) ∙ c .if2 .taken)
+returns-2 c =
+    let a : tie.Start = search in
+    nothing _ _ _ _ _ _ _ _ _ _ _ _ _ _ _ (a .pre) (a .fits .s) (a .fits .t) (a .fits .d) (pos 0) (ruleI32 R.Copy) (a .args .src .now) (a .args .dst .now) (sym (c .before .has-zero .ensures) ∙ c .if2 .taken)
 
 run-axis-requires : tie.Need-run-axis-requires
 run-axis-requires c κs = search needs
@@ -35,7 +43,7 @@ gather-axes-requires c κs =
     let w = c .before in
     let r = w .before in
     let z = r .before .before in
-    let a = z .before .before .before in
+    let a : tie.Start = search in
     level-of _ _ _ _ _ _ _ _ _ _ _ _ _ _ _ (a .pre) (a .fits .s) (a .fits .t) (a .fits .d) (r .run-axis .result) (w .still-axes .result) (r .run-axis .ensures .below) (r .run-axis .ensures .units) (some-cells (take (a .args .rank) (a .args .extents .now)) (sym (z .has-zero .ensures) ∙ r .before .if2 .left)) (w .still-axes .ensures .still)
 
 same-length-2 : tie.Need-same-length-2
@@ -43,9 +51,10 @@ same-length-2 c = search needs
 
 returns-3 : tie.Need-returns-3
 returns-3 c =
-    let w = c .before .before .before in
-    let a = w .before .before .before .before .before .before in
-    level-end _ _ _ _ _ _ _ _ _ _ _ _ _ _ _ (a .pre) (a .fits .s) (a .fits .t) (a .fits .d) (pos 0) (ruleI32 R.Copy) (a .args .src .now) (a .args .dst .now) _ (c .before .gather-axes .ensures)
+    let g : tie.After-gather-axes = search in
+    let w : tie.After-still-axes = search in
+    let a : tie.Start = search in
+    level-end _ _ _ _ _ _ _ _ _ _ _ _ _ _ _ (a .pre) (a .fits .s) (a .fits .t) (a .fits .d) (pos 0) (ruleI32 R.Copy) (a .args .src .now) (a .args .dst .now) _ (g .gather-axes .ensures)
 
 pub gather-window-spec : {M : Type 1} → statement M
 gather-window-spec =

@@ -7,11 +7,9 @@ use Rattle.gather_windows.proofs.Stills.{unit-still, zero-still}
 use Rattle.gather_windows.proofs.is_still.Statement.{statement}
 use Rattle.gather_windows.proofs.is_still.Tie as tie
 
--- src/lib.rt:18:1
 returns : tie.Need-returns
 returns c h = unit-still (c .before .args .extent) (c .before .args .step) (c .if1 .taken)
 
--- src/lib.rt:18:1
 returns-2 : tie.Need-returns-2
 returns-2 c h = zero-still (c .before .args .extent) (c .before .args .step) (same-bits {w = w64} (c .before .fits .step) (sfits-lit {z = pos 0} tt) (eqb-true _ _ h))
 

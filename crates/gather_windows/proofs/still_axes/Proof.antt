@@ -15,43 +15,33 @@ Inv-loop extents steps rank i₀ i = (i ≤ rank) × Still i extents steps
 abbrev μ-loop : tie.MeasureT-loop
 μ-loop extents steps rank i₀ i = rank - i
 
--- src/lib.rt:34:5
 loop-holds : tie.Need-loop-holds Inv-loop μ-loop
 loop-holds c = (omega arith, still-none (c .args .extents .now) (c .args .steps .now))
 
--- src/lib.rt:35:22
 mul-is-still : tie.Need-mul-is-still Inv-loop μ-loop
 mul-is-still c = omega (arith, c .before .before .pre)
 
--- src/lib.rt:35:22
 element-copy-out-is-still : tie.Need-element-copy-out-is-still Inv-loop μ-loop
 element-copy-out-is-still c = omega (arith, c .before .before .pre)
 
--- src/lib.rt:35:34
 mul-is-still-2 : tie.Need-mul-is-still-2 Inv-loop μ-loop
 mul-is-still-2 c = omega (arith, c .before .before .before .pre)
 
--- src/lib.rt:35:34
 element-copy-out-is-still-2 : tie.Need-element-copy-out-is-still-2 Inv-loop μ-loop
 element-copy-out-is-still-2 c = omega (arith, c .before .before .before .pre)
 
--- src/lib.rt:35:13
 is-still-requires : tie.Need-is-still-requires Inv-loop μ-loop
 is-still-requires c κs = search needs
 
--- src/lib.rt:36:13
 returns : tie.Need-returns Inv-loop μ-loop
 returns c = let h = c .before .before .before .before .before in record { within = h .loop .inv .0; still = h .loop .inv .1 }
 
--- src/lib.rt:38:9
 add-i : tie.Need-add-i Inv-loop μ-loop
 add-i c = omega arith
 
--- src/lib.rt:34:5
 loop-less : tie.Need-loop-less Inv-loop μ-loop
 loop-less c = omega arith
 
--- src/lib.rt:34:5
 loop-again : tie.Need-loop-again Inv-loop μ-loop
 loop-again c =
     let k = c .before in
@@ -62,7 +52,6 @@ loop-again c =
           (still-back (getD (a .args .extents .now) (h .loop .i) 0) (getD (a .args .steps .now) (h .loop .i) (pos 0)) (sfits-of (k .before .is-still-arg2 .given)) (k .is-still .ensures (not-false _ (c .if1 .left)))),
     )
 
--- src/lib.rt:25:1
 returns-2 : tie.Need-returns-2 Inv-loop μ-loop
 returns-2 c = let h = c .before in record { within = h .loop .inv .0; still = h .loop .inv .1 }
 

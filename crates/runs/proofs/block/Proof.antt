@@ -4,7 +4,7 @@ use native.Mathlib.Omega.{arith}
 use borrow.Author.Needs.{needs}
 use lib.ListN.{length, replicate}
 use lib.IntN.{pos}
-use Rattle.runs.specs.Runs.{ruleI32}
+use Rattle.runs.specs.Runs.{ruleI32, blockCells}
 use Rattle.runs.specs.declared.Rule.the-variants as R
 use Rattle.runs.proofs.Blocks.{by-way, room}
 use Rattle.runs.proofs.block.Statement.{statement}
@@ -29,8 +29,9 @@ part-each-start : tie.Need-part-each-start
 part-each-start c = search needs
 
 part-each-end : tie.Need-part-each-end
-part-each-end c = let a = c .before .before .before .before in
-    room (replicate 4096 (pos 0)) (c .before .before .each .last .1 .1 .0) (length (a .args .dst .now)) (length (a .args .dst .now) - 0) (c .before .before .each .kept .1 .1 .0) (a .pre .1)
+part-each-end c =
+    let a : tie.Start = search in
+    room (replicate blockCells (pos 0)) (c .before .before .each .last .1 .1 .0) (length (a .args .dst .now)) (length (a .args .dst .now) - 0) (c .before .before .each .kept .1 .1 .0) (a .pre .1)
 
 each-requires-2 : tie.Need-each-requires-2
 each-requires-2 c κs = search needs
@@ -39,10 +40,12 @@ same-length : tie.Need-same-length
 same-length c = search needs
 
 returns : tie.Need-returns
-returns c = let b = c .before .before .before .before .before .before in
-    let a = b .before .before in
+returns c =
+    let e2 : tie.After-each2 = search in
+    let b : tie.After-each = search in
+    let a : tie.Start = search in
     let n = length (a .args .dst .now) in
-    by-way (pos 0) (ruleI32 R.Copy) (λ x u. refl) (a .args .src .now) (a .args .dst .now) (replicate 4096 (pos 0)) (b .each .last .1 .1 .0) _ (n - 0) (omega arith) (a .pre .0) (a .pre .1) (b .each .ensures) (c .before .each2 .ensures)
+    by-way (pos 0) (ruleI32 R.Copy) (λ x u. refl) (a .args .src .now) (a .args .dst .now) (replicate blockCells (pos 0)) (b .each .last .1 .1 .0) _ (n - 0) (omega arith) (a .pre .0) (a .pre .1) (b .each .ensures) (e2 .each2 .ensures)
 
 pub block-spec : {M : Type 1} → statement M
 block-spec =

@@ -5,7 +5,7 @@ use borrow.Author.Needs.{needs}
 use lib.ListN.{length}
 use lib.IntN.{pos}
 use Rattle.indexing.specs.Loops.{inOrder}
-use Rattle.runs.specs.Runs.{ruleI32, cellAt}
+use Rattle.runs.specs.Runs.{ruleI32, cellAt, blockCells}
 use Rattle.runs.specs.declared.Rule.the-variants as R
 use Rattle.runs.proofs.Turns.{none, length-cells}
 use Rattle.runs.proofs.Blocks.{block-more}
@@ -19,7 +19,9 @@ abbrev μ-loop : tie.MeasureT-loop
 μ-loop src dst₀ n at₀ dst at = length dst₀ - at
 
 loop-holds : tie.Need-loop-holds Inv-loop μ-loop
-loop-holds c = (omega arith, refl, none _ 0 (c .args .dst .now) refl)
+loop-holds c =
+    let a : tie.Start Inv-loop μ-loop = search in
+    (omega arith, refl, none _ 0 (a .args .dst .now) refl)
 
 sub-loop : tie.Need-sub-loop Inv-loop μ-loop
 sub-loop c = omega arith
@@ -58,11 +60,13 @@ loop-less : tie.Need-loop-less Inv-loop μ-loop
 loop-less c = omega arith
 
 loop-again : tie.Need-loop-again Inv-loop μ-loop
-loop-again c = let h = c .before .before .before .before .before in
-    let a = h .before in
+loop-again c =
+    let b : tie.After-block Inv-loop μ-loop = search in
+    let h : tie.At-loop Inv-loop μ-loop = search in
+    let a : tie.Start Inv-loop μ-loop = search in
     let at = h .loop .at in
-    let e = block-more (pos 0) (ruleI32 R.Copy) (a .args .src .now) (a .args .dst .now) (h .loop .dst) (c .before .block .last .1 .0) at 4096 (at + 4096 - at) (omega arith) (omega arith) (h .loop .inv .2) (c .before .block .ensures) in
-    (omega arith, ap length e ∙ length-cells (pos 0) (ruleI32 R.Copy) (a .args .src .now) pos pos (at + 4096) (a .args .dst .now), e)
+    let e = block-more (pos 0) (ruleI32 R.Copy) (a .args .src .now) (a .args .dst .now) (h .loop .dst) (b .block .last .1 .0) at blockCells (at + blockCells - at) (omega arith) (omega arith) (h .loop .inv .2) (b .block .ensures) in
+    (omega arith, ap length e ∙ length-cells (pos 0) (ruleI32 R.Copy) (a .args .src .now) pos pos (at + blockCells) (a .args .dst .now), e)
 
 mul-block-3 : tie.Need-mul-block-3 Inv-loop μ-loop
 mul-block-3 c = search needs
@@ -95,12 +99,14 @@ same-length : tie.Need-same-length Inv-loop μ-loop
 same-length c = search needs
 
 returns : tie.Need-returns Inv-loop μ-loop
-returns c = let h = c .before .before .before .before .before in
-    let a = h .before in
+returns c =
+    let b2 : tie.After-block2 Inv-loop μ-loop = search in
+    let h : tie.At-loop Inv-loop μ-loop = search in
+    let a : tie.Start Inv-loop μ-loop = search in
     let at = h .loop .at in
     let n = length (a .args .dst .now) in
     let e : at + (n - at) ≡ n = omega arith in
-    block-more (pos 0) (ruleI32 R.Copy) (a .args .src .now) (a .args .dst .now) (h .loop .dst) (c .before .block2 .last .1 .0) at (n - at) (n - at) refl (omega arith) (h .loop .inv .2) (c .before .block2 .ensures)
+    block-more (pos 0) (ruleI32 R.Copy) (a .args .src .now) (a .args .dst .now) (h .loop .dst) (b2 .block2 .last .1 .0) at (n - at) (n - at) refl (omega arith) (h .loop .inv .2) (b2 .block2 .ensures)
     ∙ ap (λ (m : ℕ). inOrder (cellAt (pos 0) (ruleI32 R.Copy) (a .args .src .now) pos pos) m (a .args .dst .now)) e
 
 pub copies-spec : {M : Type 1} → statement M

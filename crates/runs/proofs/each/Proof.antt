@@ -18,7 +18,9 @@ abbrev μ-loop : tie.MeasureT-loop
 μ-loop rule src dst₀ at₀ dst at = length dst₀ - at
 
 loop-holds : tie.Need-loop-holds Inv-loop μ-loop
-loop-holds c = (omega arith, refl, none _ 0 (c .args .dst .now) refl)
+loop-holds c =
+    let a : tie.Start Inv-loop μ-loop = search in
+    (omega arith, refl, none _ 0 (a .args .dst .now) refl)
 
 mul-apply : tie.Need-mul-apply Inv-loop μ-loop
 mul-apply c = search needs
@@ -48,8 +50,9 @@ loop-less : tie.Need-loop-less Inv-loop μ-loop
 loop-less c = omega arith
 
 loop-again : tie.Need-loop-again Inv-loop μ-loop
-loop-again c = let h = c .before .before .before .before in
-    let a = h .before in
+loop-again c =
+    let h = c .before .before .before .before in
+    let a : tie.Start Inv-loop μ-loop = search in
     let i = h .loop .at in (
       omega arith,
       length-set (h .loop .dst) _ _ ∙ h .loop .inv .1,
@@ -61,8 +64,9 @@ same-length : tie.Need-same-length Inv-loop μ-loop
 same-length c = c .before .loop .inv .1
 
 returns : tie.Need-returns Inv-loop μ-loop
-returns c = let h = c .before in
-    let a = h .before in
+returns c =
+    let h = c .before in
+    let a : tie.Start Inv-loop μ-loop = search in
     let e : h .loop .at ≡ length (a .args .dst .now) = omega arith in
     h .loop .inv .2 ∙ ap (λ (m : ℕ). inOrder (cellAt (pos 0) (ruleI32 (a .args .rule)) (a .args .src .now) pos pos) m (a .args .dst .now)) e
 

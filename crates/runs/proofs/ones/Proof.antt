@@ -27,7 +27,10 @@ same-length-2 : tie.Need-same-length-2
 same-length-2 c = search needs
 
 returns-2 : tie.Need-returns-2
-returns-2 c = rw (c .before .before .before .before .enum-told .given .1) (c .before .copies .ensures)
+returns-2 c =
+    let e : tie.After-enum-told = search in
+    let o : tie.After-copies = search in
+    rw (e .enum-told .given .1) (o .copies .ensures)
 
 same-length-3 : tie.Need-same-length-3
 same-length-3 c = search needs

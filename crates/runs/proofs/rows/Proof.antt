@@ -20,11 +20,14 @@ Inv-loop rule src dst₀ n m s d st dt j₀ dst j = (j ≤ m) × (length dst ≡
 abbrev μ-loop : tie.MeasureT-loop
 μ-loop rule src dst₀ n m s d st dt j₀ dst j = m - j
 
-from : (d : tie.In-loop Inv-loop μ-loop) → Move (d .before .before .args .s) (pos 1) (d .before .before .args .st) (d .before .before .args .n) (length (d .before .before .args .src .now)) (d .before .loop .j)
-from d = let a = d .before .before in move-source _ _ _ _ _ _ _ _ _ _ (a .pre) _ (d .loop-test .taken) (a .fits .s) (sfits-lit {z = pos 1} tt) (a .fits .st) (omega (arith, a .good .1 .0 .1))
+abbrev start : tie.In-loop Inv-loop μ-loop → tie.Start Inv-loop μ-loop
+start d = search
 
-to : (d : tie.In-loop Inv-loop μ-loop) → Move (d .before .before .args .d) (pos 1) (d .before .before .args .dt) (d .before .before .args .n) (length (d .before .before .args .dst .now)) (d .before .loop .j)
-to d = let a = d .before .before in move-dest _ _ _ _ _ _ _ _ _ _ (a .pre) _ (d .loop-test .taken) (a .fits .d) (sfits-lit {z = pos 1} tt) (a .fits .dt) (omega (arith, a .good .1 .1 .0 .1))
+from : (d : tie.In-loop Inv-loop μ-loop) → Move (start d .args .s) (pos 1) (start d .args .st) (start d .args .n) (length (start d .args .src .now)) (d .before .loop .j)
+from d = let a = start d in move-source _ _ _ _ _ _ _ _ _ _ (a .pre) _ (d .loop-test .taken) (a .fits .s) (sfits-lit {z = pos 1} tt) (a .fits .st) (omega (arith, a .good .1 .0 .1))
+
+to : (d : tie.In-loop Inv-loop μ-loop) → Move (start d .args .d) (pos 1) (start d .args .dt) (start d .args .n) (length (start d .args .dst .now)) (d .before .loop .j)
+to d = let a = start d in move-dest _ _ _ _ _ _ _ _ _ _ (a .pre) _ (d .loop-test .taken) (a .fits .d) (sfits-lit {z = pos 1} tt) (a .fits .dt) (omega (arith, a .good .1 .1 .0 .1))
 
 loop-holds : tie.Need-loop-holds Inv-loop μ-loop
 loop-holds c = (omega arith, refl, none _ 0 _ refl)
@@ -45,31 +48,35 @@ add-row-2 : tie.Need-add-row-2 Inv-loop μ-loop
 add-row-2 c = to (c .before) .step .fits
 
 row-requires : tie.Need-row-requires Inv-loop μ-loop
-row-requires c κs = let d = c .before in
-    let a = d .before .before in
+row-requires c κs =
+    let d = c .before in
+    let a : tie.Start Inv-loop μ-loop = search in
     (a .pre .some, record { source = from d .run; dest = subst (Line (machine (a .args .d) (a .args .dt) (d .before .loop .j)) (pos 1) (a .args .n)) (sym (d .before .loop .inv .1)) (to d .run) })
 
 add-j : tie.Need-add-j Inv-loop μ-loop
-add-j c = let a = c .before .before .before .before .before in omega (arith, a .pre .few)
+add-j c = let a : tie.Start Inv-loop μ-loop = search in omega (arith, a .pre .few)
 
 loop-less : tie.Need-loop-less Inv-loop μ-loop
 loop-less c = omega arith
 
 loop-again : tie.Need-loop-again Inv-loop μ-loop
-loop-again c = let d = c .before .before .before in
+loop-again c =
+    let r : tie.After-row Inv-loop μ-loop = search in
+    let d : tie.In-loop Inv-loop μ-loop = search in
     let h = d .before in
-    let a = h .before in (
+    let a : tie.Start Inv-loop μ-loop = search in (
       omega arith,
-      c .before .row .kept .1 .1 .0 ∙ h .loop .inv .1,
-      runs-more (pos 0) (ruleI32 (a .args .rule)) (a .args .src .now) (a .args .s) (a .args .d) (pos 1) (pos 1) (a .args .st) (a .args .dt) (a .args .n) (h .loop .j) _ _ (a .args .dst .now) (h .loop .dst) _ (h .loop .inv .2) (from d) (to d) (c .before .row .ensures),
+      r .row .kept .1 .1 .0 ∙ h .loop .inv .1,
+      runs-more (pos 0) (ruleI32 (a .args .rule)) (a .args .src .now) (a .args .s) (a .args .d) (pos 1) (pos 1) (a .args .st) (a .args .dt) (a .args .n) (h .loop .j) _ _ (a .args .dst .now) (h .loop .dst) _ (h .loop .inv .2) (from d) (to d) (r .row .ensures),
     )
 
 same-length : tie.Need-same-length Inv-loop μ-loop
 same-length c = c .before .loop .inv .1
 
 returns : tie.Need-returns Inv-loop μ-loop
-returns c = let h = c .before in
-    let a = h .before in
+returns c =
+    let h = c .before in
+    let a : tie.Start Inv-loop μ-loop = search in
     runs-end (pos 0) (ruleI32 (a .args .rule)) (a .args .src .now) (a .args .s) (a .args .d) (pos 1) (pos 1) (a .args .st) (a .args .dt) (a .args .n) (h .loop .j) (a .args .m) (a .args .dst .now) (h .loop .dst) (a .fits .s) (a .fits .d) (sfits-lit {z = pos 1} tt) (sfits-lit {z = pos 1} tt) (a .fits .st) (a .fits .dt) (omega arith) (h .loop .inv .2)
 
 pub rows-spec : {M : Type 1} → statement M

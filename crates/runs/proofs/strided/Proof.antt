@@ -21,20 +21,19 @@ Inv-loop rule src dst₀ n s d ss ds i₀ dst i = (i ≤ n) × (length dst ≡ l
 abbrev μ-loop : tie.MeasureT-loop
 μ-loop rule src dst₀ n s d ss ds i₀ dst i = n - i
 
-src-room : (a : tie.Start Inv-loop μ-loop) → length (a .args .src .now) < 2 ^ 63
-src-room a = omega (arith, a .good .1 .0 .1)
+abbrev start : tie.In-loop Inv-loop μ-loop → tie.Start Inv-loop μ-loop
+start d = search
 
-dst-room : (a : tie.Start Inv-loop μ-loop) → length (a .args .dst .now) < 2 ^ 63
-dst-room a = omega (arith, a .good .1 .1 .0 .1)
+from : (d : tie.In-loop Inv-loop μ-loop) → Step (start d .args .s) (start d .args .ss) (d .before .loop .i) (length (start d .args .src .now))
+from d = let a = start d in step _ _ (a .args .n) _ (a .fits .s) (a .fits .ss) (a .pre .source) (omega (arith, a .good .1 .0 .1)) _ (d .loop-test .taken)
 
-from : (d : tie.In-loop Inv-loop μ-loop) → Step (d .before .before .args .s) (d .before .before .args .ss) (d .before .loop .i) (length (d .before .before .args .src .now))
-from d = let a = d .before .before in step _ _ (a .args .n) _ (a .fits .s) (a .fits .ss) (a .pre .source) (src-room a) _ (d .loop-test .taken)
-
-to : (d : tie.In-loop Inv-loop μ-loop) → Step (d .before .before .args .d) (d .before .before .args .ds) (d .before .loop .i) (length (d .before .before .args .dst .now))
-to d = let a = d .before .before in step _ _ (a .args .n) _ (a .fits .d) (a .fits .ds) (a .pre .dest) (dst-room a) _ (d .loop-test .taken)
+to : (d : tie.In-loop Inv-loop μ-loop) → Step (start d .args .d) (start d .args .ds) (d .before .loop .i) (length (start d .args .dst .now))
+to d = let a = start d in step _ _ (a .args .n) _ (a .fits .d) (a .fits .ds) (a .pre .dest) (omega (arith, a .good .1 .1 .0 .1)) _ (d .loop-test .taken)
 
 loop-holds : tie.Need-loop-holds Inv-loop μ-loop
-loop-holds c = (omega arith, refl, none _ 0 (c .args .dst .now) refl)
+loop-holds c =
+    let a : tie.Start Inv-loop μ-loop = search in
+    (omega arith, refl, none _ 0 (a .args .dst .now) refl)
 
 cast-k : tie.Need-cast-k Inv-loop μ-loop
 cast-k c = from c .count
@@ -58,22 +57,31 @@ cast-b : tie.Need-cast-b Inv-loop μ-loop
 cast-b c = to c .cast
 
 mul-apply : tie.Need-mul-apply Inv-loop μ-loop
-mul-apply c = omega (arith, to c .below, dst-room (c .before .before))
+mul-apply c = let a : tie.Start Inv-loop μ-loop = search in omega (arith, to c .below, a .good .1 .1 .0 .1)
 
 slice-copy-out-apply : tie.Need-slice-copy-out-apply Inv-loop μ-loop
-slice-copy-out-apply c = omega (arith, to c .below, c .before .loop .inv .1)
+slice-copy-out-apply c =
+    let d : tie.In-loop Inv-loop μ-loop = search in
+    let h : tie.At-loop Inv-loop μ-loop = search in
+    omega (arith, to d .below, h .loop .inv .1)
 
 mul-apply-2 : tie.Need-mul-apply-2 Inv-loop μ-loop
-mul-apply-2 c = let d = c .before in omega (arith, from d .below, src-room (d .before .before))
+mul-apply-2 c =
+    let a : tie.Start Inv-loop μ-loop = search in
+    let d = c .before in
+    omega (arith, from d .below, a .good .1 .0 .1)
 
 shared-slice-copy-out-apply : tie.Need-shared-slice-copy-out-apply Inv-loop μ-loop
-shared-slice-copy-out-apply c = from (c .before) .below
+shared-slice-copy-out-apply c = let d : tie.In-loop Inv-loop μ-loop = search in from d .below
 
 apply-requires : tie.Need-apply-requires Inv-loop μ-loop
 apply-requires c κs = search needs
 
 mul-v : tie.Need-mul-v Inv-loop μ-loop
-mul-v c = let d = c .before .before .before in omega (arith, to d .below, dst-room (d .before .before))
+mul-v c =
+    let a : tie.Start Inv-loop μ-loop = search in
+    let d = c .before .before .before in
+    omega (arith, to d .below, a .good .1 .1 .0 .1)
 
 slice-set-from-v : tie.Need-slice-set-from-v Inv-loop μ-loop
 slice-set-from-v c = let d = c .before .before .before in omega (arith, to d .below, d .before .loop .inv .1)
@@ -85,9 +93,10 @@ loop-less : tie.Need-loop-less Inv-loop μ-loop
 loop-less c = omega arith
 
 loop-again : tie.Need-loop-again Inv-loop μ-loop
-loop-again c = let d = c .before .before .before in
+loop-again c =
+    let d = c .before .before .before in
     let h = d .before in
-    let a = h .before in (
+    let a : tie.Start Inv-loop μ-loop = search in (
       omega arith,
       length-set (h .loop .dst) _ _ ∙ h .loop .inv .1,
       turn (pos 0) (ruleI32 (a .args .rule)) (a .args .src .now) (a .args .s) (a .args .d) (a .args .ss) (a .args .ds) (a .args .dst .now) (h .loop .dst) (h .loop .i) _ _ _ (h .loop .inv .2) (from d) (to d)
@@ -98,8 +107,9 @@ same-length : tie.Need-same-length Inv-loop μ-loop
 same-length c = c .before .loop .inv .1
 
 returns : tie.Need-returns Inv-loop μ-loop
-returns c = let h = c .before in
-    let a = h .before in
+returns c =
+    let h = c .before in
+    let a : tie.Start Inv-loop μ-loop = search in
     ends (pos 0) (ruleI32 (a .args .rule)) (a .args .src .now) (a .args .s) (a .args .d) (a .args .ss) (a .args .ds) (h .loop .i) (a .args .n) (a .args .dst .now) (h .loop .dst) (a .fits .s) (a .fits .d) (a .fits .ss) (a .fits .ds) (omega arith) (h .loop .inv .2)
 
 pub strided-spec : {M : Type 1} → statement M

@@ -3,6 +3,7 @@ use Prim.Native.Nat.{_-_, _≤_}
 use native.Mathlib.Omega.{arith}
 use borrow.Author.Needs.{needs}
 use lib.ListN.{length, take, drop}
+use Rattle.layout.specs.Layouts.{rankLimit}
 use Rattle.runs_c.specs.Bench.{allFew}
 use Rattle.runs_c.proofs.Accepted.{few-stops, few-goes, few-ends}
 use Rattle.runs_c.proofs.all_few.Statement.{statement}
@@ -26,7 +27,7 @@ array-read-if1 c = search needs
 returns : tie.Need-returns Inv-loop μ-loop
 returns c = let l = c .before .before in
     let s = l .before in
-    let e : length (s .args .t1) ≡ 8 = search needs in
+    let e : length (s .args .t1) ≡ rankLimit = search needs in
     few-stops (s .args .t1) (s .args .rank) (l .loop .i) (omega arith) (omega arith) (omega arith) ∙ l .loop .inv .1
 
 add-i : tie.Need-add-i Inv-loop μ-loop
@@ -38,13 +39,13 @@ loop-less c = omega arith
 loop-again : tie.Need-loop-again Inv-loop μ-loop
 loop-again c = let l = c .before .before in
     let s = l .before in
-    let e : length (s .args .t1) ≡ 8 = search needs in
+    let e : length (s .args .t1) ≡ rankLimit = search needs in
     (omega arith, few-goes (s .args .t1) (s .args .rank) (l .loop .i) (omega arith) (omega arith) (omega arith) ∙ l .loop .inv .1)
 
 returns-2 : tie.Need-returns-2 Inv-loop μ-loop
 returns-2 c = let l = c .before in
     let s = l .before in
-    let e : length (s .args .t1) ≡ 8 = search needs in
+    let e : length (s .args .t1) ≡ rankLimit = search needs in
     few-ends (s .args .t1) (s .args .rank) (l .loop .i) (omega arith) (omega arith) ∙ l .loop .inv .1
 
 pub all-few-spec : {M : Type 1} → statement M

@@ -10,7 +10,6 @@ use mir.Syntax.{w64}
 use mir.Val.{SFits, toZ}
 use Rattle.indexing.specs.Loops.{inOrder}
 use Rattle.runs.specs.Runs.{ruleI32}
-use Rattle.runs.specs.declared.Rule.the-variants as R
 use Rattle.runs.proofs.Turns.{none}
 use Rattle.runs.proofs.Place.{read, machine, Step}
 use Rattle.takes.specs.Takes.{Starting}
@@ -26,7 +25,7 @@ use Rattle.scatter_windows.proofs.+scatter_cells.Tie.{close}
 
 -- the measure is the rank
 abbrev μ-axes : Measures 9 kinds.ps ℕ
-μ-axes κs a = a .1 .1 .1 .1 .1 .1 .1 .1 .1 .1 .1 .0
+μ-axes κs a = a .1 .1 .1 .1 .1 .1 .1 .1 .1 .1 .1 .1 .0
 
 abbrev at : ℕ → In 9 kinds.ps
 at t = and 9 kinds.ps (is 9 kinds.ps μ-axes t) axes.Pre
@@ -38,12 +37,12 @@ abbrev claims : ℕ → lts.Claims
 claims t = (run-reads.Asked, run-reads.Learnt, under t, axes.Post)
 
 abbrev Inv : lts.InvT-loop
-Inv src starts dst₀ extents ts us count offsets strides limits low rank t u d top n x y j₀ dst j =
+Inv rule src starts dst₀ extents ts us count offsets strides limits low rank t u d top n x y j₀ dst j =
     (j ≤ n) × (length dst ≡ length dst₀)
-    × (dst ≡ inOrder (below (put (pos 0) (ruleI32 R.Add) src starts offsets strides limits count (toZ w64 d)) extents ts us (toZ w64 t) (toZ w64 u) (toZ w64 x) (toZ w64 y) top) j dst₀)
+    × (dst ≡ inOrder (below (put (pos 0) (ruleI32 rule) src starts offsets strides limits count (toZ w64 d)) extents ts us (toZ w64 t) (toZ w64 u) (toZ w64 x) (toZ w64 y) top) j dst₀)
 
 abbrev μ : lts.MeasureT-loop
-μ src starts dst₀ extents ts us count offsets strides limits low rank t u d top n x y j₀ dst j = n - j
+μ rule src starts dst₀ extents ts us count offsets strides limits low rank t u d top n x y j₀ dst j = n - j
 
 module _ (t : ℕ) where
   abbrev Begun : Type 0
@@ -54,14 +53,14 @@ module _ (t : ℕ) where
   Read = lts.After-y (claims t) (at t) axes.Post Inv μ
 
   abbrev start : Read → Begun
-  start B = B .before .before .before
+  start B = search
 
   module _ (a : Begun) where
     src-room : length (a .args .src .now) < 2 ^ 63
-    src-room = omega (arith, a .good .0 .1)
+    src-room = omega (arith, a .good .1 .0 .1)
 
     dst-room : length (a .args .dst .now) < 2 ^ 63
-    dst-room = omega (arith, a .good .1 .1 .0 .1)
+    dst-room = omega (arith, a .good .1 .1 .1 .0 .1)
 
   module _ (B : Read) where
     top-is : start B .args .rank ≡ suc (start B .args .rank - 1)
@@ -81,25 +80,25 @@ module _ (t : ℕ) where
       from = let a = start B in step-update (λ d x y. Starting (a .args .starts .now) (a .args .offsets .now) (a .args .strides .now) (a .args .limits .now) d x (a .args .count) (length (a .args .dst .now))) _ _ _ _ _ _ _ _ (a .pre .1 .walk) (a .fits .t) (a .fits .u) (a .fits .d) _ top-is x-fits y-fits (src-room a) j h
 
   sub-top : lts.Need-sub-top (claims t) (at t) axes.Post Inv μ
-  sub-top c = omega (arith, c .pre .1 .below)
+  sub-top c = let a : Begun = search in omega (arith, a .pre .1 .below)
 
   mul-n : lts.Need-mul-n (claims t) (at t) axes.Post Inv μ
-  mul-n c = omega (arith, c .pre .1 .below, c .pre .1 .walk .small)
+  mul-n c = let a : Begun = search in omega (arith, a .pre .1 .below, a .pre .1 .walk .small)
 
   element-copy-out-n : lts.Need-element-copy-out-n (claims t) (at t) axes.Post Inv μ
-  element-copy-out-n c = omega (arith, c .pre .1 .below, c .pre .1 .walk .small)
+  element-copy-out-n c = let a : Begun = search in omega (arith, a .pre .1 .below, a .pre .1 .walk .small)
 
   mul-x : lts.Need-mul-x (claims t) (at t) axes.Post Inv μ
-  mul-x c = omega (arith, c .before .pre .1 .below, c .before .pre .1 .walk .small)
+  mul-x c = let a : Begun = search in omega (arith, a .pre .1 .below, a .pre .1 .walk .small)
 
   element-copy-out-x : lts.Need-element-copy-out-x (claims t) (at t) axes.Post Inv μ
-  element-copy-out-x c = omega (arith, c .before .pre .1 .below, c .before .pre .1 .walk .small)
+  element-copy-out-x c = let a : Begun = search in omega (arith, a .pre .1 .below, a .pre .1 .walk .small)
 
   mul-y : lts.Need-mul-y (claims t) (at t) axes.Post Inv μ
-  mul-y c = omega (arith, c .before .before .pre .1 .below, c .before .before .pre .1 .walk .small)
+  mul-y c = let a : Begun = search in omega (arith, a .pre .1 .below, a .pre .1 .walk .small)
 
   element-copy-out-y : lts.Need-element-copy-out-y (claims t) (at t) axes.Post Inv μ
-  element-copy-out-y c = omega (arith, c .before .before .pre .1 .below, c .before .before .pre .1 .walk .small)
+  element-copy-out-y c = let a : Begun = search in omega (arith, a .pre .1 .below, a .pre .1 .walk .small)
 
   scatter-run-requires : lts.Need-scatter-run-requires (claims t) (at t) axes.Post Inv μ
   scatter-run-requires c κs = let B = c .before .before in let a = start B in run-asks _ _ _ _ _ _ _ _ _ _ _ _ _ _ _ (a .pre .1) (a .fits .t) (a .fits .u) (a .fits .d) _ (top-is B) (x-fits B) (y-fits B) (c .before .if1 .taken)
@@ -108,7 +107,11 @@ module _ (t : ℕ) where
   same-length c = search needs
 
   returns : lts.Need-returns (claims t) (at t) axes.Post Inv μ
-  returns c = let B = c .before .before .before .before in let a = start B in run-end _ _ _ _ _ _ _ _ _ _ _ _ _ _ _ (a .pre .1) (a .fits .t) (a .fits .u) (a .fits .d) _ (top-is B) (x-fits B) (y-fits B) (pos 0) (ruleI32 R.Add) (a .args .src .now) (a .args .dst .now) _ (c .before .before .before .if1 .taken) (c .before .scatter-run .ensures)
+  returns c =
+      let t1 : lts.Then1 (claims t) (at t) axes.Post Inv μ = search in
+      let s : lts.After-scatter-run (claims t) (at t) axes.Post Inv μ = search in
+      let B : Read = search in
+      let a = start B in run-end _ _ _ _ _ _ _ _ _ _ _ _ _ _ _ (a .pre .1) (a .fits .t) (a .fits .u) (a .fits .d) _ (top-is B) (x-fits B) (y-fits B) (pos 0) (ruleI32 (a .args .rule)) (a .args .src .now) (a .args .dst .now) _ (t1 .if1 .taken) (s .scatter-run .ensures)
 
   loop-holds : lts.Need-loop-holds (claims t) (at t) axes.Post Inv μ
   loop-holds c = (omega arith, refl, none _ 0 _ refl)
@@ -139,20 +142,24 @@ module _ (t : ℕ) where
       )
 
   add-j : lts.Need-add-j (claims t) (at t) axes.Post Inv μ
-  add-j c = let B = c .before .before .before .before .before .before in omega (arith, start B .pre .1 .walk .index .few (start B .args .rank - 1) (omega (arith, top-is B)))
+  add-j c =
+      let B : Read = search in
+      omega (arith, start B .pre .1 .walk .index .few (start B .args .rank - 1) (omega (arith, top-is B)))
 
   loop-less : lts.Need-loop-less (claims t) (at t) axes.Post Inv μ
   loop-less c = omega arith
 
   loop-again : lts.Need-loop-again (claims t) (at t) axes.Post Inv μ
   loop-again c =
-      let h = c .before .before .before .before in
+      let d′ : lts.In-loop (claims t) (at t) axes.Post Inv μ = search in
+      let s : lts.After-scatter-cells (claims t) (at t) axes.Post Inv μ = search in
+      let h : lts.At-loop (claims t) (at t) axes.Post Inv μ = search in
       let B = h .before .before in
       let a = start B in
-      let l = c .before .before .before .loop-test .taken in (
+      let l = d′ .loop-test .taken in (
         omega arith,
-        c .before .scatter-cells .kept .1 .1 .0 ∙ h .loop .inv .1,
-        levels-more (λ d x y. Starting (a .args .starts .now) (a .args .offsets .now) (a .args .strides .now) (a .args .limits .now) d x (a .args .count) (length (a .args .dst .now))) _ _ _ _ _ _ _ _ (a .pre .1 .walk) (a .fits .t) (a .fits .u) (a .fits .d) _ (top-is B) (x-fits B) (y-fits B) (put (pos 0) (ruleI32 R.Add) (a .args .src .now) (a .args .starts .now) (a .args .offsets .now) (a .args .strides .now) (a .args .limits .now) (a .args .count)) (h .loop .j) _ (a .args .dst .now) (h .loop .dst) _ (index B (h .loop .j) l) (from B (h .loop .j) l) (h .loop .inv .2) (c .before .scatter-cells .ensures),
+        s .scatter-cells .kept .1 .1 .1 .0 ∙ h .loop .inv .1,
+        levels-more (λ d x y. Starting (a .args .starts .now) (a .args .offsets .now) (a .args .strides .now) (a .args .limits .now) d x (a .args .count) (length (a .args .dst .now))) _ _ _ _ _ _ _ _ (a .pre .1 .walk) (a .fits .t) (a .fits .u) (a .fits .d) _ (top-is B) (x-fits B) (y-fits B) (put (pos 0) (ruleI32 (a .args .rule)) (a .args .src .now) (a .args .starts .now) (a .args .offsets .now) (a .args .strides .now) (a .args .limits .now) (a .args .count)) (h .loop .j) _ (a .args .dst .now) (h .loop .dst) _ (index B (h .loop .j) l) (from B (h .loop .j) l) (h .loop .inv .2) (s .scatter-cells .ensures),
       )
 
   same-length-2 : lts.Need-same-length-2 (claims t) (at t) axes.Post Inv μ
@@ -163,7 +170,7 @@ module _ (t : ℕ) where
       let h = c .before in
       let B = h .before .before in
       let a = start B in
-      levels-end (λ d x y. Starting (a .args .starts .now) (a .args .offsets .now) (a .args .strides .now) (a .args .limits .now) d x (a .args .count) (length (a .args .dst .now))) _ _ _ _ _ _ _ _ (a .pre .1 .walk) (a .fits .t) (a .fits .u) (a .fits .d) _ (top-is B) (x-fits B) (y-fits B) (put (pos 0) (ruleI32 R.Add) (a .args .src .now) (a .args .starts .now) (a .args .offsets .now) (a .args .strides .now) (a .args .limits .now) (a .args .count)) (h .loop .j) (a .args .dst .now) (h .loop .dst) (omega arith) (h .loop .inv .2)
+      levels-end (λ d x y. Starting (a .args .starts .now) (a .args .offsets .now) (a .args .strides .now) (a .args .limits .now) d x (a .args .count) (length (a .args .dst .now))) _ _ _ _ _ _ _ _ (a .pre .1 .walk) (a .fits .t) (a .fits .u) (a .fits .d) _ (top-is B) (x-fits B) (y-fits B) (put (pos 0) (ruleI32 (a .args .rule)) (a .args .src .now) (a .args .starts .now) (a .args .offsets .now) (a .args .strides .now) (a .args .limits .now) (a .args .count)) (h .loop .j) (a .args .dst .now) (h .loop .dst) (omega arith) (h .loop .inv .2)
 
 pub +scatter-cells-spec : {M : Type 1} → statement M
 +scatter-cells-spec = close μ-axes λ t. lts.spec (claims t) (at t) axes.Post Inv μ

@@ -8,7 +8,6 @@ use mir.Syntax.{w64}
 use mir.Val.{toZ}
 use Rattle.indexing.specs.Loops.{inOrder}
 use Rattle.runs.specs.Runs.{ruleI32, cellAt, line}
-use Rattle.runs.specs.declared.Rule.the-variants as R
 use Rattle.runs.proofs.Turns.{none, cell-more}
 use Rattle.runs.proofs.Place.{read, machine, Step, Index}
 use Rattle.runs.proofs.Rules.{stored}
@@ -18,22 +17,22 @@ use Rattle.takes.proofs.put_cells.Statement.{statement}
 use Rattle.takes.proofs.put_cells.Tie as tie
 
 abbrev Inv-loop : tie.InvT-loop
-Inv-loop src starts dst₀ n s t d ss ts count offsets strides limits i₀ dst i =
+Inv-loop rule src starts dst₀ n s t d ss ts count offsets strides limits i₀ dst i =
     (i ≤ n) × (length dst ≡ length dst₀)
-    × (dst ≡ inOrder (cellAt (pos 0) (ruleI32 R.Add) src (line (toZ w64 s) (toZ w64 ss)) (movedAt starts offsets strides limits count (λ _. toZ w64 d) (line (toZ w64 t) (toZ w64 ts)))) i dst₀)
+    × (dst ≡ inOrder (cellAt (pos 0) (ruleI32 rule) src (line (toZ w64 s) (toZ w64 ss)) (movedAt starts offsets strides limits count (λ _. toZ w64 d) (line (toZ w64 t) (toZ w64 ts)))) i dst₀)
 
 abbrev μ-loop : tie.MeasureT-loop
-μ-loop src starts dst₀ n s t d ss ts count offsets strides limits i₀ dst i = n - i
+μ-loop rule src starts dst₀ n s t d ss ts count offsets strides limits i₀ dst i = n - i
 
 abbrev start : tie.In-loop Inv-loop μ-loop → tie.Start Inv-loop μ-loop
-start d = d .before .before
+start d = search
 
 module _ (a : tie.Start Inv-loop μ-loop) where
   src-room : length (a .args .src .now) < 2 ^ 63
-  src-room = omega (arith, a .good .0 .1)
+  src-room = omega (arith, a .good .1 .0 .1)
 
   dst-room : length (a .args .dst .now) < 2 ^ 63
-  dst-room = omega (arith, a .good .1 .1 .0 .1)
+  dst-room = omega (arith, a .good .1 .1 .1 .0 .1)
 
 module _ (d : tie.In-loop Inv-loop μ-loop) where
   from : Step (start d .args .s) (start d .args .ss) (d .before .loop .i) (length (start d .args .src .now))
@@ -46,7 +45,9 @@ put-at : (c : tie.After-started Inv-loop μ-loop) → Index (c .started .result)
 put-at c = let a = start (c .before) in place-index _ _ _ _ _ _ _ _ _ _ _ _ _ (a .pre) _ (c .before .loop-test .taken) (index (c .before)) (a .fits .d) (dst-room a) _ (c .started .ensures)
 
 loop-holds : tie.Need-loop-holds Inv-loop μ-loop
-loop-holds c = (omega arith, refl, none _ 0 (c .args .dst .now) refl)
+loop-holds c =
+    let a : tie.Start Inv-loop μ-loop = search in
+    (omega arith, refl, none _ 0 (a .args .dst .now) refl)
 
 cast-k : tie.Need-cast-k Inv-loop μ-loop
 cast-k c = from c .count
@@ -72,23 +73,26 @@ add-a c = from (c .before) .fits
 cast-a : tie.Need-cast-a Inv-loop μ-loop
 cast-a c = from (c .before) .cast
 
-mul-wrapping-add-i32 : tie.Need-mul-wrapping-add-i32 Inv-loop μ-loop
-mul-wrapping-add-i32 c = omega (arith, put-at c .below, start (c .before) .good .1 .1 .0 .1)
+mul-apply : tie.Need-mul-apply Inv-loop μ-loop
+mul-apply c = omega (arith, put-at c .below, start (c .before) .good .1 .1 .1 .0 .1)
 
-slice-copy-out-wrapping-add-i32 : tie.Need-slice-copy-out-wrapping-add-i32 Inv-loop μ-loop
-slice-copy-out-wrapping-add-i32 c = omega (arith, put-at c .below, c .before .before .loop .inv .1)
+slice-copy-out-apply : tie.Need-slice-copy-out-apply Inv-loop μ-loop
+slice-copy-out-apply c =
+    let s : tie.After-started Inv-loop μ-loop = search in
+    let h : tie.At-loop Inv-loop μ-loop = search in
+    omega (arith, put-at s .below, h .loop .inv .1)
 
-mul-wrapping-add-i32-2 : tie.Need-mul-wrapping-add-i32-2 Inv-loop μ-loop
-mul-wrapping-add-i32-2 c = omega (arith, from (c .before .before) .below, start (c .before .before) .good .0 .1)
+mul-apply-2 : tie.Need-mul-apply-2 Inv-loop μ-loop
+mul-apply-2 c = omega (arith, from (c .before .before) .below, start (c .before .before) .good .1 .0 .1)
 
-shared-slice-copy-out-wrapping-add-i32 : tie.Need-shared-slice-copy-out-wrapping-add-i32 Inv-loop μ-loop
-shared-slice-copy-out-wrapping-add-i32 c = from (c .before .before) .below
+shared-slice-copy-out-apply : tie.Need-shared-slice-copy-out-apply Inv-loop μ-loop
+shared-slice-copy-out-apply c = let d : tie.In-loop Inv-loop μ-loop = search in from d .below
 
-wrapping-add-i32-requires : tie.Need-wrapping-add-i32-requires Inv-loop μ-loop
-wrapping-add-i32-requires c κs = search needs
+apply-requires : tie.Need-apply-requires Inv-loop μ-loop
+apply-requires c κs = search needs
 
 mul-v : tie.Need-mul-v Inv-loop μ-loop
-mul-v c = omega (arith, put-at (c .before .before .before) .below, start (c .before .before .before .before) .good .1 .1 .0 .1)
+mul-v c = omega (arith, put-at (c .before .before .before) .below, start (c .before .before .before .before) .good .1 .1 .1 .0 .1)
 
 slice-set-from-v : tie.Need-slice-set-from-v Inv-loop μ-loop
 slice-set-from-v c = omega (arith, put-at (c .before .before .before) .below, c .before .before .before .before .before .loop .inv .1)
@@ -109,10 +113,10 @@ loop-again c =
     let to = natAbs (read (q .started .result)) in (
       omega arith,
       length-set (h .loop .dst) _ _ ∙ h .loop .inv .1,
-      cell-more (pos 0) (ruleI32 R.Add) (a .args .src .now) (line (read (a .args .s)) (read (a .args .ss)))
+      cell-more (pos 0) (ruleI32 (a .args .rule)) (a .args .src .now) (line (read (a .args .s)) (read (a .args .ss)))
           (movedAt (a .args .starts .now) (a .args .offsets .now) (a .args .strides .now) (a .args .limits .now) (a .args .count) (λ _. read (a .args .d)) (line (read (a .args .t)) (read (a .args .ts))))
           (a .args .dst .now) (h .loop .dst) (h .loop .i) at to _ (h .loop .inv .2) (from d .index-is)
-          (place-is _ _ _ _ _ _ _ _ _ _ _ _ _ (a .pre) _ (d .loop-test .taken) (index d) (a .fits .d) (dst-room a) _ (q .started .ensures)) (stored R.Add (getD (h .loop .dst) to (pos 0)) (getD (a .args .src .now) at (pos 0)) (c .wrapping-add-i32 .result) (sfits-of (c .before .before .wrapping-add-i32-arg .given)) (sfits-of (c .before .wrapping-add-i32-arg2 .given)) (c .wrapping-add-i32 .ensures)),
+          (place-is _ _ _ _ _ _ _ _ _ _ _ _ _ (a .pre) _ (d .loop-test .taken) (index d) (a .fits .d) (dst-room a) _ (q .started .ensures)) (stored (a .args .rule) (getD (h .loop .dst) to (pos 0)) (getD (a .args .src .now) at (pos 0)) (c .apply .result) (sfits-of (c .before .before .apply-arg .given)) (sfits-of (c .before .apply-arg2 .given)) (c .apply .ensures)),
     )
 
 same-length : tie.Need-same-length Inv-loop μ-loop
@@ -121,8 +125,8 @@ same-length c = c .before .loop .inv .1
 returns : tie.Need-returns Inv-loop μ-loop
 returns c =
     let h = c .before in
-    let a = h .before in
-    puts-end (pos 0) (ruleI32 R.Add) (a .args .src .now) (a .args .starts .now) (a .args .offsets .now) (a .args .strides .now) (a .args .limits .now) (a .args .count) _ _ _ _ _ _ _ (a .args .dst .now) (h .loop .dst) (a .fits .s) (a .fits .t) (a .fits .d) (a .fits .ss) (a .fits .ts) (omega arith) (h .loop .inv .2)
+    let a : tie.Start Inv-loop μ-loop = search in
+    puts-end (pos 0) (ruleI32 (a .args .rule)) (a .args .src .now) (a .args .starts .now) (a .args .offsets .now) (a .args .strides .now) (a .args .limits .now) (a .args .count) _ _ _ _ _ _ _ (a .args .dst .now) (h .loop .dst) (a .fits .s) (a .fits .t) (a .fits .d) (a .fits .ss) (a .fits .ts) (omega arith) (h .loop .inv .2)
 
 pub put-cells-spec : {M : Type 1} → statement M
 put-cells-spec =
@@ -139,11 +143,11 @@ put-cells-spec =
     mul-a
     add-a
     cast-a
-    mul-wrapping-add-i32
-    slice-copy-out-wrapping-add-i32
-    mul-wrapping-add-i32-2
-    shared-slice-copy-out-wrapping-add-i32
-    wrapping-add-i32-requires
+    mul-apply
+    slice-copy-out-apply
+    mul-apply-2
+    shared-slice-copy-out-apply
+    apply-requires
     mul-v
     slice-set-from-v
     add-i

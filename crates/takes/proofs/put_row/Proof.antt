@@ -5,52 +5,42 @@ use borrow.Author.Needs.{needs}
 use lib.ListN.{length}
 use lib.IntN.{pos, natAbs}
 use Rattle.runs.specs.Runs.{ruleI32}
-use Rattle.runs.specs.declared.Rule.the-variants as R
 use Rattle.runs.proofs.Place.{read, Index, index}
 use Rattle.runs.proofs.Runs.{Part, part-of}
 use Rattle.takes.proofs.Ones.{part-place, place-in, ones-ask, part-put}
 use Rattle.takes.proofs.put_row.Statement.{statement}
 use Rattle.takes.proofs.put_row.Tie as tie
 
-starts-room : (a : tie.Start) → length (a .args .starts .now) * 8 < 2 ^ 63
-starts-room a = a .good .1 .0 .1
-
-plain-room : (a : tie.Start) → length (a .args .src .now) * 4 < 2 ^ 63
-plain-room a = a .good .0 .1
-
-moved-room : (a : tie.Start) → length (a .args .dst .now) * 4 < 2 ^ 63
-moved-room a = a .good .1 .1 .0 .1
-
 starting : (a : tie.Start) → Part (a .args .t) (a .args .n) (length (a .args .starts .now))
-starting a = part-of _ _ _ (a .pre .1 .starting) (a .pre .0) (omega (arith, starts-room a))
+starting a = part-of _ _ _ (a .pre .1 .starting) (a .pre .0) (omega (arith, a .good .1 .1 .0 .1))
 
 plain : (a : tie.Start) → Part (a .args .s) (a .args .n) (length (a .args .src .now))
-plain a = part-of _ _ _ (a .pre .1 .plain) (a .pre .0) (omega (arith, plain-room a))
+plain a = part-of _ _ _ (a .pre .1 .plain) (a .pre .0) (omega (arith, a .good .1 .0 .1))
 
 -- the base, from which on the side is lent that the starts move in
 first : (a : tie.Start) → Index (a .args .base) (length (a .args .dst .now))
-first a = index _ _ (a .pre .1 .first) (omega (arith, moved-room a))
+first a = index _ _ (a .pre .1 .first) (omega (arith, a .good .1 .1 .1 .0 .1))
 
 cast-l : tie.Need-cast-l
 cast-l c = search needs
 
 cast-a : tie.Need-cast-a
-cast-a c = plain c .cast
+cast-a c = let a : tie.Start = search in plain a .cast
 
 cast-b : tie.Need-cast-b
-cast-b c = starting c .cast
+cast-b c = let a : tie.Start = search in starting a .cast
 
 cast-c : tie.Need-cast-c
-cast-c c = first c .cast
+cast-c c = let a : tie.Start = search in first a .cast
 
 add-e : tie.Need-add-e
-add-e c = omega (arith, plain c .room, plain-room c)
+add-e c = let a : tie.Start = search in omega (arith, plain a .room, a .good .1 .0 .1)
 
 add-f : tie.Need-add-f
-add-f c = omega (arith, starting c .room, starts-room c)
+add-f c = let a : tie.Start = search in omega (arith, starting a .room, a .good .1 .1 .0 .1)
 
 mul-put-ones : tie.Need-mul-put-ones
-mul-put-ones c = omega (arith, plain c .room, plain-room c)
+mul-put-ones c = let a : tie.Start = search in omega (arith, plain a .room, a .good .1 .0 .1)
 
 sub-put-ones : tie.Need-sub-put-ones
 sub-put-ones c = search needs
@@ -59,10 +49,12 @@ part-put-ones-start : tie.Need-part-put-ones-start
 part-put-ones-start c = search needs
 
 part-put-ones-end : tie.Need-part-put-ones-end
-part-put-ones-end c = plain c .room
+part-put-ones-end c = let a : tie.Start = search in plain a .room
 
 mul-put-ones-2 : tie.Need-mul-put-ones-2
-mul-put-ones-2 c = omega (arith, starting (c .before) .room, starts-room (c .before))
+mul-put-ones-2 c =
+    let a : tie.Start = search in
+    omega (arith, starting a .room, a .good .1 .1 .0 .1)
 
 sub-put-ones-2 : tie.Need-sub-put-ones-2
 sub-put-ones-2 c = search needs
@@ -71,22 +63,25 @@ part-put-ones-start-2 : tie.Need-part-put-ones-start-2
 part-put-ones-start-2 c = search needs
 
 part-put-ones-end-2 : tie.Need-part-put-ones-end-2
-part-put-ones-end-2 c = starting (c .before) .room
+part-put-ones-end-2 c = let a : tie.Start = search in starting a .room
 
 mul-put-ones-3 : tie.Need-mul-put-ones-3
-mul-put-ones-3 c = omega (arith, first (c .before .before) .below, moved-room (c .before .before))
+mul-put-ones-3 c =
+    let a : tie.Start = search in
+    omega (arith, first a .below, a .good .1 .1 .1 .0 .1)
 
 sub-put-ones-3 : tie.Need-sub-put-ones-3
-sub-put-ones-3 c = omega (arith, first (c .before .before) .below)
+sub-put-ones-3 c = let a : tie.Start = search in omega (arith, first a .below)
 
 part-put-ones-start-3 : tie.Need-part-put-ones-start-3
-part-put-ones-start-3 c = omega (arith, first (c .before .before) .below)
+part-put-ones-start-3 c = let a : tie.Start = search in omega (arith, first a .below)
 
 part-put-ones-end-3 : tie.Need-part-put-ones-end-3
 part-put-ones-end-3 c = search needs
 
 put-ones-requires : tie.Need-put-ones-requires
-put-ones-requires c κs = let a = c .before .before .before in
+put-ones-requires c κs =
+    let a : tie.Start = search in
     let x : ℕ = natAbs (read (a .args .t)) in
     let y : ℕ = natAbs (read (a .args .s)) in
     let u : ℕ = natAbs (read (a .args .base)) in
@@ -96,11 +91,13 @@ same-length : tie.Need-same-length
 same-length c = search needs
 
 returns : tie.Need-returns
-returns c = let a = c .before .before .before .before .before in
+returns c =
+    let p : tie.After-put-ones = search in
+    let a : tie.Start = search in
     let x : ℕ = natAbs (read (a .args .t)) in
     let y : ℕ = natAbs (read (a .args .s)) in
     let u : ℕ = natAbs (read (a .args .base)) in
-    part-put (pos 0) (ruleI32 R.Add) (a .args .src .now) (a .args .dst .now) _ _ _ (a .args .s) y (a .args .n) (y + a .args .n - y) u (length (a .args .dst .now) - u) (omega arith) (plain a .is) (plain a .room) (omega (arith, first a .below)) (place-in (a .args .starts .now) _ _ _ _ _ _ _ (a .pre .1) x (x + a .args .n - x) (omega arith) (starting a .is) u (length (a .args .dst .now) - u) (first a .is) refl) (part-place (a .args .starts .now) _ _ _ _ _ _ _ (a .pre .1) x (x + a .args .n - x) (omega arith) (starting a .is) u (length (a .args .dst .now) - u) (first a .is) refl) (c .before .put-ones .ensures)
+    part-put (pos 0) (ruleI32 (a .args .rule)) (a .args .src .now) (a .args .dst .now) _ _ _ (a .args .s) y (a .args .n) (y + a .args .n - y) u (length (a .args .dst .now) - u) (omega arith) (plain a .is) (plain a .room) (omega (arith, first a .below)) (place-in (a .args .starts .now) _ _ _ _ _ _ _ (a .pre .1) x (x + a .args .n - x) (omega arith) (starting a .is) u (length (a .args .dst .now) - u) (first a .is) refl) (part-place (a .args .starts .now) _ _ _ _ _ _ _ (a .pre .1) x (x + a .args .n - x) (omega arith) (starting a .is) u (length (a .args .dst .now) - u) (first a .is) refl) (p .put-ones .ensures)
 
 pub put-row-spec : {M : Type 1} → statement M
 put-row-spec =

@@ -32,79 +32,60 @@ module _ (c : tie.After-p Inv-loop μ-loop) where
   index-at : Index (read (start (c .before) .args .t) +ℤ read (getD (start (c .before) .args .offsets .now) (c .before .before .loop .c) (pos 0))) (length (start (c .before) .args .starts .now))
   index-at = let a = start (c .before) in component-index _ _ _ _ _ _ _ _ (a .pre) (omega arith) (a .fits .s) (a .fits .t) _ (c .before .loop-test .taken) (sfits-of (c .p .given)) (room a)
 
--- src/lib.rt:28:5
 loop-holds : tie.Need-loop-holds Inv-loop μ-loop
 loop-holds c = (omega arith, fits-ofZ (c .fits .s), none-yet (c .args .starts .now) (c .args .offsets .now) (c .args .strides .now) (c .args .limits .now) (read (c .args .s)) (read (c .args .t)))
 
--- src/lib.rt:29:22
 mul-p : tie.Need-mul-p Inv-loop μ-loop
 mul-p c = omega (arith, start c .pre .few)
 
--- src/lib.rt:29:22
 element-copy-out-p : tie.Need-element-copy-out-p Inv-loop μ-loop
 element-copy-out-p c = omega (arith, start c .pre .few)
 
--- src/lib.rt:29:18
 add-p : tie.Need-add-p Inv-loop μ-loop
 add-p c = let a = start (c .before) in component-fits _ _ _ _ _ _ _ _ (a .pre) (omega arith) (a .fits .s) (a .fits .t) _ (c .before .loop-test .taken) (sfits-of (c .p .given)) (room a)
 
--- src/lib.rt:29:17
 cast-p : tie.Need-cast-p Inv-loop μ-loop
 cast-p c = index-at c .cast
 
--- src/lib.rt:30:17
 mul-x : tie.Need-mul-x Inv-loop μ-loop
 mul-x c = omega (arith, index-at c .below, start (c .before) .good .0 .1)
 
--- src/lib.rt:30:17
 shared-slice-copy-out-x : tie.Need-shared-slice-copy-out-x Inv-loop μ-loop
 shared-slice-copy-out-x c = index-at c .below
 
--- src/lib.rt:31:47
 mul-clamp-window-start : tie.Need-mul-clamp-window-start Inv-loop μ-loop
 mul-clamp-window-start c = omega (arith, start (c .before .before) .pre .few)
 
--- src/lib.rt:31:47
 element-copy-out-clamp-window-start : tie.Need-element-copy-out-clamp-window-start Inv-loop μ-loop
 element-copy-out-clamp-window-start c = omega (arith, start (c .before .before) .pre .few)
 
--- src/lib.rt:31:13
 clamp-window-start-requires : tie.Need-clamp-window-start-requires Inv-loop μ-loop
 clamp-window-start-requires c κs = search needs
 
--- src/lib.rt:32:17
 cast-k : tie.Need-cast-k Inv-loop μ-loop
 cast-k c = clamped-fits _ _ _ (start (c .before .before .before .before) .pre .small _ (c .before .before .before .before .loop-test .taken)) (c .clamp-window-start .ensures)
 
--- src/lib.rt:33:19
 mul-at : tie.Need-mul-at Inv-loop μ-loop
 mul-at c = omega (arith, start (c .before .before .before .before) .pre .few)
 
--- src/lib.rt:33:19
 element-copy-out-at : tie.Need-element-copy-out-at Inv-loop μ-loop
 element-copy-out-at c = omega (arith, start (c .before .before .before .before) .pre .few)
 
--- src/lib.rt:33:19
 mul-at-2 : tie.Need-mul-at-2 Inv-loop μ-loop
 mul-at-2 c = let p = c .before .before .before .before in let d = p .before in let a = start d in product-fits _ _ _ _ _ _ _ _ (a .pre) (omega arith) (a .fits .s) (a .fits .t) _ (d .loop-test .taken) (sfits-of (p .p .given)) (sfits-of (c .at .given)) _ (d .before .loop .inv .2) _ (index-at p .is) (sfits-of (c .before .before .before .x .given)) _ (c .before .clamp-window-start .ensures)
 
--- src/lib.rt:33:14
 add-at : tie.Need-add-at Inv-loop μ-loop
 add-at c = let p = c .before .before .before .before in let d = p .before in let a = start d in sum-fits _ _ _ _ _ _ _ _ (a .pre) (omega arith) (a .fits .s) (a .fits .t) _ (d .loop-test .taken) (sfits-of (p .p .given)) (sfits-of (c .at .given)) _ (d .before .loop .inv .2) _ (index-at p .is) (sfits-of (c .before .before .before .x .given)) _ (c .before .clamp-window-start .ensures)
 
--- src/lib.rt:34:9
 add-c : tie.Need-add-c Inv-loop μ-loop
 add-c c = omega (arith, start (c .before .before .before .before .before) .pre .few)
 
--- src/lib.rt:28:5
 loop-less : tie.Need-loop-less Inv-loop μ-loop
 loop-less c = omega arith
 
--- src/lib.rt:28:5
 loop-again : tie.Need-loop-again Inv-loop μ-loop
 loop-again c = let p = c .before .before .before .before in let d = p .before in let a = start d in (omega arith, fits-ofZ (sum-fits _ _ _ _ _ _ _ _ (a .pre) (omega arith) (a .fits .s) (a .fits .t) _ (d .loop-test .taken) (sfits-of (p .p .given)) (sfits-of (c .at .given)) _ (d .before .loop .inv .2) _ (index-at p .is) (sfits-of (c .before .before .before .x .given)) _ (c .before .clamp-window-start .ensures)), sum-next _ _ _ _ _ _ _ _ (a .pre) (omega arith) (a .fits .s) (a .fits .t) _ (d .loop-test .taken) (sfits-of (p .p .given)) (sfits-of (c .at .given)) _ (d .before .loop .inv .2) _ (index-at p .is) (sfits-of (c .before .before .before .x .given)) _ (c .before .clamp-window-start .ensures))
 
--- src/lib.rt:14:1
 returns : tie.Need-returns Inv-loop μ-loop
 returns c = let h = c .before in let a = h .before in h .loop .inv .2 ∙ ap₂ (λ u v. u +ℤ startAt (a .args .starts .now) (a .args .offsets .now) (a .args .strides .now) (a .args .limits .now) v (h .loop .c)) (back (a .fits .s)) (back (a .fits .t)) ∙ ap (λ k. a .args .s +ℤ startAt (a .args .starts .now) (a .args .offsets .now) (a .args .strides .now) (a .args .limits .now) (a .args .t) k) (omega arith)
 

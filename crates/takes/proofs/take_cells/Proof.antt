@@ -1,7 +1,7 @@
 use mathlib.Core.Path.{_≡_, refl, _∙_}
 use Prim.Native.Nat.{_-_, _<_, _≤_, _^_}
 use native.Mathlib.Omega.{arith}
-use borrow.Author.Needs.{needs, sfits-of}
+use borrow.Author.Needs.{sfits-of}
 use lib.ListN.{length, length-set}
 use lib.IntN.{pos}
 use mir.Syntax.{w64}
@@ -24,7 +24,7 @@ abbrev μ-loop : tie.MeasureT-loop
 μ-loop src starts dst₀ n s t d ss ts ds count offsets strides limits i₀ dst i = n - i
 
 abbrev start : tie.In-loop Inv-loop μ-loop → tie.Start Inv-loop μ-loop
-start d = d .before .before
+start d = search
 
 module _ (a : tie.Start Inv-loop μ-loop) where
   src-room : length (a .args .src .now) < 2 ^ 63
@@ -46,75 +46,59 @@ module _ (d : tie.In-loop Inv-loop μ-loop) where
 read-at : (c : tie.After-started Inv-loop μ-loop) → Index (c .started .result) (length (start (c .before) .args .src .now))
 read-at c = let a = start (c .before) in place-index _ _ _ _ _ _ _ _ _ _ _ _ _ _ (a .pre) _ (c .before .loop-test .taken) (from (c .before)) (index (c .before)) _ (c .started .ensures) (src-room a)
 
--- src/lib.rt:60:5
 loop-holds : tie.Need-loop-holds Inv-loop μ-loop
-loop-holds c = (omega arith, refl, none _ 0 (c .args .dst .now) refl)
+loop-holds c =
+    let a : tie.Start Inv-loop μ-loop = search in
+    (omega arith, refl, none _ 0 (a .args .dst .now) refl)
 
--- src/lib.rt:61:17
 cast-k : tie.Need-cast-k Inv-loop μ-loop
 cast-k c = from c .count
 
--- src/lib.rt:62:21
 mul-p : tie.Need-mul-p Inv-loop μ-loop
 mul-p c = from c .multiple
 
--- src/lib.rt:62:17
 add-p : tie.Need-add-p Inv-loop μ-loop
 add-p c = from c .fits
 
--- src/lib.rt:63:21
 mul-q : tie.Need-mul-q Inv-loop μ-loop
 mul-q c = index c .multiple
 
--- src/lib.rt:63:17
 add-q : tie.Need-add-q Inv-loop μ-loop
 add-q c = index c .fits
 
--- src/lib.rt:64:13
 started-requires : tie.Need-started-requires Inv-loop μ-loop
 started-requires c κs = let a = start c in started-asks _ _ _ _ _ _ _ _ _ _ _ _ _ _ (a .pre) _ (c .loop-test .taken) (from c) (index c) (src-room a)
 
--- src/lib.rt:65:17
 cast-a : tie.Need-cast-a Inv-loop μ-loop
 cast-a c = read-at c .cast
 
--- src/lib.rt:66:22
 mul-b : tie.Need-mul-b Inv-loop μ-loop
 mul-b c = to (c .before) .multiple
 
--- src/lib.rt:66:18
 add-b : tie.Need-add-b Inv-loop μ-loop
 add-b c = to (c .before) .fits
 
--- src/lib.rt:66:17
 cast-b : tie.Need-cast-b Inv-loop μ-loop
 cast-b c = to (c .before) .cast
 
--- src/lib.rt:67:18
 mul-dst : tie.Need-mul-dst Inv-loop μ-loop
 mul-dst c = omega (arith, read-at c .below, start (c .before) .good .0 .1)
 
--- src/lib.rt:67:18
 shared-slice-copy-out-dst : tie.Need-shared-slice-copy-out-dst Inv-loop μ-loop
-shared-slice-copy-out-dst c = read-at c .below
+shared-slice-copy-out-dst c = let s : tie.After-started Inv-loop μ-loop = search in read-at s .below
 
--- src/lib.rt:67:9
 mul-t28 : tie.Need-mul-t28 Inv-loop μ-loop
 mul-t28 c = omega (arith, to (c .before .before) .below, start (c .before .before) .good .1 .1 .0 .1)
 
--- src/lib.rt:67:9
 slice-set-from-dst : tie.Need-slice-set-from-dst Inv-loop μ-loop
 slice-set-from-dst c = omega (arith, to (c .before .before) .below, c .before .before .before .loop .inv .1)
 
--- src/lib.rt:68:9
 add-i : tie.Need-add-i Inv-loop μ-loop
 add-i c = omega arith
 
--- src/lib.rt:60:5
 loop-less : tie.Need-loop-less Inv-loop μ-loop
 loop-less c = omega arith
 
--- src/lib.rt:60:5
 loop-again : tie.Need-loop-again Inv-loop μ-loop
 loop-again c = let q = c .before in
     let d = q .before in
@@ -126,14 +110,13 @@ loop-again c = let q = c .before in
           (place-is _ _ _ _ _ _ _ _ _ _ _ _ _ _ (a .pre) _ (d .loop-test .taken) (from d) (index d) _ (q .started .ensures) (src-room a)) (to d .index-is) (back (sfits-of (c .dst .given))),
     )
 
--- src/lib.rt:40:1
 same-length : tie.Need-same-length Inv-loop μ-loop
 same-length c = c .before .loop .inv .1
 
--- src/lib.rt:40:1
 returns : tie.Need-returns Inv-loop μ-loop
-returns c = let h = c .before in
-    let a = h .before in
+returns c =
+    let h = c .before in
+    let a : tie.Start Inv-loop μ-loop = search in
     cells-end (pos 0) (ruleI32 R.Copy) (a .args .src .now) (a .args .starts .now) (a .args .offsets .now) (a .args .strides .now) (a .args .limits .now) (a .args .count) _ _ _ _ _ _ _ _ (a .args .dst .now) (h .loop .dst) (a .fits .s) (a .fits .t) (a .fits .d) (a .fits .ss) (a .fits .ts) (a .fits .ds) (omega arith) (h .loop .inv .2)
 
 pub take-cells-spec : {M : Type 1} → statement M

@@ -1,8 +1,7 @@
 use mathlib.Core.Path.{_≡_, refl}
-use Prim.Native.Nat.{_<_, _^_}
 use native.Mathlib.Omega.{arith}
 use borrow.Author.Needs.{needs, sfits-of}
-use lib.ListN.{length, getD}
+use lib.ListN.{length}
 use lib.IntN.{pos, natAbs}
 use Rattle.integer.specs.Z.{back}
 use Rattle.runs.specs.Runs.{ruleI32}
@@ -16,7 +15,7 @@ use Rattle.takes.proofs.take_one.Tie as tie
 -- the place of the source
 module _ (c : tie.After-clamped) where
   abbrev at-start : tie.Start
-  at-start = c .before .before
+  at-start = search
 
   place : Index (c .clamped .result) (length (at-start .args .src .now))
   place = let a = at-start in ones-index _ _ _ _ (a .pre .1) (a .fits .limit) (omega (arith, a .good .0 .1)) _ (a .pre .0) (sfits-of (c .before .x .given)) _ (c .clamped .ensures)
@@ -40,7 +39,7 @@ mul-dst : tie.Need-mul-dst
 mul-dst c = omega (arith, place c .below, at-start c .good .0 .1)
 
 shared-slice-copy-out-dst : tie.Need-shared-slice-copy-out-dst
-shared-slice-copy-out-dst c = place c .below
+shared-slice-copy-out-dst c = let l : tie.After-clamped = search in place l .below
 
 mul-t14 : tie.Need-mul-t14
 mul-t14 c = search needs

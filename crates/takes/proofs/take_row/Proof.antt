@@ -15,57 +15,48 @@ use Rattle.takes.proofs.Ones.{part-read, ones-ask, part-take}
 use Rattle.takes.proofs.take_row.Statement.{statement}
 use Rattle.takes.proofs.take_row.Tie as tie
 
-starts-room : (a : tie.Start) → length (a .args .starts .now) * 8 < 2 ^ 63
-starts-room a = a .good .1 .0 .1
-
-plain-room : (a : tie.Start) → length (a .args .dst .now) * 4 < 2 ^ 63
-plain-room a = a .good .1 .1 .0 .1
-
-moved-room : (a : tie.Start) → length (a .args .src .now) * 4 < 2 ^ 63
-moved-room a = a .good .0 .1
-
 starting : (a : tie.Start) → Part (a .args .t) (a .args .n) (length (a .args .starts .now))
-starting a = part-of _ _ _ (a .pre .1 .starting) (a .pre .0) (omega (arith, starts-room a))
+starting a = part-of _ _ _ (a .pre .1 .starting) (a .pre .0) (omega (arith, a .good .1 .0 .1))
 
 plain : (a : tie.Start) → Part (a .args .d) (a .args .n) (length (a .args .dst .now))
-plain a = part-of _ _ _ (a .pre .1 .plain) (a .pre .0) (omega (arith, plain-room a))
+plain a = part-of _ _ _ (a .pre .1 .plain) (a .pre .0) (omega (arith, a .good .1 .1 .0 .1))
 
 -- the base, from which on the side is lent that the starts move in
 first : (a : tie.Start) → Index (a .args .base) (length (a .args .src .now))
-first a = index _ _ (a .pre .1 .first) (omega (arith, moved-room a))
+first a = index _ _ (a .pre .1 .first) (omega (arith, a .good .0 .1))
 
 cast-l : tie.Need-cast-l
 cast-l c = search needs
 
 cast-a : tie.Need-cast-a
-cast-a c = starting c .cast
+cast-a c = let a : tie.Start = search in starting a .cast
 
 cast-b : tie.Need-cast-b
-cast-b c = plain c .cast
+cast-b c = let a : tie.Start = search in plain a .cast
 
 cast-c : tie.Need-cast-c
-cast-c c = first c .cast
+cast-c c = let a : tie.Start = search in first a .cast
 
 add-e : tie.Need-add-e
-add-e c = omega (arith, starting c .room, starts-room c)
+add-e c = let a : tie.Start = search in omega (arith, starting a .room, a .good .1 .0 .1)
 
 add-f : tie.Need-add-f
-add-f c = omega (arith, plain c .room, plain-room c)
+add-f c = let a : tie.Start = search in omega (arith, plain a .room, a .good .1 .1 .0 .1)
 
 mul-take-ones : tie.Need-mul-take-ones
-mul-take-ones c = omega (arith, first c .below, moved-room c)
+mul-take-ones c = let a : tie.Start = search in omega (arith, first a .below, a .good .0 .1)
 
 sub-take-ones : tie.Need-sub-take-ones
-sub-take-ones c = omega (arith, first c .below)
+sub-take-ones c = let a : tie.Start = search in omega (arith, first a .below)
 
 part-take-ones-start : tie.Need-part-take-ones-start
-part-take-ones-start c = omega (arith, first c .below)
+part-take-ones-start c = let a : tie.Start = search in omega (arith, first a .below)
 
 part-take-ones-end : tie.Need-part-take-ones-end
 part-take-ones-end c = search needs
 
 mul-take-ones-2 : tie.Need-mul-take-ones-2
-mul-take-ones-2 c = omega (arith, starting (c .before) .room, starts-room (c .before))
+mul-take-ones-2 c = let a : tie.Start = search in omega (arith, starting a .room, a .good .1 .0 .1)
 
 sub-take-ones-2 : tie.Need-sub-take-ones-2
 sub-take-ones-2 c = search needs
@@ -74,10 +65,10 @@ part-take-ones-start-2 : tie.Need-part-take-ones-start-2
 part-take-ones-start-2 c = search needs
 
 part-take-ones-end-2 : tie.Need-part-take-ones-end-2
-part-take-ones-end-2 c = starting (c .before) .room
+part-take-ones-end-2 c = let a : tie.Start = search in starting a .room
 
 mul-take-ones-3 : tie.Need-mul-take-ones-3
-mul-take-ones-3 c = omega (arith, plain (c .before .before) .room, plain-room (c .before .before))
+mul-take-ones-3 c = let a : tie.Start = search in omega (arith, plain a .room, a .good .1 .1 .0 .1)
 
 sub-take-ones-3 : tie.Need-sub-take-ones-3
 sub-take-ones-3 c = search needs
@@ -86,10 +77,11 @@ part-take-ones-start-3 : tie.Need-part-take-ones-start-3
 part-take-ones-start-3 c = search needs
 
 part-take-ones-end-3 : tie.Need-part-take-ones-end-3
-part-take-ones-end-3 c = plain (c .before .before) .room
+part-take-ones-end-3 c = let a : tie.Start = search in plain a .room
 
 take-ones-requires : tie.Need-take-ones-requires
-take-ones-requires c κs = let a = c .before .before .before in
+take-ones-requires c κs =
+    let a : tie.Start = search in
     let x : ℕ = natAbs (read (a .args .t)) in
     let y : ℕ = natAbs (read (a .args .d)) in
     let u : ℕ = natAbs (read (a .args .base)) in
@@ -99,11 +91,13 @@ same-length : tie.Need-same-length
 same-length c = search needs
 
 returns : tie.Need-returns
-returns c = let a = c .before .before .before .before .before in
+returns c =
+    let t : tie.After-take-ones = search in
+    let a : tie.Start = search in
     let x : ℕ = natAbs (read (a .args .t)) in
     let y : ℕ = natAbs (read (a .args .d)) in
     let u : ℕ = natAbs (read (a .args .base)) in
-    part-take (pos 0) (ruleI32 R.Copy) (take (length (a .args .src .now) - u) (drop u (a .args .src .now))) (a .args .src .now) (a .args .dst .now) _ (oneAt (take (x + a .args .n - x) (drop x (a .args .starts .now))) (toZ w64 (a .args .limit))) (clampedAt (a .args .starts .now) (line (a .args .t) (pos 1)) (a .args .base) (pos 1) (a .args .limit)) (a .args .d) y (a .args .n) (y + a .args .n - y) (omega arith) (plain a .is) (plain a .room) (part-read (a .args .starts .now) _ _ _ _ _ _ _ (a .pre .1) x (x + a .args .n - x) (omega arith) (starting a .is) u (length (a .args .src .now) - u) (first a .is) refl (pos 0) (a .args .src .now)) (c .before .take-ones .ensures)
+    part-take (pos 0) (ruleI32 R.Copy) (take (length (a .args .src .now) - u) (drop u (a .args .src .now))) (a .args .src .now) (a .args .dst .now) _ (oneAt (take (x + a .args .n - x) (drop x (a .args .starts .now))) (toZ w64 (a .args .limit))) (clampedAt (a .args .starts .now) (line (a .args .t) (pos 1)) (a .args .base) (pos 1) (a .args .limit)) (a .args .d) y (a .args .n) (y + a .args .n - y) (omega arith) (plain a .is) (plain a .room) (part-read (a .args .starts .now) _ _ _ _ _ _ _ (a .pre .1) x (x + a .args .n - x) (omega arith) (starting a .is) u (length (a .args .src .now) - u) (first a .is) refl _ (a .args .src .now)) (t .take-ones .ensures)
 
 pub take-row-spec : {M : Type 1} → statement M
 take-row-spec =

@@ -10,30 +10,37 @@ use Rattle.takes.proofs.take_run.Statement.{statement}
 use Rattle.takes.proofs.take_run.Tie as tie
 
 returns : tie.Need-returns
-returns c = let a = c .before in none _ (a .args .n) (a .args .dst .now) (c .if1 .taken)
+returns c = let a : tie.Start = search in none _ (a .args .n) (a .args .dst .now) (c .if1 .taken)
 
 take-row-requires : tie.Need-take-row-requires
-take-row-requires c κs = let t = c .before in
-    let a = t .before .before .before .before in
+take-row-requires c κs =
+    let t = c .before in
+    let a : tie.Start = search in
     row-asks _ _ _ (a .fits .ts) (a .fits .stride) (a .fits .ds) (t .before .before .if2 .taken) (t .before .if3 .taken) (t .if4 .taken) _ _ _ _ _ _ _ _ (a .fits .t) (a .fits .base) (a .fits .d) (t .before .before .before .if1 .left) (a .pre)
 
 same-length : tie.Need-same-length
 same-length c = search needs
 
 returns-2 : tie.Need-returns-2
-returns-2 c = let t = c .before .before .before in
-    let a = t .before .before .before .before in
-    take-row-end (a .args .ts) (a .args .stride) (a .args .ds) (a .fits .ts) (a .fits .stride) (a .fits .ds) (t .before .before .if2 .taken) (t .before .if3 .taken) (t .if4 .taken) (pos 0) (ruleI32 R.Copy) (a .args .src .now) (a .args .starts .now) (a .args .t) (a .args .base) (a .args .d) (a .args .limit) (a .args .n) (a .args .dst .now) _ (a .fits .t) (a .fits .base) (a .fits .d) (c .before .take-row .ensures)
+returns-2 c =
+    let k : tie.After-take-row = search in
+    let t : tie.Then4 = search in
+    let a : tie.Start = search in
+    take-row-end (a .args .ts) (a .args .stride) (a .args .ds) (a .fits .ts) (a .fits .stride) (a .fits .ds) (t .before .before .if2 .taken) (t .before .if3 .taken) (t .if4 .taken) (pos 0) (ruleI32 R.Copy) (a .args .src .now) (a .args .starts .now) (a .args .t) (a .args .base) (a .args .d) (a .args .limit) (a .args .n) (a .args .dst .now) _ (a .fits .t) (a .fits .base) (a .fits .d) (k .take-row .ensures)
 
 take-strided-requires : tie.Need-take-strided-requires
-take-strided-requires c κs = let a = c .before .before .before in strided-asks _ _ _ _ _ _ _ _ _ _ _ (a .fits .t) (a .fits .ts) (a .fits .base) (a .fits .stride) (a .fits .d) (a .fits .ds) (a .pre)
+take-strided-requires c κs =
+    let a : tie.Start = search in
+    strided-asks _ _ _ _ _ _ _ _ _ _ _ (a .fits .t) (a .fits .ts) (a .fits .base) (a .fits .stride) (a .fits .d) (a .fits .ds) (a .pre)
 
 same-length-2 : tie.Need-same-length-2
 same-length-2 c = search needs
 
 returns-3 : tie.Need-returns-3
-returns-3 c = let a = c .before .before .before .before .before in
-    take-end (pos 0) (ruleI32 R.Copy) (a .args .src .now) (a .args .starts .now) (a .args .t) (a .args .ts) (a .args .base) (a .args .stride) (a .args .d) (a .args .ds) (a .args .limit) (a .args .n) (a .args .n) (a .args .dst .now) (c .before .take-strided .last .1 .1 .0) (a .fits .t) (a .fits .ts) (a .fits .base) (a .fits .stride) (a .fits .d) (a .fits .ds) refl (c .before .take-strided .ensures)
+returns-3 c =
+    let t : tie.After-take-strided = search in
+    let a : tie.Start = search in
+    take-end (pos 0) (ruleI32 R.Copy) (a .args .src .now) (a .args .starts .now) (a .args .t) (a .args .ts) (a .args .base) (a .args .stride) (a .args .d) (a .args .ds) (a .args .limit) (a .args .n) (a .args .n) (a .args .dst .now) (t .take-strided .last .1 .1 .0) (a .fits .t) (a .fits .ts) (a .fits .base) (a .fits .stride) (a .fits .d) (a .fits .ds) refl (t .take-strided .ensures)
 
 pub take-run-spec : {M : Type 1} → statement M
 take-run-spec =

@@ -24,7 +24,7 @@ abbrev μ-loop : tie.MeasureT-loop
 μ-loop src starts dst₀ n t ts base stride limit d ds i₀ dst i = n - i
 
 abbrev start : tie.In-loop Inv-loop μ-loop → tie.Start Inv-loop μ-loop
-start d = d .before .before
+start d = search
 
 starts-at : (d : tie.In-loop Inv-loop μ-loop) → Step (start d .args .t) (start d .args .ts) (d .before .loop .i) (length (start d .args .starts .now))
 starts-at d = let a = start d in start-step _ _ _ _ _ _ _ _ _ _ _ (a .pre) (a .fits .t) (a .fits .ts) (omega (arith, a .good .1 .0 .1)) _ (d .loop-test .taken)
@@ -42,7 +42,9 @@ module _ (c : tie.After-clamp-window-start Inv-loop μ-loop) where
   by-start = let a = start (c .before .before) in clamped-is (a .args .starts .now) (a .args .t) (a .args .ts) (a .args .base) (a .args .stride) (a .args .limit) _ _ _ _ (starts-at (c .before .before)) (sfits-of (c .before .x .given)) clamped-at (c .clamp-window-start .ensures)
 
 loop-holds : tie.Need-loop-holds Inv-loop μ-loop
-loop-holds c = (omega arith, refl, none _ 0 (c .args .dst .now) refl)
+loop-holds c =
+    let a : tie.Start Inv-loop μ-loop = search in
+    (omega arith, refl, none _ 0 (a .args .dst .now) refl)
 
 cast-k : tie.Need-cast-k Inv-loop μ-loop
 cast-k c = starts-at c .count
@@ -90,7 +92,9 @@ mul-dst : tie.Need-mul-dst Inv-loop μ-loop
 mul-dst c = omega (arith, clamped-at c .below, start (c .before .before) .good .0 .1)
 
 shared-slice-copy-out-dst : tie.Need-shared-slice-copy-out-dst Inv-loop μ-loop
-shared-slice-copy-out-dst c = clamped-at c .below
+shared-slice-copy-out-dst c =
+    let l : tie.After-clamp-window-start Inv-loop μ-loop = search in
+    clamped-at l .below
 
 mul-t27 : tie.Need-mul-t27 Inv-loop μ-loop
 mul-t27 c = omega (arith, plain-at (c .before .before .before) .below, start (c .before .before .before) .good .1 .1 .0 .1)
@@ -118,8 +122,9 @@ same-length : tie.Need-same-length Inv-loop μ-loop
 same-length c = c .before .loop .inv .1
 
 returns : tie.Need-returns Inv-loop μ-loop
-returns c = let h = c .before in
-    let a = h .before in
+returns c =
+    let h = c .before in
+    let a : tie.Start Inv-loop μ-loop = search in
     take-end (pos 0) (ruleI32 R.Copy) (a .args .src .now) (a .args .starts .now) (a .args .t) (a .args .ts) (a .args .base) (a .args .stride) (a .args .d) (a .args .ds) (a .args .limit) (h .loop .i) (a .args .n) (a .args .dst .now) (h .loop .dst) (a .fits .t) (a .fits .ts) (a .fits .base) (a .fits .stride) (a .fits .d) (a .fits .ds) (omega arith) (h .loop .inv .2)
 
 pub take-strided-spec : {M : Type 1} → statement M

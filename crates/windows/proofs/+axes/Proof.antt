@@ -42,12 +42,15 @@ abbrev μ : lts.MeasureT-loop
 μ rule src dst₀ extents ss ds low rank s d top n a b j₀ dst j = n - j
 
 module _ (t : ℕ) where
+  abbrev Begun : Type 0
+  Begun = lts.Start (claims t) (at t) axes.Post Inv μ
+
   -- the axes' numbers have been read
   abbrev Read : Type 0
   Read = lts.After-b (claims t) (at t) axes.Post Inv μ
 
-  abbrev start : Read → lts.Start (claims t) (at t) axes.Post Inv μ
-  start B = B .before .before .before
+  abbrev start : Read → Begun
+  start B = search
 
   module _ (B : Read) where
     top-is : start B .args .rank ≡ suc (start B .args .rank - 1)
@@ -81,25 +84,25 @@ module _ (t : ℕ) where
       next = step-level _ _ _ _ _ _ _ _ _ _ top-is (start B .pre .1) src-room dst-room (start B .fits .s) (start B .fits .d) a-fits b-fits j h
 
   sub-top : lts.Need-sub-top (claims t) (at t) axes.Post Inv μ
-  sub-top c = omega (arith, c .pre .1 .below)
+  sub-top c = let a : Begun = search in omega (arith, a .pre .1 .below)
 
   mul-n : lts.Need-mul-n (claims t) (at t) axes.Post Inv μ
-  mul-n c = omega (arith, c .pre .1 .below, c .pre .1 .window .small)
+  mul-n c = let a : Begun = search in omega (arith, a .pre .1 .below, a .pre .1 .window .small)
 
   element-copy-out-n : lts.Need-element-copy-out-n (claims t) (at t) axes.Post Inv μ
-  element-copy-out-n c = omega (arith, c .pre .1 .below, c .pre .1 .window .small)
+  element-copy-out-n c = let a : Begun = search in omega (arith, a .pre .1 .below, a .pre .1 .window .small)
 
   mul-a : lts.Need-mul-a (claims t) (at t) axes.Post Inv μ
-  mul-a c = omega (arith, c .before .pre .1 .below, c .before .pre .1 .window .small)
+  mul-a c = let a : Begun = search in omega (arith, a .pre .1 .below, a .pre .1 .window .small)
 
   element-copy-out-a : lts.Need-element-copy-out-a (claims t) (at t) axes.Post Inv μ
-  element-copy-out-a c = omega (arith, c .before .pre .1 .below, c .before .pre .1 .window .small)
+  element-copy-out-a c = let a : Begun = search in omega (arith, a .pre .1 .below, a .pre .1 .window .small)
 
   mul-b : lts.Need-mul-b (claims t) (at t) axes.Post Inv μ
-  mul-b c = omega (arith, c .before .before .pre .1 .below, c .before .before .pre .1 .window .small)
+  mul-b c = let a : Begun = search in omega (arith, a .pre .1 .below, a .pre .1 .window .small)
 
   element-copy-out-b : lts.Need-element-copy-out-b (claims t) (at t) axes.Post Inv μ
-  element-copy-out-b c = omega (arith, c .before .before .pre .1 .below, c .before .before .pre .1 .window .small)
+  element-copy-out-b c = let a : Begun = search in omega (arith, a .pre .1 .below, a .pre .1 .window .small)
 
   run-requires : lts.Need-run-requires (claims t) (at t) axes.Post Inv μ
   run-requires c κs =
@@ -111,30 +114,32 @@ module _ (t : ℕ) where
 
   returns : lts.Need-returns (claims t) (at t) axes.Post Inv μ
   returns c =
-      let B = c .before .before .before .before in
+      let t1 : lts.Then1 (claims t) (at t) axes.Post Inv μ = search in
+      let r : lts.After-run (claims t) (at t) axes.Post Inv μ = search in
+      let B : Read = search in
       let a = start B in
-      run-end _ _ _ _ _ _ _ _ _ _ (top-is B) (a .pre .1) (pos 0) (ruleI32 (a .args .rule)) (a .args .src .now) (a .fits .s) (a .fits .d) (a-fits B) (b-fits B) (a .args .dst .now) _ (c .before .before .before .if1 .taken) (c .before .run .ensures)
+      run-end _ _ _ _ _ _ _ _ _ _ (top-is B) (a .pre .1) (pos 0) (ruleI32 (a .args .rule)) (a .args .src .now) (a .fits .s) (a .fits .d) (a-fits B) (b-fits B) (a .args .dst .now) _ (t1 .if1 .taken) (r .run .ensures)
 
   add-if2 : lts.Need-add-if2 (claims t) (at t) axes.Post Inv μ
-  add-if2 c = omega (arith, c .before .before .before .before .pre .1 .below, c .before .before .before .before .pre .1 .window .small)
+  add-if2 c = let a : Begun = search in omega (arith, a .pre .1 .below, a .pre .1 .window .small)
 
   mul-m : lts.Need-mul-m (claims t) (at t) axes.Post Inv μ
-  mul-m c = omega (arith, c .before .before .before .before .before .pre .1 .below, c .before .before .before .before .before .pre .1 .window .small)
+  mul-m c = let a : Begun = search in omega (arith, a .pre .1 .below, a .pre .1 .window .small)
 
   element-copy-out-m : lts.Need-element-copy-out-m (claims t) (at t) axes.Post Inv μ
-  element-copy-out-m c = omega (arith, c .before .before .before .before .before .pre .1 .below, c .before .before .before .before .before .pre .1 .window .small)
+  element-copy-out-m c = let a : Begun = search in omega (arith, a .pre .1 .below, a .pre .1 .window .small)
 
   mul-x : lts.Need-mul-x (claims t) (at t) axes.Post Inv μ
-  mul-x c = omega (arith, c .before .before .before .before .before .before .pre .1 .below, c .before .before .before .before .before .before .pre .1 .window .small)
+  mul-x c = let a : Begun = search in omega (arith, a .pre .1 .below, a .pre .1 .window .small)
 
   element-copy-out-x : lts.Need-element-copy-out-x (claims t) (at t) axes.Post Inv μ
-  element-copy-out-x c = omega (arith, c .before .before .before .before .before .before .pre .1 .below, c .before .before .before .before .before .before .pre .1 .window .small)
+  element-copy-out-x c = let a : Begun = search in omega (arith, a .pre .1 .below, a .pre .1 .window .small)
 
   mul-y : lts.Need-mul-y (claims t) (at t) axes.Post Inv μ
-  mul-y c = omega (arith, c .before .before .before .before .before .before .before .pre .1 .below, c .before .before .before .before .before .before .before .pre .1 .window .small)
+  mul-y c = let a : Begun = search in omega (arith, a .pre .1 .below, a .pre .1 .window .small)
 
   element-copy-out-y : lts.Need-element-copy-out-y (claims t) (at t) axes.Post Inv μ
-  element-copy-out-y c = omega (arith, c .before .before .before .before .before .before .before .pre .1 .below, c .before .before .before .before .before .before .before .pre .1 .window .small)
+  element-copy-out-y c = let a : Begun = search in omega (arith, a .pre .1 .below, a .pre .1 .window .small)
 
   plane-requires : lts.Need-plane-requires (claims t) (at t) axes.Post Inv μ
   plane-requires c κs =
@@ -146,10 +151,14 @@ module _ (t : ℕ) where
 
   returns-2 : lts.Need-returns-2 (claims t) (at t) axes.Post Inv μ
   returns-2 c =
-      let B = c .before .before .before .before .before .before .before .before in
+      let p : lts.After-plane (claims t) (at t) axes.Post Inv μ = search in
+      let t2 : lts.Then2 (claims t) (at t) axes.Post Inv μ = search in
+      let x : lts.After-x (claims t) (at t) axes.Post Inv μ = search in
+      let y : lts.After-y (claims t) (at t) axes.Post Inv μ = search in
+      let B : Read = search in
       let a = start B in
-      plane-end _ _ _ _ _ _ _ _ _ _ (top-is B) (a .pre .1) (pos 0) (ruleI32 (a .args .rule)) (a .args .src .now) (a .fits .s) (a .fits .d) (a-fits B) (b-fits B) (a .args .dst .now) (c .before .plane .last .1 .1 .0) (plane-is B (c .before .before .before .before .before .before .if2 .taken))
-      (sfits-of (c .before .before .before .before .x .given)) (sfits-of (c .before .before .before .y .given)) (c .before .plane .ensures)
+      plane-end _ _ _ _ _ _ _ _ _ _ (top-is B) (a .pre .1) (pos 0) (ruleI32 (a .args .rule)) (a .args .src .now) (a .fits .s) (a .fits .d) (a-fits B) (b-fits B) (a .args .dst .now) (p .plane .last .1 .1 .0) (plane-is B (t2 .if2 .taken))
+      (sfits-of (x .x .given)) (sfits-of (y .y .given)) (p .plane .ensures)
 
   loop-holds : lts.Need-loop-holds (claims t) (at t) axes.Post Inv μ
   loop-holds c = (omega arith, refl, none _ 0 _ refl)
@@ -180,20 +189,24 @@ module _ (t : ℕ) where
       )
 
   add-j : lts.Need-add-j (claims t) (at t) axes.Post Inv μ
-  add-j c = let B = c .before .before .before .before .before .before .before in omega (arith, start B .pre .1 .window .source .few (start B .args .rank - 1) (omega (arith, top-is B)))
+  add-j c =
+      let B : Read = search in
+      omega (arith, start B .pre .1 .window .source .few (start B .args .rank - 1) (omega (arith, top-is B)))
 
   loop-less : lts.Need-loop-less (claims t) (at t) axes.Post Inv μ
   loop-less c = omega arith
 
   loop-again : lts.Need-loop-again (claims t) (at t) axes.Post Inv μ
   loop-again c =
-      let h = c .before .before .before .before in
+      let d : lts.In-loop (claims t) (at t) axes.Post Inv μ = search in
+      let x : lts.After-axes (claims t) (at t) axes.Post Inv μ = search in
+      let h : lts.At-loop (claims t) (at t) axes.Post Inv μ = search in
       let B = h .before .before .before in
       let a = start B in
-      let l = c .before .before .before .loop-test .taken in (
+      let l = d .loop-test .taken in (
         omega arith,
-        c .before .axes .kept .1 .1 .0 ∙ h .loop .inv .1,
-        levels-more _ _ _ _ _ _ _ _ _ _ (top-is B) (a .pre .1) (pos 0) (ruleI32 (a .args .rule)) (a .args .src .now) (h .loop .j) _ _ (a .args .dst .now) (h .loop .dst) _ (from B (h .loop .j) l) (to B (h .loop .j) l) (h .loop .inv .2) (c .before .axes .ensures),
+        x .axes .kept .1 .1 .0 ∙ h .loop .inv .1,
+        levels-more _ _ _ _ _ _ _ _ _ _ (top-is B) (a .pre .1) (pos 0) (ruleI32 (a .args .rule)) (a .args .src .now) (h .loop .j) _ _ (a .args .dst .now) (h .loop .dst) _ (from B (h .loop .j) l) (to B (h .loop .j) l) (h .loop .inv .2) (x .axes .ensures),
       )
 
   same-length-3 : lts.Need-same-length-3 (claims t) (at t) axes.Post Inv μ

@@ -1,0 +1,110 @@
+-- Written by tests/twins from crates/driven/proofs/scatter_rows/Proof.antt.
+use mathlib.Core.Path.{sym, _∙_}
+use lib.Ieee.{nan}
+use lib.ListN.{take}
+use Rattle.indexing.specs.Odometer.{AllPos}
+use Rattle.runs.specs.Runs.{ruleF64}
+use Rattle.runs.proofs.Place.{read}
+use Rattle.windows.proofs.Last.{some-cells}
+use Rattle.scatter_windows.proofs.Whole.{not-none, no-batch, no-window, each-asks, each-end, axes-asks, axes-end}
+use borrow.Author.Needs.{needs}
+use Rattle.driven.proofs.Rows.{rows-drive, rows-leave, rowed-back}
+use Rattle.driven_f64.proofs.scatter_rows.Statement.{statement}
+use Rattle.driven_f64.proofs.scatter_rows.Tie as tie
+
+-- where both tests for zeros have failed
+module _ (o : tie.After-one-cell) where
+  abbrev start : tie.Start
+  start = search
+
+  batches : AllPos (take (start .args .brank) (start .args .bextents .now))
+  batches =
+      let z : tie.After-has-zero = search in
+      let e : tie.Else1 = search in
+      some-cells (take (start .args .brank) (start .args .bextents .now)) (sym (z .has-zero .ensures) ∙ e .if1 .left)
+
+  cells : AllPos (take (start .args .wrank) (start .args .wextents .now))
+  cells =
+      let z : tie.After-has-zero2 = search in
+      let e : tie.Else2 = search in
+      some-cells (take (start .args .wrank) (start .args .wextents .now)) (sym (z .has-zero2 .ensures) ∙ e .if2 .left)
+
+has-zero-requires : tie.Need-has-zero-requires
+has-zero-requires c κs = search needs
+
+returns : tie.Need-returns
+returns c =
+    let z : tie.After-has-zero = search in
+    let a : tie.Start = search in
+    no-batch (a .args .starts .now) (a .args .offsets .now) (a .args .strides .now) (a .args .limits .now) (a .args .count) (a .args .t) (a .args .u) (a .args .d) (a .args .bextents .now) (a .args .ts .now) (a .args .us .now) (a .args .brank) (a .args .wextents .now) (a .args .ws .now) (a .args .ds .now) (a .args .wrank) nan (ruleF64 (a .args .rule)) (a .args .src .now) (a .args .dst .now) (sym (z .has-zero .ensures) ∙ c .if1 .taken)
+
+has-zero-requires-2 : tie.Need-has-zero-requires-2
+has-zero-requires-2 c κs = search needs
+
+returns-2 : tie.Need-returns-2
+returns-2 c =
+    let z : tie.After-has-zero2 = search in
+    let a : tie.Start = search in
+    no-window (a .args .starts .now) (a .args .offsets .now) (a .args .strides .now) (a .args .limits .now) (a .args .count) (a .args .t) (a .args .u) (a .args .d) (a .args .bextents .now) (a .args .ts .now) (a .args .us .now) (a .args .brank) (a .args .wextents .now) (a .args .ws .now) (a .args .ds .now) (a .args .wrank) nan (ruleF64 (a .args .rule)) (a .args .src .now) (a .args .dst .now) (sym (z .has-zero2 .ensures) ∙ c .if2 .taken)
+
+one-cell-requires : tie.Need-one-cell-requires
+one-cell-requires c κs = search needs
+
+scatter-each-requires : tie.Need-scatter-each-requires
+scatter-each-requires c κs =
+    let o : tie.After-one-cell = search in
+    let a = start o in
+    each-asks _ _ _ _ _ _ _ _ _ _ _ _ _ _ _ _ _ _ (a .pre .0) (batches o) (cells o) (a .fits .t) (a .fits .u) (a .fits .d)
+
+same-length : tie.Need-same-length
+same-length c = search needs
+
+returns-3 : tie.Need-returns-3
+returns-3 c =
+    let o : tie.After-one-cell = search in
+    let t : tie.Then3 = search in
+    let e : tie.After-scatter-each = search in
+    let a = start o in
+    each-end _ _ _ _ _ _ _ _ _ _ _ _ _ _ _ _ _ _ (a .pre .0) (batches o) (cells o) (a .fits .t) (a .fits .u) (a .fits .d) nan (ruleF64 (a .args .rule)) (a .args .src .now) (a .args .dst .now) _ (o .one-cell .ensures .yes (t .if3 .taken)) (e .scatter-each .ensures)
+
+run-axis-requires : tie.Need-run-axis-requires
+run-axis-requires c κs =
+    let o : tie.After-one-cell = search in
+    let a = start o in
+    (not-none (a .args .wextents .now) (a .args .wrank) (o .one-cell .ensures .no (c .if3 .left)), a .pre .0 .window-small)
+
+scatter-driven-requires : tie.Need-scatter-driven-requires
+scatter-driven-requires c κs =
+    let o : tie.After-one-cell = search in
+    let r : tie.After-run-axis = search in
+    let a = start o in
+    rows-drive _ _ _ _ _ _ _ _ _ _ _ _ _ _ _ _ _ _ (rowed-back _ _ _ _ _ _ _ _ _ _ _ (a .fits .t) (a .fits .u) (a .pre .1)) _ _ _ (cells o)
+    (axes-asks _ _ _ _ _ _ _ _ _ _ _ _ _ _ _ _ _ _ (a .pre .0) (batches o) (cells o) (a .fits .t) (a .fits .u) (a .fits .d) (r .run-axis .result) (r .run-axis .ensures .below) (r .run-axis .ensures .units))
+
+same-length-2 : tie.Need-same-length-2
+same-length-2 c = search needs
+
+returns-4 : tie.Need-returns-4
+returns-4 c =
+    let o : tie.After-one-cell = search in
+    let s : tie.After-scatter-driven = search in
+    let a = start o in
+    axes-end _ _ _ _ _ _ _ _ _ _ _ _ _ _ _ _ _ _ (a .pre .0) (batches o) (cells o) (a .fits .t) (a .fits .u) (a .fits .d) nan (ruleF64 (a .args .rule)) (a .args .src .now) (a .args .dst .now) _
+    (s .scatter-driven .ensures ∙ rows-leave (a .args .starts .now) (a .args .offsets .now) (a .args .strides .now) (a .args .limits .now) _ _ (read (a .args .d)) _ _ _ _ _ _ _ (a .args .wextents .now) (a .args .ws .now) (a .args .ds .now) (a .args .wrank) (rowed-back _ _ _ _ _ _ _ _ _ _ _ (a .fits .t) (a .fits .u) (a .pre .1)) nan (ruleF64 (a .args .rule)) (a .args .src .now) (a .args .dst .now))
+
+pub scatter-rows-spec : {M : Type 1} → statement M
+scatter-rows-spec =
+    tie.close
+    (tie.spec
+    has-zero-requires
+    returns
+    has-zero-requires-2
+    returns-2
+    one-cell-requires
+    scatter-each-requires
+    same-length
+    returns-3
+    run-axis-requires
+    scatter-driven-requires
+    same-length-2
+    returns-4)

@@ -1,0 +1,140 @@
+-- Written by tests/twins from crates/runs/proofs/strided/Proof.antt.
+use mathlib.Core.Path.{_≡_, refl, _∙_}
+use Prim.Native.Nat.{_-_, _≤_}
+use native.Mathlib.Omega.{arith}
+use borrow.Author.Needs.{needs}
+use lib.Ieee.{nan}
+use lib.ListN.{length, length-set}
+use mir.Syntax.{w64}
+use mir.Val.{toZ}
+use Rattle.indexing.specs.Loops.{inOrder}
+use Rattle.runs.specs.Runs.{ruleF64, cellAt, line}
+use Rattle.runs.proofs.Turns.{none}
+use Rattle.runs.proofs.Place.{Step, step}
+use Rattle.runs.proofs.Runs.{turn, ends}
+use Rattle.runs_f64.proofs.strided.Statement.{statement}
+use Rattle.runs_f64.proofs.strided.Tie as tie
+
+abbrev Inv-loop : tie.InvT-loop
+Inv-loop rule src dst₀ n s d ss ds i₀ dst i = (i ≤ n) × (length dst ≡ length dst₀) × (dst ≡ inOrder (cellAt nan (ruleF64 rule) src (line (toZ w64 s) (toZ w64 ss)) (line (toZ w64 d) (toZ w64 ds))) i dst₀)
+
+abbrev μ-loop : tie.MeasureT-loop
+μ-loop rule src dst₀ n s d ss ds i₀ dst i = n - i
+
+abbrev start : tie.In-loop Inv-loop μ-loop → tie.Start Inv-loop μ-loop
+start d = search
+
+from : (d : tie.In-loop Inv-loop μ-loop) → Step (start d .args .s) (start d .args .ss) (d .before .loop .i) (length (start d .args .src .now))
+from d = let a = start d in step _ _ (a .args .n) _ (a .fits .s) (a .fits .ss) (a .pre .source) (omega (arith, a .good .1 .0 .1)) _ (d .loop-test .taken)
+
+to : (d : tie.In-loop Inv-loop μ-loop) → Step (start d .args .d) (start d .args .ds) (d .before .loop .i) (length (start d .args .dst .now))
+to d = let a = start d in step _ _ (a .args .n) _ (a .fits .d) (a .fits .ds) (a .pre .dest) (omega (arith, a .good .1 .1 .0 .1)) _ (d .loop-test .taken)
+
+loop-holds : tie.Need-loop-holds Inv-loop μ-loop
+loop-holds c =
+    let a : tie.Start Inv-loop μ-loop = search in
+    (omega arith, refl, none _ 0 (a .args .dst .now) refl)
+
+cast-k : tie.Need-cast-k Inv-loop μ-loop
+cast-k c = from c .count
+
+mul-a : tie.Need-mul-a Inv-loop μ-loop
+mul-a c = from c .multiple
+
+add-a : tie.Need-add-a Inv-loop μ-loop
+add-a c = from c .fits
+
+cast-a : tie.Need-cast-a Inv-loop μ-loop
+cast-a c = from c .cast
+
+mul-b : tie.Need-mul-b Inv-loop μ-loop
+mul-b c = to c .multiple
+
+add-b : tie.Need-add-b Inv-loop μ-loop
+add-b c = to c .fits
+
+cast-b : tie.Need-cast-b Inv-loop μ-loop
+cast-b c = to c .cast
+
+mul-apply : tie.Need-mul-apply Inv-loop μ-loop
+mul-apply c = let a : tie.Start Inv-loop μ-loop = search in omega (arith, to c .below, a .good .1 .1 .0 .1)
+
+slice-read-apply : tie.Need-slice-read-apply Inv-loop μ-loop
+slice-read-apply c =
+    let d : tie.In-loop Inv-loop μ-loop = search in
+    let h : tie.At-loop Inv-loop μ-loop = search in
+    omega (arith, to d .below, h .loop .inv .1)
+
+mul-apply-2 : tie.Need-mul-apply-2 Inv-loop μ-loop
+mul-apply-2 c =
+    let a : tie.Start Inv-loop μ-loop = search in
+    let d = c .before in
+    omega (arith, from d .below, a .good .1 .0 .1)
+
+shared-slice-read-apply : tie.Need-shared-slice-read-apply Inv-loop μ-loop
+shared-slice-read-apply c = let d : tie.In-loop Inv-loop μ-loop = search in from d .below
+
+apply-requires : tie.Need-apply-requires Inv-loop μ-loop
+apply-requires c κs = search needs
+
+mul-dst : tie.Need-mul-dst Inv-loop μ-loop
+mul-dst c =
+    let a : tie.Start Inv-loop μ-loop = search in
+    let d = c .before .before .before in
+    omega (arith, to d .below, a .good .1 .1 .0 .1)
+
+slice-write-dst : tie.Need-slice-write-dst Inv-loop μ-loop
+slice-write-dst c = let d = c .before .before .before in omega (arith, to d .below, d .before .loop .inv .1)
+
+add-i : tie.Need-add-i Inv-loop μ-loop
+add-i c = omega arith
+
+loop-less : tie.Need-loop-less Inv-loop μ-loop
+loop-less c = omega arith
+
+loop-again : tie.Need-loop-again Inv-loop μ-loop
+loop-again c =
+    let d = c .before .before .before in
+    let h = d .before in
+    let a : tie.Start Inv-loop μ-loop = search in (
+      omega arith,
+      length-set (h .loop .dst) _ _ ∙ h .loop .inv .1,
+      turn nan (ruleF64 (a .args .rule)) (a .args .src .now) (a .args .s) (a .args .d) (a .args .ss) (a .args .ds) (a .args .dst .now) (h .loop .dst) (h .loop .i) _ _ _ (h .loop .inv .2) (from d) (to d)
+          (c .apply .ensures),
+    )
+
+same-length : tie.Need-same-length Inv-loop μ-loop
+same-length c = c .before .loop .inv .1
+
+returns : tie.Need-returns Inv-loop μ-loop
+returns c =
+    let h = c .before in
+    let a : tie.Start Inv-loop μ-loop = search in
+    ends nan (ruleF64 (a .args .rule)) (a .args .src .now) (a .args .s) (a .args .d) (a .args .ss) (a .args .ds) (h .loop .i) (a .args .n) (a .args .dst .now) (h .loop .dst) (a .fits .s) (a .fits .d) (a .fits .ss) (a .fits .ds) (omega arith) (h .loop .inv .2)
+
+pub strided-spec : {M : Type 1} → statement M
+strided-spec =
+    tie.close
+    (tie.spec
+    Inv-loop
+    μ-loop
+    loop-holds
+    cast-k
+    mul-a
+    add-a
+    cast-a
+    mul-b
+    add-b
+    cast-b
+    mul-apply
+    slice-read-apply
+    mul-apply-2
+    shared-slice-read-apply
+    apply-requires
+    mul-dst
+    slice-write-dst
+    add-i
+    loop-less
+    loop-again
+    same-length
+    returns)
