@@ -10,12 +10,10 @@ use Rattle.indexing.specs.Gather.{Gather, shownDims}
 use Rattle.indexing.specs.Steps.{vectorStride, windowSteps, batchSteps}
 use Rattle.layout.specs.declared.Answer.{Answer}
 use Rattle.layout.specs.declared.Answer.the-variants as A
-use Rattle.layout.specs.declared.Layout.{Layout}
 use Rattle.layout.specs.Answers.{isDone}
 use Rattle.layout.specs.Layouts.{rankLimit, padded, layoutOf, extentsOf, stridesOf}
 use Rattle.axis_lists.specs.Held.{numbersOf, heldNumbers, heldSteps}
-use Rattle.axis_lists.specs.declared.Numbers.{Numbers}
-use Rattle.axis_lists.specs.declared.Steps.{Steps}
+use Rattle.checks.specs.Nothing.{noLayout, noNumbers, noSteps}
 use Rattle.gather_checks.specs.Refusals.{gatherFrom, refusalOf, compileRefusal}
 use Rattle.gather_plan.specs.declared.Role.{Role}
 use Rattle.gather_plan.specs.declared.Role.the-variants.{Batch, Window}
@@ -74,15 +72,6 @@ planOf g =
     }
 
 -- "no plan is given": what stands in its place, of no axes
-abbrev pub noLayout : Layout
-noLayout = record { rank = 0; extents = replicate rankLimit 1; strides = replicate rankLimit (pos 0) }
-
-abbrev pub noNumbers : Numbers
-noNumbers = record { count = 0; entries = replicate rankLimit 0 }
-
-abbrev pub noSteps : Steps
-noSteps = record { count = 0; entries = replicate rankLimit (pos 0) }
-
 abbrev pub refusedPlan : GatherPlan
 refusedPlan =
     record {

@@ -4,27 +4,21 @@ use mathlib.Core.Bool.{Bool, true, false, cond, _&&_}
 use mathlib.Core.List.{List, [], _∷_}
 use Prim.Native.Nat.{ℕ, suc, _-_}
 use native.Mathlib.Omega.{arith}
-use borrow.Author.Tests.{eqb-true}
 use lib.Dec.{eqb, ltb}
 use lib.ListN.{length}
 use lib.IntN.{ℤ}
-use Rattle.indexing.specs.Coordinates.{pick, others}
+use Rattle.indexing.specs.Coordinates.{rank, pick, others}
 use Rattle.indexing.specs.Start.{without}
-use Rattle.indexing.specs.Scatter.{scatterDims, windowDims, batchShape}
+use Rattle.indexing.specs.Scatter.{Scatter, scatterDims, windowDims, batchShape}
 use Rattle.layout.specs.declared.Answer.the-variants as A
 use Rattle.layout.specs.Answers.{isDone}
 use Rattle.axis_lists.specs.Held.{sameList}
 use Rattle.axis_lists.proofs.Filling.{length-without}
 use Rattle.checks.specs.Checks.{sameCount}
 use Rattle.checks.proofs.Made.{or-done}
-use Rattle.scatter_checks.specs.Refusals.{scatterFrom, numbersRefusal, listsRefusal, countsRefusal, batchRefusal, specRefusal, Counted}
-
-same-count : (n m : ℕ) → isDone (sameCount n m) ≡ true → n ≡ m
-same-count n m e = go (eqb n m) refl e
-  where
-    go : (t : Bool) → eqb n m ≡ t → isDone (cond t A.Done (A.RankMismatch n m)) ≡ true → n ≡ m
-    go true f h = eqb-true n m f
-    go false f h = let z : _≡_ {A = ℕ} 0 1 = cc in absurd (omega arith)
+use Rattle.checks.proofs.Fits.{same-count}
+use Rattle.scatter_checks.specs.Refusals.{listsRefusal, countsRefusal, batchRefusal, axesRefusal}
+use Rattle.scatter_checks.specs.Examine.{Counted}
 
 same-length : (xs ys : List ℕ) → sameList xs ys ≡ true → length xs ≡ length ys
 unfolding sameList
@@ -48,15 +42,19 @@ same-batch n xs ys e = go (sameList xs ys) refl e
 without-same : (v : ℕ) (es : List ℕ) (ss : List ℤ) → length ss ≡ length es → length (without v ss) ≡ length (without v es)
 without-same v es ss h = length-without v ss ∙ ap (λ (n : ℕ). cond (ltb v n) (n - 1) n) h ∙ sym (length-without v es)
 
-module _ (nested : Bool) (ie : List ℕ) (is : List ℤ) (ue : List ℕ) (us : List ℤ) (de : List ℕ) (ds : List ℤ) (window inserted map : List ℕ) (vector : ℕ) where
-  pub counted : length is ≡ length ie → isDone (specRefusal nested (scatterFrom ie is ue us de ds window inserted map vector)) ≡ true → Counted (scatterFrom ie is ue us de ds window inserted map vector)
-  unfolding batchShape scatterDims windowDims
-  counted h d =
-      let (a, p) = or-done (numbersRefusal nested ie ue de ds) _ d in
-      let (b, q) = or-done (listsRefusal ie de inserted map vector) _ p in
-      let (c, r) = or-done (countsRefusal ie ue de window inserted vector) (batchRefusal ie ue window vector) q in
-      let (x, y) = or-done (sameCount (length window) (length (others (length de) inserted))) _ c in
-      record {
-        batch = without-same vector ie is h ∙ sym (same-batch (length ue) (pick 0 (others (length ue) window) ue) (without vector ie) r);
-        window = same-count (length window) (length (others (length de) inserted)) x;
-      }
+pub counted : (s : Scatter) → length (s .indices .strides) ≡ rank (s .indices) → isDone (axesRefusal s) ≡ true → Counted s
+unfolding batchShape scatterDims windowDims
+counted s h d =
+    let ie = s .indices .extents in
+    let ue = s .updates .extents in
+    let de = s .result .extents in
+    let window = s .spec .update-window-dims in
+    let inserted = s .spec .inserted-window-dims in
+    let vector = s .spec .index-vector-dim in
+    let (b, q) = or-done (listsRefusal ie de inserted (s .spec .scatter-dims-to-operand-dims) vector) _ d in
+    let (c, r) = or-done (countsRefusal ie ue de window inserted vector) (batchRefusal ie ue window vector) q in
+    let (x, y) = or-done (sameCount (length window) (length (others (length de) inserted))) _ c in
+    record {
+      batch = without-same vector ie (s .indices .strides) h ∙ sym (same-batch (length ue) (pick 0 (others (length ue) window) ue) (without vector ie) r);
+      window = same-count (length window) (length (others (length de) inserted)) x;
+    }

@@ -1,3 +1,4 @@
 pub mod Read
 pub mod Counts
+pub mod Found
 pub mod Rest

@@ -3,16 +3,17 @@ use mathlib.Core.Path.{_≡_, ap, _∙_}
 use mathlib.Core.List.{List}
 use Prim.Native.Nat.{ℕ, _-_, _≤_, min}
 use native.Mathlib.Omega.{arith}
-use lib.ListN.{length, take, drop, length-take}
+use lib.ListN.{length, take, drop}
 use lib.IntN.{ℤ, pos}
 use Rattle.indexing.specs.Coordinates.{others}
 use Rattle.layout.specs.Layouts.{rankLimit, padded}
 use Rattle.axis_lists.specs.Held.{numbersOf, heldNumbers}
 use Rattle.axis_lists.specs.declared.Numbers.{Numbers}
-use Rattle.axis_lists.proofs.Filling.{read-back, length-others}
+use Rattle.axis_lists.proofs.Filling.{read-back}
+use Rattle.checks.proofs.Held.{held-fits, held-part, others-held, few-others}
 use Rattle.replay.specs.Replays.{compiledReplay}
 
--- what is read of an array that a list of at most eight fills
+-- what is read of an array that a list of at most the rank limit fills
 pub filled-read : {A : Type 0} (d : A) (n : ℕ) (r l : List A) → r ≡ padded rankLimit d l → n ≡ length l → length l ≤ rankLimit → take n r ≡ l
 filled-read d n r l e f h = ap (take n) e ∙ ap (λ (k : ℕ). take k (padded rankLimit d l)) f ∙ read-back d l h
 
@@ -24,16 +25,13 @@ filled-part d n r l e f h = let z : n - 0 ≡ n = omega arith in ap (λ (k : ℕ
 pub held-read : (k : Numbers) (l : List ℕ) → k ≡ heldNumbers l → length l ≤ rankLimit → numbersOf k ≡ l
 held-read k l e h = filled-read 0 (k .count) (k .entries) l (ap (λ (x : Numbers). x .entries) e) (ap (λ (x : Numbers). x .count) e) h
 
--- ---- the others of at most eight axes, as they are held
+-- ---- the others of at most the rank limit's axes, as they are held
 module _ (n : ℕ) (axes : List ℕ) (k : Numbers) (h : n ≤ rankLimit) (e : k ≡ heldNumbers (others (min n rankLimit) axes)) where
-  held-others : k ≡ heldNumbers (others n axes)
-  held-others = let f : min n rankLimit ≡ n = omega arith in e ∙ ap (λ (m : ℕ). heldNumbers (others m axes)) f
-
   pub others-few : k .count ≤ length (k .entries)
-  others-few = let r = held-read k (others n axes) held-others (omega (arith, length-others 0 n axes)) in omega (arith, length-take (k .count) (k .entries), ap length r, ap (λ (x : Numbers). x .count) held-others)
+  others-few = held-fits k (others n axes) (others-held k n axes e h) (few-others n axes h)
 
   pub others-part : take (k .count - 0) (drop 0 (k .entries)) ≡ others n axes
-  others-part = filled-part 0 (k .count) (k .entries) (others n axes) (ap (λ (x : Numbers). x .entries) held-others) (ap (λ (x : Numbers). x .count) held-others) (omega (arith, length-others 0 n axes))
+  others-part = held-part k (others n axes) (others-held k n axes e h) (few-others n axes h)
 
 -- the walk of lists that fill arrays
 pub walk-is : (n : ℕ) (shape ds : List ℕ) (source ss dest ts : List ℤ) → shape ≡ padded rankLimit 0 ds → source ≡ padded rankLimit (pos 0) ss → dest ≡ padded rankLimit (pos 0) ts → n ≤ rankLimit → n ≡ length ds → n ≡ length ss → n ≡ length ts

@@ -1,35 +1,35 @@
 // Scatter: compile's checks in the order of document 01, over lent extents and strides, and the two walks of its plan.
 ghost use mathlib.Core.Path.{_≡_};
-ghost use mathlib.Core.Bool.{cond};
+ghost use mathlib.Core.Bool.{true, cond};
 ghost use mathlib.Core.List.{[]};
 ghost use Prim.Native.Nat.{_-_, _≤_, min};
 ghost use lib.ListN.{length};
 ghost use lib.IntN.{pos};
 ghost use Rattle.indexing.specs.Coordinates.{pick, spread};
 ghost use Rattle.layout.specs.declared.Answer.the-variants as Ans;
-ghost use Rattle.layout.specs.Answers.{orElse};
+ghost use Rattle.layout.specs.Answers.{isDone, orElse};
 ghost use Rattle.layout.specs.Layouts.{rankLimit, padded};
 ghost use Rattle.layout.specs.Lists.{uniqueAxes};
 ghost use Rattle.layout.specs.Spans.{totalOf};
 ghost use Rattle.axis_lists.specs.Held.{sameList};
-ghost use Rattle.checks.specs.Checks.{totalFits, sameCount, windowsFit};
+ghost use Rattle.checks.specs.Checks.{totalFits, nestedRefusal, sameCount, windowsFit};
 ghost use Rattle.replay.specs.Replays.{compiledReplay};
-ghost use Rattle.scatter_checks.specs.Refusals.{scatterFrom, numbersRefusal, listsRefusal, countAtMost, specRefusal, walksRefusal, batchWalk, windowWalk, Fitting, Listed, Counted, refusalOf};
-ghost use Rattle.scatter_checks.specs.Examine.{refusedWith, walked, examined};
+ghost use Rattle.scatter_checks.specs.Refusals.{scatterFrom, numbersRefusal, sizesRefusal, listsRefusal, countAtMost, axesRefusal, compileRefusal};
+ghost use Rattle.scatter_checks.specs.Examine.{Listed, Walkable, walksOf, Examines};
 use layout::Answer;
 use layout::RAW_FUSED_RANK_LIMIT;
 use replay::CompiledReplay;
 use replay::WindowReplay;
 
-// What compile's checks answer, and the two walks; where they refuse, walks of no axes.
+// What compile answers; where that is Done, the walks from batch to batch and from cell to cell of a window.
 pub struct Examined {
     pub answer: Answer,
     pub batch: WindowReplay,
     pub window: WindowReplay,
 }
 
-fn refused(answer: Answer) -> Examined
-    ensures { λ r. ⌜ r ≡ refusedWith answer ⌝ }
+fn unexamined(answer: Answer) -> Examined
+    ensures { λ r. ⌜ r .answer ≡ answer ⌝ }
 {
     let none = replay::refused_replay();
     let walk = none.replay;
@@ -40,24 +40,27 @@ fn refused(answer: Answer) -> Examined
     }
 }
 
-// 3 for the products and the destination's span, then 4, if that is asked.
-fn check_numbers(
-    index: &[u64],
-    updates: &[u64],
-    extents: &[u64],
-    strides: &[i64],
-    nested: bool,
-) -> Answer
+// 3 for the products and the destination's span.
+fn check_numbers(index: &[u64], updates: &[u64], extents: &[u64], strides: &[i64]) -> Answer
     requires { ⌜ length (now strides) ≡ length (now extents) ⌝ }
-    ensures { λ r. ⌜ r ≡ numbersRefusal nested (now (index .entry)) (now (updates .entry)) (now (extents .entry)) (now (strides .entry)) ⌝ }
+    ensures { λ r. ⌜ r ≡ numbersRefusal (now (index .entry)) (now (updates .entry)) (now (extents .entry)) (now (strides .entry)) ⌝ }
 {
     let a = checks::check_total(extents);
     let b = checks::check_total(index);
     let c = checks::check_total(updates);
     let d = checks::check_span(extents, strides);
-    let e = checks::check_nested(extents, strides, nested);
-    let last = checks::or_else(c, checks::or_else(d, e));
-    checks::or_else(a, checks::or_else(b, last))
+    checks::or_else(a, checks::or_else(b, checks::or_else(c, d)))
+}
+
+// 1 and 2, then 3 for products and span: what is asked before 4.
+fn check_sizes(ie: &[u64], is: &[i64], ue: &[u64], us: &[i64], de: &[u64], ds: &[i64]) -> Answer
+    ensures { λ r. ⌜ r ≡ sizesRefusal (now (ie .entry)) (now (is .entry)) (now (ue .entry)) (now (us .entry)) (now (de .entry)) (now (ds .entry)) ⌝ }
+{
+    let lengths = checks::check_layouts(ie.len(), is.len(), ue.len(), us.len(), de.len(), ds.len());
+    if !layout::is_done(lengths) {
+        return lengths;
+    }
+    check_numbers(ie, ue, de, ds)
 }
 
 // 6 for the inserted axes, the scatter map and the vector axis, then 5 for the component count.
@@ -117,9 +120,9 @@ fn check_batch(updates: &[u64], batch: &[u64], index: &[u64], starts: &[u64]) ->
     }
 }
 
-// What is asked before the windows. `kept` are the destination's axes that are not inserted, `batch` the updates' that are not
-// window axes, `starts` the index view's but the vector axis.
-fn check_spec(
+// What is asked after 4 and before the windows. `kept` are the destination's axes that are not inserted, `batch` the updates' that are
+// not window axes, `starts` the index view's but the vector axis.
+fn check_axes(
     index_extents: &[u64],
     index_strides: &[i64],
     updates_extents: &[u64],
@@ -130,25 +133,17 @@ fn check_spec(
     inserted: &[u64],
     map: &[u64],
     vector: u64,
-    nested: bool,
     kept: &[u64],
     batch: &[u64],
     starts: &[u64],
 ) -> Answer
-    requires { ⌜ (length (now «dest_strides») ≡ length (now «dest_extents»)) × Listed (scatterFrom (now «index_extents») (now «index_strides») (now «updates_extents») (now «updates_strides») (now «dest_extents») (now «dest_strides») (now window) (now inserted) (now map) vector) (now kept) (now batch) (now starts) ⌝ }
-    ensures { λ r. ⌜ r ≡ specRefusal nested (scatterFrom (now («index_extents» .entry)) (now («index_strides» .entry)) (now («updates_extents» .entry)) (now («updates_strides» .entry)) (now («dest_extents» .entry)) (now («dest_strides» .entry)) (now (window .entry)) (now (inserted .entry)) (now (map .entry)) vector) ⌝ }
+    requires { ⌜ Listed (scatterFrom (now «index_extents») (now «index_strides») (now «updates_extents») (now «updates_strides») (now «dest_extents») (now «dest_strides») (now window) (now inserted) (now map) vector) (now kept) (now batch) (now starts) ⌝ }
+    ensures { λ r. ⌜ r ≡ axesRefusal (scatterFrom (now («index_extents» .entry)) (now («index_strides» .entry)) (now («updates_extents» .entry)) (now («updates_strides» .entry)) (now («dest_extents» .entry)) (now («dest_strides» .entry)) (now (window .entry)) (now (inserted .entry)) (now (map .entry)) vector) ⌝ }
 {
-    let a = check_numbers(
-        index_extents,
-        updates_extents,
-        dest_extents,
-        dest_strides,
-        nested,
-    );
-    let b = check_lists(index_extents, dest_extents, inserted, map, vector);
-    let c = check_counts(updates_extents, window, kept.len(), starts.len());
-    let d = check_batch(updates_extents, batch, index_extents, starts);
-    checks::or_else(a, checks::or_else(b, checks::or_else(c, d)))
+    let a = check_lists(index_extents, dest_extents, inserted, map, vector);
+    let b = check_counts(updates_extents, window, kept.len(), starts.len());
+    let c = check_batch(updates_extents, batch, index_extents, starts);
+    checks::or_else(a, checks::or_else(b, c))
 }
 
 // The extents on the axes, in the axes' order.
@@ -165,21 +160,7 @@ pub fn picked_extents(axes: &[u64], list: &[u64]) -> [u64; RAW_FUSED_RANK_LIMIT]
     out
 }
 
-// The strides on them.
-pub fn picked_strides(axes: &[u64], list: &[i64]) -> [i64; RAW_FUSED_RANK_LIMIT]
-    requires { ⌜ length (now axes) ≤ rankLimit ⌝ }
-    ensures { λ r. ⌜ r ≡ padded rankLimit (pos 0) (pick (pos 0) (now (axes .entry)) (now (list .entry))) ⌝ }
-{
-    let mut out = [0i64; RAW_FUSED_RANK_LIMIT];
-    let mut i: usize = 0;
-    while i < axes.len() {
-        out[i] = axis_lists::stride_at(list, axes[i]);
-        i += 1;
-    }
-    out
-}
-
-// n windows (at most eight): on each kept axis the extent of the update axis that stands with it, and 1 on every other.
+// n windows (at most the rank limit): on each kept axis the extent of the update axis that stands with it, and 1 on every other.
 pub fn spread_windows(
     n: usize,
     kept: &[u64],
@@ -237,8 +218,8 @@ fn walk_along(
     ensures { λ r. ⌜ r ≡ compiledReplay (pick 0 (now (axes .entry)) (now (extents .entry))) (pick (pos 0) (now (from .entry)) (now (source .entry))) (pick (pos 0) (now (to .entry)) (now (dest .entry))) ⌝ }
 {
     let shape = picked_extents(axes, extents);
-    let source_steps = picked_strides(from, source);
-    let dest_steps = picked_strides(to, dest);
+    let source_steps = components::strides_on(from, source);
+    let dest_steps = components::strides_on(to, dest);
     replay::compile_window_replay(shape, source_steps, dest_steps, axes.len())
 }
 
@@ -259,8 +240,8 @@ fn examine_walks(
     batch: &[u64],
     starts: &[u64],
 ) -> Examined
-    requires { ⌜ Fitting (scatterFrom (now «index_extents») (now «index_strides») (now «updates_extents») (now «updates_strides») (now «dest_extents») (now «dest_strides») (now window) (now inserted) (now map) vector) × Listed (scatterFrom (now «index_extents») (now «index_strides») (now «updates_extents») (now «updates_strides») (now «dest_extents») (now «dest_strides») (now window) (now inserted) (now map) vector) (now kept) (now batch) (now starts) × Counted (scatterFrom (now «index_extents») (now «index_strides») (now «updates_extents») (now «updates_strides») (now «dest_extents») (now «dest_strides») (now window) (now inserted) (now map) vector) ⌝ }
-    ensures { λ r. ⌜ r ≡ walked (walksRefusal (scatterFrom (now («index_extents» .entry)) (now («index_strides» .entry)) (now («updates_extents» .entry)) (now («updates_strides» .entry)) (now («dest_extents» .entry)) (now («dest_strides» .entry)) (now (window .entry)) (now (inserted .entry)) (now (map .entry)) vector)) (batchWalk (scatterFrom (now («index_extents» .entry)) (now («index_strides» .entry)) (now («updates_extents» .entry)) (now («updates_strides» .entry)) (now («dest_extents» .entry)) (now («dest_strides» .entry)) (now (window .entry)) (now (inserted .entry)) (now (map .entry)) vector)) (windowWalk (scatterFrom (now («index_extents» .entry)) (now («index_strides» .entry)) (now («updates_extents» .entry)) (now («updates_strides» .entry)) (now («dest_extents» .entry)) (now («dest_strides» .entry)) (now (window .entry)) (now (inserted .entry)) (now (map .entry)) vector)) ⌝ }
+    requires { ⌜ Walkable (scatterFrom (now «index_extents») (now «index_strides») (now «updates_extents») (now «updates_strides») (now «dest_extents») (now «dest_strides») (now window) (now inserted) (now map) vector) (now kept) (now batch) (now starts) ⌝ }
+    ensures { λ r. ⌜ r ≡ walksOf (scatterFrom (now («index_extents» .entry)) (now («index_strides» .entry)) (now («updates_extents» .entry)) (now («updates_strides» .entry)) (now («dest_extents» .entry)) (now («dest_strides» .entry)) (now (window .entry)) (now (inserted .entry)) (now (map .entry)) vector) ⌝ }
 {
     let a = check_windows(dest_extents, kept, window, updates_extents);
     let b = check_product(batch, updates_extents);
@@ -284,12 +265,9 @@ fn examine_walks(
     let d = batches.answer;
     let e = cells.answer;
     let stride = axis_lists::stride_at(index_strides, vector);
-    let f = gather_checks::check_components(stride, map.len() as u64);
+    let f = components::check_components(stride, map.len() as u64);
     let walks = checks::or_else(d, checks::or_else(e, f));
     let answer = checks::or_else(a, checks::or_else(b, checks::or_else(c, walks)));
-    if !layout::is_done(answer) {
-        return refused(answer);
-    }
     let from_batch = batches.replay;
     let from_cell = cells.replay;
     Examined {
@@ -299,8 +277,8 @@ fn examine_walks(
     }
 }
 
-// What is asked of layouts that neither 1 nor 2 refuses.
-fn examine_plan(
+// What is asked from 4 on, given what is answered in its place and the axes that the spec does not list.
+fn examine_axes(
     index_extents: &[u64],
     index_strides: &[i64],
     updates_extents: &[u64],
@@ -311,15 +289,15 @@ fn examine_plan(
     inserted: &[u64],
     map: &[u64],
     vector: u64,
-    nested: bool,
+    four: Answer,
     kept: &[u64],
     batch: &[u64],
     starts: &[u64],
 ) -> Examined
-    requires { ⌜ Fitting (scatterFrom (now «index_extents») (now «index_strides») (now «updates_extents») (now «updates_strides») (now «dest_extents») (now «dest_strides») (now window) (now inserted) (now map) vector) × Listed (scatterFrom (now «index_extents») (now «index_strides») (now «updates_extents») (now «updates_strides») (now «dest_extents») (now «dest_strides») (now window) (now inserted) (now map) vector) (now kept) (now batch) (now starts) ⌝ }
-    ensures { λ r. ⌜ r ≡ walked (orElse (specRefusal nested (scatterFrom (now («index_extents» .entry)) (now («index_strides» .entry)) (now («updates_extents» .entry)) (now («updates_strides» .entry)) (now («dest_extents» .entry)) (now («dest_strides» .entry)) (now (window .entry)) (now (inserted .entry)) (now (map .entry)) vector)) (walksRefusal (scatterFrom (now («index_extents» .entry)) (now («index_strides» .entry)) (now («updates_extents» .entry)) (now («updates_strides» .entry)) (now («dest_extents» .entry)) (now («dest_strides» .entry)) (now (window .entry)) (now (inserted .entry)) (now (map .entry)) vector))) (batchWalk (scatterFrom (now («index_extents» .entry)) (now («index_strides» .entry)) (now («updates_extents» .entry)) (now («updates_strides» .entry)) (now («dest_extents» .entry)) (now («dest_strides» .entry)) (now (window .entry)) (now (inserted .entry)) (now (map .entry)) vector)) (windowWalk (scatterFrom (now («index_extents» .entry)) (now («index_strides» .entry)) (now («updates_extents» .entry)) (now («updates_strides» .entry)) (now («dest_extents» .entry)) (now («dest_strides» .entry)) (now (window .entry)) (now (inserted .entry)) (now (map .entry)) vector)) ⌝ }
+    requires { ⌜ Listed (scatterFrom (now «index_extents») (now «index_strides») (now «updates_extents») (now «updates_strides») (now «dest_extents») (now «dest_strides») (now window) (now inserted) (now map) vector) (now kept) (now batch) (now starts) ⌝ }
+    ensures { λ r. ⌜ Examines r four (scatterFrom (now («index_extents» .entry)) (now («index_strides» .entry)) (now («updates_extents» .entry)) (now («updates_strides» .entry)) (now («dest_extents» .entry)) (now («dest_strides» .entry)) (now (window .entry)) (now (inserted .entry)) (now (map .entry)) vector) ⌝ }
 {
-    let spec = check_spec(
+    let axes = check_axes(
         index_extents,
         index_strides,
         updates_extents,
@@ -330,13 +308,13 @@ fn examine_plan(
         inserted,
         map,
         vector,
-        nested,
         kept,
         batch,
         starts,
     );
-    if !layout::is_done(spec) {
-        return refused(spec);
+    let answer = checks::or_else(four, axes);
+    if !layout::is_done(answer) {
+        return unexamined(answer);
     }
     examine_walks(
         index_extents,
@@ -355,7 +333,52 @@ fn examine_plan(
     )
 }
 
-// The first refusal of a scatter in document 01's order, or Done with the two walks; 4 is tried where `nested` says so.
+// The rest of a scatter whose sizes are not refused, given what is answered in the place of 4.
+fn examine_from(
+    index_extents: &[u64],
+    index_strides: &[i64],
+    updates_extents: &[u64],
+    updates_strides: &[i64],
+    dest_extents: &[u64],
+    dest_strides: &[i64],
+    update_window_dims: &[u64],
+    inserted_window_dims: &[u64],
+    scatter_dims_to_operand_dims: &[u64],
+    index_vector_dim: u64,
+    four: Answer,
+) -> Examined
+    requires { ⌜ isDone (sizesRefusal (now «index_extents») (now «index_strides») (now «updates_extents») (now «updates_strides») (now «dest_extents») (now «dest_strides»)) ≡ true ⌝ }
+    ensures { λ r. ⌜ Examines r four (scatterFrom (now («index_extents» .entry)) (now («index_strides» .entry)) (now («updates_extents» .entry)) (now («updates_strides» .entry)) (now («dest_extents» .entry)) (now («dest_strides» .entry)) (now («update_window_dims» .entry)) (now («inserted_window_dims» .entry)) (now («scatter_dims_to_operand_dims» .entry)) «index_vector_dim») ⌝ }
+{
+    let one = [index_vector_dim];
+    let others = axis_lists::other_axes(dest_extents.len(), inserted_window_dims);
+    let apart = axis_lists::other_axes(updates_extents.len(), update_window_dims);
+    let rest = axis_lists::other_axes(index_extents.len(), &one);
+    let kept = others.entries;
+    let batch = apart.entries;
+    let starts = rest.entries;
+    let n = others.count;
+    let m = apart.count;
+    let k = rest.count;
+    examine_axes(
+        index_extents,
+        index_strides,
+        updates_extents,
+        updates_strides,
+        dest_extents,
+        dest_strides,
+        update_window_dims,
+        inserted_window_dims,
+        scatter_dims_to_operand_dims,
+        index_vector_dim,
+        four,
+        &kept[0..n],
+        &batch[0..m],
+        &starts[0..k],
+    )
+}
+
+// The first refusal of a scatter in document 01's order, or Done, with its two walks.
 pub fn examine(
     index_extents: &[u64],
     index_strides: &[i64],
@@ -367,32 +390,22 @@ pub fn examine(
     inserted_window_dims: &[u64],
     scatter_dims_to_operand_dims: &[u64],
     index_vector_dim: u64,
-    nested: bool,
 ) -> Examined
-    ensures { λ r. ⌜ r ≡ examined nested (scatterFrom (now («index_extents» .entry)) (now («index_strides» .entry)) (now («updates_extents» .entry)) (now («updates_strides» .entry)) (now («dest_extents» .entry)) (now («dest_strides» .entry)) (now («update_window_dims» .entry)) (now («inserted_window_dims» .entry)) (now («scatter_dims_to_operand_dims» .entry)) «index_vector_dim») ⌝ }
+    ensures { λ r. ⌜ Examines r (nestedRefusal (now («dest_extents» .entry)) (now («dest_strides» .entry))) (scatterFrom (now («index_extents» .entry)) (now («index_strides» .entry)) (now («updates_extents» .entry)) (now («updates_strides» .entry)) (now («dest_extents» .entry)) (now («dest_strides» .entry)) (now («update_window_dims» .entry)) (now («inserted_window_dims» .entry)) (now («scatter_dims_to_operand_dims» .entry)) «index_vector_dim») ⌝ }
 {
-    let layouts = gather_checks::check_layouts(
-        index_extents.len(),
-        index_strides.len(),
-        updates_extents.len(),
-        updates_strides.len(),
-        dest_extents.len(),
-        dest_strides.len(),
+    let sizes = check_sizes(
+        index_extents,
+        index_strides,
+        updates_extents,
+        updates_strides,
+        dest_extents,
+        dest_strides,
     );
-    if !layout::is_done(layouts) {
-        return refused(layouts);
+    if !layout::is_done(sizes) {
+        return unexamined(sizes);
     }
-    let one = [index_vector_dim];
-    let others = axis_lists::other_axes(dest_extents.len(), inserted_window_dims);
-    let apart = axis_lists::other_axes(updates_extents.len(), update_window_dims);
-    let rest = axis_lists::other_axes(index_extents.len(), &one);
-    let kept = others.entries;
-    let batch = apart.entries;
-    let starts = rest.entries;
-    let n = others.count;
-    let m = apart.count;
-    let k = rest.count;
-    examine_plan(
+    let four = checks::check_nested(dest_extents, dest_strides);
+    examine_from(
         index_extents,
         index_strides,
         updates_extents,
@@ -403,14 +416,52 @@ pub fn examine(
         inserted_window_dims,
         scatter_dims_to_operand_dims,
         index_vector_dim,
-        nested,
-        &kept[0..n],
-        &batch[0..m],
-        &starts[0..k],
+        four,
     )
 }
 
-// The answer alone.
+// The same at a call, where 4 is not tried again.
+pub fn examine_again(
+    index_extents: &[u64],
+    index_strides: &[i64],
+    updates_extents: &[u64],
+    updates_strides: &[i64],
+    dest_extents: &[u64],
+    dest_strides: &[i64],
+    update_window_dims: &[u64],
+    inserted_window_dims: &[u64],
+    scatter_dims_to_operand_dims: &[u64],
+    index_vector_dim: u64,
+) -> Examined
+    ensures { λ r. ⌜ Examines r Ans.Done (scatterFrom (now («index_extents» .entry)) (now («index_strides» .entry)) (now («updates_extents» .entry)) (now («updates_strides» .entry)) (now («dest_extents» .entry)) (now («dest_strides» .entry)) (now («update_window_dims» .entry)) (now («inserted_window_dims» .entry)) (now («scatter_dims_to_operand_dims» .entry)) «index_vector_dim») ⌝ }
+{
+    let sizes = check_sizes(
+        index_extents,
+        index_strides,
+        updates_extents,
+        updates_strides,
+        dest_extents,
+        dest_strides,
+    );
+    if !layout::is_done(sizes) {
+        return unexamined(sizes);
+    }
+    examine_from(
+        index_extents,
+        index_strides,
+        updates_extents,
+        updates_strides,
+        dest_extents,
+        dest_strides,
+        update_window_dims,
+        inserted_window_dims,
+        scatter_dims_to_operand_dims,
+        index_vector_dim,
+        Answer::Done,
+    )
+}
+
+// The first refusal of a scatter in document 01's order, or Done.
 pub fn scatter_refusal(
     index_extents: &[u64],
     index_strides: &[i64],
@@ -422,9 +473,8 @@ pub fn scatter_refusal(
     inserted_window_dims: &[u64],
     scatter_dims_to_operand_dims: &[u64],
     index_vector_dim: u64,
-    nested: bool,
 ) -> Answer
-    ensures { λ r. ⌜ r ≡ refusalOf nested (scatterFrom (now («index_extents» .entry)) (now («index_strides» .entry)) (now («updates_extents» .entry)) (now («updates_strides» .entry)) (now («dest_extents» .entry)) (now («dest_strides» .entry)) (now («update_window_dims» .entry)) (now («inserted_window_dims» .entry)) (now («scatter_dims_to_operand_dims» .entry)) «index_vector_dim») ⌝ }
+    ensures { λ r. ⌜ r ≡ compileRefusal (scatterFrom (now («index_extents» .entry)) (now («index_strides» .entry)) (now («updates_extents» .entry)) (now («updates_strides» .entry)) (now («dest_extents» .entry)) (now («dest_strides» .entry)) (now («update_window_dims» .entry)) (now («inserted_window_dims» .entry)) (now («scatter_dims_to_operand_dims» .entry)) «index_vector_dim») ⌝ }
 {
     let found = examine(
         index_extents,
@@ -437,7 +487,6 @@ pub fn scatter_refusal(
         inserted_window_dims,
         scatter_dims_to_operand_dims,
         index_vector_dim,
-        nested,
     );
     found.answer
 }

@@ -1,6 +1,6 @@
--- What is known of a scatter that is not refused: its lists fit, its numbers fit, its walks are done, and what the code makes is its plan. Assumes nothing.
+-- What is known of a scatter that is not refused: its lists fit, its numbers fit, and its walks are done. Assumes nothing.
 use mathlib.Core.Path.{_≡_, refl, sym, ap, _∙_}
-use mathlib.Core.Bool.{Bool, true, false, cond}
+use mathlib.Core.Bool.{true}
 use mathlib.Core.List.{List, []}
 use Prim.Native.Nat.{ℕ, _<_, _≤_, min}
 use native.Mathlib.Omega.{arith}
@@ -11,34 +11,27 @@ use Rattle.integer.specs.declared.Checked.{Checked}
 use Rattle.integer.specs.declared.Checked.the-variants as C
 use Rattle.integer.specs.declared.CheckedU.{CheckedU}
 use Rattle.integer.specs.declared.CheckedU.the-variants as U
-use Rattle.indexing.specs.Coordinates.{rank, product, pick, others, tabulate}
+use Rattle.indexing.specs.Coordinates.{rank, product, others, tabulate}
 use Rattle.indexing.specs.Start.{without}
 use Rattle.indexing.specs.Scatter.{Scatter, scatterDims, windowDims, batchShape, windowShape, windows}
 use Rattle.indexing.specs.Steps.{vectorStride}
 use Rattle.layout.specs.declared.Answer.{Answer}
 use Rattle.layout.specs.declared.Answer.the-variants as A
-use Rattle.layout.specs.declared.Layout.{Layout}
 use Rattle.layout.specs.Answers.{isDone}
 use Rattle.layout.specs.Layouts.{rankLimit, padded, layoutOf, extentsOf, stridesOf, strideLength, rankAtMost}
 use Rattle.layout.specs.Lists.{uniqueAxes}
 use Rattle.layout.specs.Spans.{totalOf, spanned, offsetAdd}
 use Rattle.layout.specs.Laws.{total-is, offset-add-is}
-use Rattle.axis_lists.specs.Held.{heldNumbers, heldSteps}
+use Rattle.layout.proofs.First.{done-is}
 use Rattle.axis_lists.proofs.Filling.{read-back, length-others}
 use Rattle.checks.specs.Checks.{firstOf, totalFits, spanFits, sameCount, vectorAxis, componentsOf, windowsFit, numberFits, offsetFits, layoutsRefusal}
 use Rattle.checks.proofs.Made.{or-done, same-length, few-axes}
-use Rattle.checks.specs.Values.{valueOf, valueOfU, offsetOr, totalOr}
+use Rattle.checks.specs.Values.{valueOf, offsetOr}
 use Rattle.checks.proofs.Lists.{unique-axes, axes-few, tabulate-same}
 use Rattle.checks.proofs.Fits.{first-each}
-use Rattle.replay.specs.Replays.{refusedReplay}
-use Rattle.scatter_checks.specs.Refusals.{scatterFrom, numbersRefusal, listsRefusal, countAtMost, countsRefusal, batchRefusal, specRefusal, batchWalk, windowWalk, walksRefusal, Fitting, Counted, refusalOf}
-use Rattle.scatter_checks.specs.declared.Examined.{Examined}
-use Rattle.scatter_checks.specs.Examine.{examined}
+use Rattle.scatter_checks.specs.Refusals.{numbersRefusal, sizesRefusal, listsRefusal, countAtMost, countsRefusal, batchRefusal, axesRefusal, batchWalk, windowWalk, walksRefusal, specRefusal, refusalOf}
+use Rattle.scatter_checks.specs.Examine.{Counted}
 use Rattle.scatter_checks.proofs.Counts.{counted}
-use Rattle.scatter_plan.specs.declared.ScatterPlan.{ScatterPlan}
-use Rattle.scatter_plan.specs.declared.CompiledScatter.{CompiledScatter}
-use Rattle.scatter_plan.specs.Plan.{planOf, refusedPlan, refusedScatter, compiledScatter}
-use Rattle.scatter_plan.specs.Made.{made}
 
 -- ---- a number that was accepted is the number
 total-fits : (ds : List ℕ) → isDone (totalFits (totalOf ds)) ≡ true → totalOf ds ≡ U.Fits (product ds)
@@ -54,20 +47,6 @@ offset-fits s c e = go (offsetAdd (pos 0) s c) refl e
     go : (x : Checked) → offsetAdd (pos 0) s c ≡ x → isDone (numberFits x) ≡ true → offsetAdd (pos 0) s c ≡ C.Fits (s *ℤ pos c)
     go (C.Fits z) f h = f ∙ ap C.Fits (offset-add-is (pos 0) s c z f ∙ +ℤ-idl (s *ℤ pos c))
     go C.Overflow f h = let z : _≡_ {A = ℕ} 0 1 = cc in absurd (omega arith)
-
--- an answer that is done
-done-is : (x : Answer) → isDone x ≡ true → x ≡ A.Done
-done-is A.Done e = refl
-done-is A.StrideLengthMismatch e = let z : _≡_ {A = ℕ} 0 1 = cc in absurd (omega arith)
-done-is (A.RankTooLarge a b) e = let z : _≡_ {A = ℕ} 0 1 = cc in absurd (omega arith)
-done-is A.OffsetOverflow e = let z : _≡_ {A = ℕ} 0 1 = cc in absurd (omega arith)
-done-is A.NonInjectiveOutputLayout e = let z : _≡_ {A = ℕ} 0 1 = cc in absurd (omega arith)
-done-is (A.RankMismatch a b) e = let z : _≡_ {A = ℕ} 0 1 = cc in absurd (omega arith)
-done-is (A.InvalidAxis a b) e = let z : _≡_ {A = ℕ} 0 1 = cc in absurd (omega arith)
-done-is (A.ShapeMismatch a b) e = let z : _≡_ {A = ℕ} 0 1 = cc in absurd (omega arith)
-done-is A.PlanLayoutMismatch e = let z : _≡_ {A = ℕ} 0 1 = cc in absurd (omega arith)
-done-is (A.BufferBounds a b) e = let z : _≡_ {A = ℕ} 0 1 = cc in absurd (omega arith)
-done-is (A.JobBytes a) e = let z : _≡_ {A = ℕ} 0 1 = cc in absurd (omega arith)
 
 -- ---- each check of a scatter that is not refused is done, in document 01's order
 module _ (s : Scatter) where
@@ -97,9 +76,9 @@ module _ (s : Scatter) where
     pub window-walk : isDone (windowWalk s .answer) ≡ true
     pub offsets : isDone (firstOf (offsetFits (vectorStride (s .indices) (s .spec .index-vector-dim))) (length (s .spec .scatter-dims-to-operand-dims)) 0) ≡ true
 
-  pub passed : (nested : Bool) → isDone (refusalOf nested s) ≡ true → Passed
-  unfolding refusalOf windowDims batchShape scatterDims
-  passed nested done =
+  pub passed : (four : Answer) → isDone (refusalOf four s) ≡ true → Passed
+  unfolding sizesRefusal specRefusal windowDims batchShape scatterDims
+  passed four done =
       let ie = s .indices .extents in
       let ue = s .updates .extents in
       let de = s .result .extents in
@@ -107,20 +86,19 @@ module _ (s : Scatter) where
       let inserted = s .spec .inserted-window-dims in
       let map = s .spec .scatter-dims-to-operand-dims in
       let vector = s .spec .index-vector-dim in
-      let t1 = or-done (layoutsRefusal (length ie) (length (s .indices .strides)) (length ue) (length (s .updates .strides)) (length de) (length (s .result .strides))) _ done in
-      let t2 = or-done (specRefusal nested s) (walksRefusal s) (t1 .1) in
+      let t0 = or-done (sizesRefusal ie (s .indices .strides) ue (s .updates .strides) de (s .result .strides)) _ done in
+      let t1 = or-done (layoutsRefusal (length ie) (length (s .indices .strides)) (length ue) (length (s .updates .strides)) (length de) (length (s .result .strides))) (numbersRefusal ie ue de (s .result .strides)) (t0 .0) in
+      let t2 = or-done (axesRefusal s) (walksRefusal s) (or-done four (specRefusal s) (t0 .1) .1) in
       let a1 = or-done (strideLength (length ie) (length (s .indices .strides))) _ (t1 .0) in
       let a2 = or-done (strideLength (length ue) (length (s .updates .strides))) _ (a1 .1) in
       let a3 = or-done (strideLength (length de) (length (s .result .strides))) _ (a2 .1) in
       let a4 = or-done (rankAtMost (length ie)) _ (a3 .1) in
       let a5 = or-done (rankAtMost (length ue)) _ (a4 .1) in
-      let n1 = or-done (numbersRefusal nested ie ue de (s .result .strides)) _ (t2 .0) in
-      let n2 = or-done (listsRefusal ie de inserted map vector) _ (n1 .1) in
+      let n2 = or-done (listsRefusal ie de inserted map vector) _ (t2 .0) in
       let n3 = or-done (countsRefusal ie ue de window inserted vector) (batchRefusal ie ue window vector) (n2 .1) in
-      let b1 = or-done (totalFits (totalOf de)) _ (n1 .0) in
+      let b1 = or-done (totalFits (totalOf de)) _ (t1 .1) in
       let b2 = or-done (totalFits (totalOf ie)) _ (b1 .1) in
       let b3 = or-done (totalFits (totalOf ue)) _ (b2 .1) in
-      let b4 = or-done (spanFits (spanned de (s .result .strides))) _ (b3 .1) in
       let c1 = or-done (uniqueAxes (length de) [] inserted) _ (n2 .0) in
       let c2 = or-done (uniqueAxes (length de) [] map) _ (c1 .1) in
       let c3 = or-done (vectorAxis vector (length ie)) _ (c2 .1) in
@@ -132,7 +110,6 @@ module _ (s : Scatter) where
       let e3 = or-done (totalFits (totalOf (windowShape s))) _ (e2 .1) in
       let e4 = or-done (batchWalk s .answer) _ (e3 .1) in
       let e5 = or-done (windowWalk s .answer) _ (e4 .1) in
-      let k = counted nested ie (s .indices .strides) ue (s .updates .strides) de (s .result .strides) window inserted map vector (same-length (length ie) (length (s .indices .strides)) (a1 .0)) (t2 .0) in
       record {
         index-length = a1 .0;
         updates-length = a2 .0;
@@ -143,7 +120,7 @@ module _ (s : Scatter) where
         dest-total = b1 .0;
         index-total = b2 .0;
         updates-total = b3 .0;
-        dest-span = b4 .0;
+        dest-span = b3 .1;
         inserted = c1 .0;
         map = c2 .0;
         vector = c3 .0;
@@ -151,7 +128,7 @@ module _ (s : Scatter) where
         kept = d1 .0;
         window = d3 .1;
         batch = n3 .1;
-        counts = record { batch = k .batch; window = k .window };
+        counts = counted s (same-length (length ie) (length (s .indices .strides)) (a1 .0)) (t2 .0);
         fits = e1 .0;
         batches = e2 .0;
         cells = e3 .0;
@@ -182,10 +159,10 @@ module _ (s : Scatter) where
     pub batch-done : batchWalk s .answer ≡ A.Done
     pub window-done : windowWalk s .answer ≡ A.Done
 
-  pub accepted : (nested : Bool) → isDone (refusalOf nested s) ≡ true → Accepted
+  pub accepted : (four : Answer) → isDone (refusalOf four s) ≡ true → Accepted
   unfolding windowDims
-  accepted nested done =
-      let p = passed nested done in
+  accepted four done =
+      let p = passed four done in
       let few : rank (s .result) ≤ rankLimit = few-axes (rank (s .result)) (p .dest-rank) in
       let k = p .counts in
       record {
@@ -210,81 +187,36 @@ module _ (s : Scatter) where
         window-done = done-is (windowWalk s .answer) (p .window-walk);
       }
 
-  pub fitting : Accepted → Fitting s
-  fitting p = record { index = p .index-strides; updates = p .updates-strides; dest = p .dest-strides; index-few = p .index-rank; updates-few = p .updates-rank; dest-few = p .dest-rank }
+  module _ (p : Accepted) where
+    -- what is read of the layouts as they are held
+    strides-back : (n : ℕ) (l : List ℤ) → length l ≡ n → n ≤ rankLimit → take n (padded rankLimit (pos 0) l) ≡ l
+    strides-back n l e h = ap (λ (k : ℕ). take k (padded rankLimit (pos 0) l)) (sym e) ∙ read-back (pos 0) l (omega arith)
 
-  -- WHAT THE CODE MAKES is the plan
-  pub planned : Accepted → made s ≡ planOf s
-  unfolding made
-  planned p =
-      let map = s .spec .scatter-dims-to-operand-dims in
-      let stride = vectorStride (s .indices) (s .spec .index-vector-dim) in
-      let n : min (length map) rankLimit ≡ length map = omega (arith, p .map-few) in
-      let m : take rankLimit map ≡ map = take-all rankLimit map (p .map-few) in
-      (λ i. planWith (tabulate (n i) (offsetOr stride)) (pick (pos 0) (m i) (s .result .strides)) (totalOr (batchShape s)) (totalOr (windowShape s)))
-      ∙ λ i. planWith (tabulate-same (length map) (offsetOr stride) (λ c. stride *ℤ pos c) (λ c h. ap valueOf (p .offsets-fit c h)) i) (pick (pos 0) map (s .result .strides)) (ap valueOfU (p .batches) i) (ap valueOfU (p .cells) i)
-    where
-      planWith : List ℤ → List ℤ → ℕ → ℕ → ScatterPlan
-      planWith co cs b c =
-          record {
-            index = layoutOf (s .indices .extents) (s .indices .strides);
-            updates = layoutOf (s .updates .extents) (s .updates .strides);
-            dest = layoutOf (s .result .extents) (s .result .strides);
-            «update_window_dims» = heldNumbers (s .spec .update-window-dims);
-            «inserted_window_dims» = heldNumbers (s .spec .inserted-window-dims);
-            «scatter_dims_to_operand_dims» = heldNumbers (s .spec .scatter-dims-to-operand-dims);
-            «index_vector_dim» = s .spec .index-vector-dim;
-            batch = batchWalk s .replay;
-            window = windowWalk s .replay;
-            windows = heldNumbers (windows s);
-            «component_offsets» = heldSteps co;
-            «component_strides» = heldSteps cs;
-            batches = b;
-            cells = c;
-          }
+    pub index-extents-read : extentsOf (layoutOf (s .indices .extents) (s .indices .strides)) ≡ s .indices .extents
+    index-extents-read = read-back 1 (s .indices .extents) (p .index-rank)
 
--- ---- the layouts as they are held
-extents-back : (l : Layout) (es : List ℕ) (ss : List ℤ) → l ≡ layoutOf es ss → length es ≤ rankLimit → extentsOf l ≡ es
-extents-back l es ss e h = ap extentsOf e ∙ read-back 1 es h
+    pub updates-extents-read : extentsOf (layoutOf (s .updates .extents) (s .updates .strides)) ≡ s .updates .extents
+    updates-extents-read = read-back 1 (s .updates .extents) (p .updates-rank)
 
-strides-back : (l : Layout) (es : List ℕ) (ss : List ℤ) → l ≡ layoutOf es ss → length ss ≡ length es → length es ≤ rankLimit → stridesOf l ≡ ss
-strides-back l es ss e f h = ap stridesOf e ∙ ap (λ (k : ℕ). take k (padded rankLimit (pos 0) ss)) (sym f) ∙ read-back (pos 0) ss (omega arith)
+    pub dest-extents-read : extentsOf (layoutOf (s .result .extents) (s .result .strides)) ≡ s .result .extents
+    dest-extents-read = read-back 1 (s .result .extents) (p .dest-rank)
 
-module _ (ie : List ℕ) (is : List ℤ) (ue : List ℕ) (us : List ℤ) (de : List ℕ) (ds : List ℤ) (window inserted map : List ℕ) (vector : ℕ) where
-  abbrev given : Scatter
-  given = scatterFrom ie is ue us de ds window inserted map vector
+    pub index-strides-read : stridesOf (layoutOf (s .indices .extents) (s .indices .strides)) ≡ s .indices .strides
+    index-strides-read = strides-back (rank (s .indices)) (s .indices .strides) (p .index-strides) (p .index-rank)
 
-  module _ (p : Accepted given) (i u d : Layout) (ei : i ≡ layoutOf ie is) (eu : u ≡ layoutOf ue us) (ed : d ≡ layoutOf de ds) where
-    pub given-read : scatterFrom (extentsOf i) (stridesOf i) (extentsOf u) (stridesOf u) (extentsOf d) (stridesOf d) window inserted map vector ≡ given
-    given-read =
-        let a = extents-back i ie is ei (p .index-rank) in
-        let b = strides-back i ie is ei (p .index-strides) (p .index-rank) in
-        let c = extents-back u ue us eu (p .updates-rank) in
-        let e = strides-back u ue us eu (p .updates-strides) (p .updates-rank) in
-        let f = extents-back d de ds ed (p .dest-rank) in
-        let g = strides-back d de ds ed (p .dest-strides) (p .dest-rank) in
-        λ j. scatterFrom (a j) (b j) (c j) (e j) (f j) (g j) window inserted map vector
+    pub updates-strides-read : stridesOf (layoutOf (s .updates .extents) (s .updates .strides)) ≡ s .updates .strides
+    updates-strides-read = strides-back (rank (s .updates)) (s .updates .strides) (p .updates-strides) (p .updates-rank)
 
--- compile answers with the plan
-pub compiled-with : (nested : Bool) (s : Scatter) (x : Answer) (plan : ScatterPlan) → x ≡ refusalOf nested s → isDone x ≡ true → plan ≡ made s → record { answer = x; plan = plan } ≡ compiledScatter nested s
-unfolding compiledScatter
-compiled-with nested s x plan e f q =
-    let t : isDone (refusalOf nested s) ≡ true = ap isDone (sym e) ∙ f in
-    let r : plan ≡ planOf s = q ∙ planned s (accepted s nested t) in
-    let c : cond (isDone (refusalOf nested s)) (planOf s) refusedPlan ≡ planOf s = ap (λ (b : Bool). cond b (planOf s) refusedPlan) t in
-    λ j. record { answer = e j; plan = (r ∙ sym c) j }
+    pub dest-strides-read : stridesOf (layoutOf (s .result .extents) (s .result .strides)) ≡ s .result .strides
+    dest-strides-read = strides-back (rank (s .result)) (s .result .strides) (p .dest-strides) (p .dest-rank)
 
--- what was examined gives the walks
-pub walks-found : (nested : Bool) (s : Scatter) (x : Examined) → x ≡ examined nested s → isDone (x .answer) ≡ true → (x .batch ≡ batchWalk s .replay) × (x .window ≡ windowWalk s .replay)
-unfolding examined
-walks-found nested s x e d =
-    let t : isDone (refusalOf nested s) ≡ true = sym (ap (λ (y : Examined). isDone (y .answer)) e) ∙ d in
-    (ap (λ (y : Examined). y .batch) e ∙ ap (λ (b : Bool). cond b (batchWalk s .replay) (refusedReplay .replay)) t, ap (λ (y : Examined). y .window) e ∙ ap (λ (b : Bool). cond b (windowWalk s .replay) (refusedReplay .replay)) t)
+    -- ---- what the code makes of the components
+    pub offsets-are : tabulate (min (length (s .spec .scatter-dims-to-operand-dims)) rankLimit) (offsetOr (vectorStride (s .indices) (s .spec .index-vector-dim))) ≡ tabulate (length (s .spec .scatter-dims-to-operand-dims)) (λ c. vectorStride (s .indices) (s .spec .index-vector-dim) *ℤ pos c)
+    offsets-are =
+        let map = s .spec .scatter-dims-to-operand-dims in
+        let stride = vectorStride (s .indices) (s .spec .index-vector-dim) in
+        let n : min (length map) rankLimit ≡ length map = omega (arith, p .map-few) in
+        ap (λ (k : ℕ). tabulate k (offsetOr stride)) n ∙ tabulate-same (length map) (offsetOr stride) (λ c. stride *ℤ pos c) (λ c h. ap valueOf (p .offsets-fit c h))
 
--- a scatter that is refused
-pub refused-with : (nested : Bool) (s : Scatter) (r : CompiledScatter) (x : Answer) → r ≡ refusedScatter x → x ≡ refusalOf nested s → isDone x ≡ false → r ≡ compiledScatter nested s
-unfolding compiledScatter
-refused-with nested s r x p e f =
-    let t : isDone (refusalOf nested s) ≡ false = ap isDone (sym e) ∙ f in
-    let c : cond (isDone (refusalOf nested s)) (planOf s) refusedPlan ≡ refusedPlan = ap (λ (b : Bool). cond b (planOf s) refusedPlan) t in
-    p ∙ λ j. record { answer = e j; plan = sym c j }
+    pub map-is : take rankLimit (s .spec .scatter-dims-to-operand-dims) ≡ s .spec .scatter-dims-to-operand-dims
+    map-is = take-all rankLimit (s .spec .scatter-dims-to-operand-dims) (p .map-few)

@@ -1,3 +1,4 @@
 pub mod Accepted
+pub mod Planned
 pub mod Valid
 pub mod Compiled

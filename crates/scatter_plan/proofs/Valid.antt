@@ -11,6 +11,7 @@ use Rattle.indexing.specs.Coordinates.{rank, pick, others}
 use Rattle.indexing.specs.Start.{without, components}
 use Rattle.indexing.specs.Scatter.{Scatter, scatterDims, windowDims, batchShape, windows}
 use Rattle.indexing.specs.Valid.{ValidScatter}
+use Rattle.layout.specs.declared.Answer.{Answer}
 use Rattle.layout.specs.declared.Answer.the-variants as A
 use Rattle.layout.specs.Answers.{isDone}
 use Rattle.axis_lists.specs.Held.{sameList}
@@ -58,10 +59,10 @@ windows-low n i (d ∷ ds) (w ∷ ws) e a h = go (leb w d) refl e a h (windows-l
     go false f g a k ih = let z : _≡_ {A = ℕ} 0 1 = cc in absurd (omega arith)
 
 -- A SCATTER THAT IS NOT REFUSED is valid, each fact by the check that gives it
-pub valid : (nested : Bool) (s : Scatter) → isDone (refusalOf nested s) ≡ true → ValidScatter s
+pub valid : (four : Answer) (s : Scatter) → isDone (refusalOf four s) ≡ true → ValidScatter s
 unfolding windowDims batchShape scatterDims components
-valid nested s done =
-    let p = passed s nested done in
+valid four s done =
+    let p = passed s four done in
     record {
       indices-strided = same-length (rank (s .indices)) (length (s .indices .strides)) (p .index-length);
       updates-strided = same-length (rank (s .updates)) (length (s .updates .strides)) (p .updates-length);

@@ -1,4 +1,2 @@
 -- what a reader must believe: the plan of a scatter, and what compile gives
 pub mod Plan
--- what the code makes of any arguments
-pub mod Made

@@ -1,18 +1,19 @@
 -- The plan of a scatter by value, and what compile gives: document 01, "The cuts added". Definitions only.
-use mathlib.Core.Bool.{Bool, cond}
+use mathlib.Core.Bool.{cond}
 use lib.ListN.{length}
 use lib.IntN.{pos, _*ℤ_}
 use Rattle.indexing.specs.Coordinates.{product, pick, tabulate}
 use Rattle.indexing.specs.Scatter.{Scatter, batchShape, windowShape, windows}
 use Rattle.indexing.specs.Steps.{vectorStride}
 use Rattle.layout.specs.declared.Answer.{Answer}
+use Rattle.layout.specs.declared.Answer.the-variants as A
 use Rattle.layout.specs.Answers.{isDone}
 use Rattle.layout.specs.Layouts.{layoutOf, extentsOf, stridesOf}
 use Rattle.axis_lists.specs.Held.{numbersOf, heldNumbers, heldSteps}
-use Rattle.gather_plan.specs.Plan.{noLayout, noNumbers, noSteps}
+use Rattle.checks.specs.Nothing.{noLayout, noNumbers, noSteps}
 use Rattle.replay.specs.declared.WindowReplay.{WindowReplay}
 use Rattle.replay.specs.Replays.{refusedReplay}
-use Rattle.scatter_checks.specs.Refusals.{scatterFrom, batchWalk, windowWalk, refusalOf}
+use Rattle.scatter_checks.specs.Refusals.{scatterFrom, batchWalk, windowWalk, refusalOf, compileRefusal}
 use Rattle.scatter_plan.specs.declared.ScatterPlan.{ScatterPlan}
 use Rattle.scatter_plan.specs.declared.CompiledScatter.{CompiledScatter}
 
@@ -64,9 +65,16 @@ refusedPlan =
 abbrev pub refusedScatter : Answer → CompiledScatter
 refusedScatter x = record { answer = x; plan = refusedPlan }
 
--- what compile gives: the first refusal, or done with the plan; 4 is tried where `nested` says so
-unfoldable pub compiledScatter : Bool → Scatter → CompiledScatter
-compiledScatter nested s = record { answer = refusalOf nested s; plan = cond (isDone (refusalOf nested s)) (planOf s) refusedPlan }
+-- what compile gives, by its refusal: that, and the plan where there is none
+unfoldable pub compiledBy : Answer → Scatter → CompiledScatter
+compiledBy x s = record { answer = x; plan = cond (isDone x) (planOf s) refusedPlan }
+
+abbrev pub compiledScatter : Scatter → CompiledScatter
+compiledScatter s = compiledBy (compileRefusal s) s
+
+-- "4 not tried again"
+abbrev pub compiledAgain : Scatter → CompiledScatter
+compiledAgain s = compiledBy (refusalOf A.Done s) s
 
 -- the scatter that the layouts and the spec in a plan describe
 abbrev pub heldScatter : ScatterPlan → Scatter

@@ -1,14 +1,16 @@
 // The plan of a scatter by value, and compile. The rows of its two walks stand beside it.
 ghost use mathlib.Core.Path.{_≡_};
+ghost use mathlib.Core.Bool.{true};
 ghost use Prim.Native.Nat.{_≤_};
 ghost use lib.ListN.{length};
 ghost use Rattle.indexing.specs.Coordinates.{pick, spread, others};
+ghost use Rattle.layout.specs.Answers.{isDone};
 ghost use Rattle.layout.specs.Layouts.{rankLimit};
 ghost use Rattle.axis_lists.specs.Held.{heldNumbers};
 ghost use Rattle.checks.specs.Values.{totalOr};
-ghost use Rattle.scatter_checks.specs.Refusals.{scatterFrom, batchWalk, windowWalk, Fitting};
-ghost use Rattle.scatter_plan.specs.Plan.{refusedScatter, compiledScatter};
-ghost use Rattle.scatter_plan.specs.Made.{made};
+ghost use Rattle.scatter_checks.specs.Refusals.{scatterFrom};
+ghost use Rattle.scatter_checks.specs.Examine.{Found};
+ghost use Rattle.scatter_plan.specs.Plan.{planOf, refusedScatter, compiledBy, compiledScatter, compiledAgain};
 use axis_lists::Numbers;
 use axis_lists::Steps;
 use integer::CheckedU;
@@ -16,6 +18,7 @@ use layout::Answer;
 use layout::Layout;
 use layout::RAW_FUSED_RANK_LIMIT;
 use replay::WindowReplay;
+use scatter_checks::Examined;
 
 // `windows` is the window's extent on each operand axis, `batches` and `cells` how many batches and cells of a window there are.
 pub struct ScatterPlan {
@@ -119,7 +122,7 @@ fn windows_of(dest: &[u64], updates: &[u64], window: &[u64], inserted: &[u64]) -
     axis_lists::spread_numbers(dest.len(), kept, shape)
 }
 
-// The plan by extents, strides, the spec and the two walks.
+// The plan of a scatter that is not refused, with the walks that compile's checks found.
 fn plan_of(
     index_extents: &[u64],
     index_strides: &[i64],
@@ -134,8 +137,8 @@ fn plan_of(
     from_batch: WindowReplay,
     from_cell: WindowReplay,
 ) -> ScatterPlan
-    requires { ⌜ Fitting (scatterFrom (now «index_extents») (now «index_strides») (now «updates_extents») (now «updates_strides») (now «dest_extents») (now «dest_strides») (now window) (now inserted) (now map) vector) × (length (now window) ≤ rankLimit) × («from_batch» ≡ batchWalk (scatterFrom (now «index_extents») (now «index_strides») (now «updates_extents») (now «updates_strides») (now «dest_extents») (now «dest_strides») (now window) (now inserted) (now map) vector) .replay) × («from_cell» ≡ windowWalk (scatterFrom (now «index_extents») (now «index_strides») (now «updates_extents») (now «updates_strides») (now «dest_extents») (now «dest_strides») (now window) (now inserted) (now map) vector) .replay) ⌝ }
-    ensures { λ r. ⌜ r ≡ made (scatterFrom (now («index_extents» .entry)) (now («index_strides» .entry)) (now («updates_extents» .entry)) (now («updates_strides» .entry)) (now («dest_extents» .entry)) (now («dest_strides» .entry)) (now (window .entry)) (now (inserted .entry)) (now (map .entry)) vector) ⌝ }
+    requires { ⌜ Found (scatterFrom (now «index_extents») (now «index_strides») (now «updates_extents») (now «updates_strides») (now «dest_extents») (now «dest_strides») (now window) (now inserted) (now map) vector) «from_batch» «from_cell» ⌝ }
+    ensures { λ r. ⌜ r ≡ planOf (scatterFrom (now («index_extents» .entry)) (now («index_strides» .entry)) (now («updates_extents» .entry)) (now («updates_strides» .entry)) (now («dest_extents» .entry)) (now («dest_strides» .entry)) (now (window .entry)) (now (inserted .entry)) (now (map .entry)) vector) ⌝ }
 {
     let first = layout::make_layout(index_extents, index_strides);
     let second = layout::make_layout(updates_extents, updates_strides);
@@ -145,8 +148,12 @@ fn plan_of(
     let dest = third.layout;
     let windows = windows_of(dest_extents, updates_extents, window, inserted);
     let stride = axis_lists::stride_at(index_strides, vector);
-    let offsets = gather_plan::component_offsets(stride, map.len());
-    let strides = gather_plan::component_strides(dest, map);
+    let offsets = components::component_offsets(stride, map.len());
+    let entries = components::strides_on(map, dest_strides);
+    let strides = Steps {
+        count: map.len(),
+        entries,
+    };
     let a = axis_lists::numbers_from(window);
     let b = axis_lists::numbers_from(inserted);
     let c = axis_lists::numbers_from(map);
@@ -170,8 +177,9 @@ fn plan_of(
     }
 }
 
-// The plan of a scatter, or its first refusal; 4 is tried where `nested` says so.
-pub fn compile(
+// What compile gives, by what its checks found.
+fn compiled_from(
+    found: Examined,
     index_extents: &[u64],
     index_strides: &[i64],
     updates_extents: &[u64],
@@ -182,23 +190,10 @@ pub fn compile(
     inserted_window_dims: &[u64],
     scatter_dims_to_operand_dims: &[u64],
     index_vector_dim: u64,
-    nested: bool,
 ) -> CompiledScatter
-    ensures { λ r. ⌜ r ≡ compiledScatter nested (scatterFrom (now («index_extents» .entry)) (now («index_strides» .entry)) (now («updates_extents» .entry)) (now («updates_strides» .entry)) (now («dest_extents» .entry)) (now («dest_strides» .entry)) (now («update_window_dims» .entry)) (now («inserted_window_dims» .entry)) (now («scatter_dims_to_operand_dims» .entry)) «index_vector_dim») ⌝ }
+    requires { ⌜ (isDone (found .answer) ≡ true → Found (scatterFrom (now «index_extents») (now «index_strides») (now «updates_extents») (now «updates_strides») (now «dest_extents») (now «dest_strides») (now «update_window_dims») (now «inserted_window_dims») (now «scatter_dims_to_operand_dims») «index_vector_dim») (found .batch) (found .window)) ⌝ }
+    ensures { λ r. ⌜ r ≡ compiledBy (found .answer) (scatterFrom (now («index_extents» .entry)) (now («index_strides» .entry)) (now («updates_extents» .entry)) (now («updates_strides» .entry)) (now («dest_extents» .entry)) (now («dest_strides» .entry)) (now («update_window_dims» .entry)) (now («inserted_window_dims» .entry)) (now («scatter_dims_to_operand_dims» .entry)) «index_vector_dim») ⌝ }
 {
-    let found = scatter_checks::examine(
-        index_extents,
-        index_strides,
-        updates_extents,
-        updates_strides,
-        dest_extents,
-        dest_strides,
-        update_window_dims,
-        inserted_window_dims,
-        scatter_dims_to_operand_dims,
-        index_vector_dim,
-        nested,
-    );
     let answer = found.answer;
     if !layout::is_done(answer) {
         return refused(answer);
@@ -220,4 +215,88 @@ pub fn compile(
         from_cell,
     );
     CompiledScatter { answer, plan }
+}
+
+// The plan of a scatter, or its first refusal.
+pub fn compile(
+    index_extents: &[u64],
+    index_strides: &[i64],
+    updates_extents: &[u64],
+    updates_strides: &[i64],
+    dest_extents: &[u64],
+    dest_strides: &[i64],
+    update_window_dims: &[u64],
+    inserted_window_dims: &[u64],
+    scatter_dims_to_operand_dims: &[u64],
+    index_vector_dim: u64,
+) -> CompiledScatter
+    ensures { λ r. ⌜ r ≡ compiledScatter (scatterFrom (now («index_extents» .entry)) (now («index_strides» .entry)) (now («updates_extents» .entry)) (now («updates_strides» .entry)) (now («dest_extents» .entry)) (now («dest_strides» .entry)) (now («update_window_dims» .entry)) (now («inserted_window_dims» .entry)) (now («scatter_dims_to_operand_dims» .entry)) «index_vector_dim») ⌝ }
+{
+    let found = scatter_checks::examine(
+        index_extents,
+        index_strides,
+        updates_extents,
+        updates_strides,
+        dest_extents,
+        dest_strides,
+        update_window_dims,
+        inserted_window_dims,
+        scatter_dims_to_operand_dims,
+        index_vector_dim,
+    );
+    compiled_from(
+        found,
+        index_extents,
+        index_strides,
+        updates_extents,
+        updates_strides,
+        dest_extents,
+        dest_strides,
+        update_window_dims,
+        inserted_window_dims,
+        scatter_dims_to_operand_dims,
+        index_vector_dim,
+    )
+}
+
+// The same at a call, where 4 is not tried again.
+pub fn compile_again(
+    index_extents: &[u64],
+    index_strides: &[i64],
+    updates_extents: &[u64],
+    updates_strides: &[i64],
+    dest_extents: &[u64],
+    dest_strides: &[i64],
+    update_window_dims: &[u64],
+    inserted_window_dims: &[u64],
+    scatter_dims_to_operand_dims: &[u64],
+    index_vector_dim: u64,
+) -> CompiledScatter
+    ensures { λ r. ⌜ r ≡ compiledAgain (scatterFrom (now («index_extents» .entry)) (now («index_strides» .entry)) (now («updates_extents» .entry)) (now («updates_strides» .entry)) (now («dest_extents» .entry)) (now («dest_strides» .entry)) (now («update_window_dims» .entry)) (now («inserted_window_dims» .entry)) (now («scatter_dims_to_operand_dims» .entry)) «index_vector_dim») ⌝ }
+{
+    let found = scatter_checks::examine_again(
+        index_extents,
+        index_strides,
+        updates_extents,
+        updates_strides,
+        dest_extents,
+        dest_strides,
+        update_window_dims,
+        inserted_window_dims,
+        scatter_dims_to_operand_dims,
+        index_vector_dim,
+    );
+    compiled_from(
+        found,
+        index_extents,
+        index_strides,
+        updates_extents,
+        updates_strides,
+        dest_extents,
+        dest_strides,
+        update_window_dims,
+        inserted_window_dims,
+        scatter_dims_to_operand_dims,
+        index_vector_dim,
+    )
 }

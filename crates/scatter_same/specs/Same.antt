@@ -1,5 +1,5 @@
 -- Whether two plans are the same, and whether a plan is compiled. Definitions only.
-use mathlib.Core.Bool.{Bool, false, _&&_}
+use mathlib.Core.Bool.{Bool, _&&_}
 use mathlib.Core.List.{List}
 use lib.Dec.{eqb}
 use lib.IntN.{ℤ}
@@ -11,7 +11,7 @@ use Rattle.replay.specs.declared.ReplaySpans.{ReplaySpans}
 use Rattle.replay.specs.declared.WindowReplay.{WindowReplay}
 use Rattle.replay.specs.Replays.{rowsOf}
 use Rattle.scatter_plan.specs.declared.ScatterPlan.{ScatterPlan}
-use Rattle.scatter_plan.specs.Plan.{compiledScatter, heldScatter}
+use Rattle.scatter_plan.specs.Plan.{compiledAgain, heldScatter}
 
 -- field by field, arrays past their counts as well: an axis of a walk, its spans, the walk
 unfoldable pub sameStep : WindowReplayAxis → WindowReplayAxis → Bool
@@ -64,4 +64,4 @@ hasRows p b w = sameRows b (rowsOf (p .batch .axes)) && sameRows w (rowsOf (p .w
 -- "the plan is .. what compile gives for the layouts and spec in it, 4 not tried again", and the rows are those of its walks
 unfoldable pub isCompiled : ScatterPlan → List (List ℤ) → List (List ℤ) → Bool
 isCompiled p b w =
-    isDone (compiledScatter false (heldScatter p) .answer) && (samePlan p (compiledScatter false (heldScatter p) .plan) && hasRows p b w)
+    isDone (compiledAgain (heldScatter p) .answer) && (samePlan p (compiledAgain (heldScatter p) .plan) && hasRows p b w)

@@ -1,10 +1,9 @@
 // Whether a plan of a scatter is what compile gives, with the rows of its two walks: the test for the same plan, and compiling
 // again what a plan holds.
 ghost use mathlib.Core.Path.{_≡_};
-ghost use mathlib.Core.Bool.{false};
 ghost use Rattle.integer.specs.Defs.{eqZ};
 ghost use Rattle.equality.specs.Same.{sameBy};
-ghost use Rattle.scatter_plan.specs.Plan.{compiledScatter, heldScatter};
+ghost use Rattle.scatter_plan.specs.Plan.{compiledAgain, heldScatter};
 ghost use Rattle.scatter_same.specs.Same.{sameStep, sameSpans, sameReplay, sameRows, sameLayouts, sameSpec, sameWalks, sameStarts, samePlan, hasRows, isCompiled};
 use layout::RAW_FUSED_RANK_LIMIT;
 use replay::ReplaySpans;
@@ -189,7 +188,7 @@ fn has_rows(
 
 // What compile gives for the layouts and spec in a plan, 4 not tried again.
 pub fn compiled_again(plan: ScatterPlan) -> CompiledScatter
-    ensures { λ r. ⌜ r ≡ compiledScatter false (heldScatter plan) ⌝ }
+    ensures { λ r. ⌜ r ≡ compiledAgain (heldScatter plan) ⌝ }
 {
     let index = plan.index;
     let updates = plan.updates;
@@ -212,7 +211,7 @@ pub fn compiled_again(plan: ScatterPlan) -> CompiledScatter
     let u = layout::axis_count(window.count);
     let v = layout::axis_count(inserted.count);
     let w = layout::axis_count(map.count);
-    scatter_plan::compile(
+    scatter_plan::compile_again(
         &index_extents[0..n],
         &index_strides[0..n],
         &updates_extents[0..m],
@@ -223,7 +222,6 @@ pub fn compiled_again(plan: ScatterPlan) -> CompiledScatter
         &inserted_axes[0..v],
         &mapped_axes[0..w],
         plan.index_vector_dim,
-        false,
     )
 }
 

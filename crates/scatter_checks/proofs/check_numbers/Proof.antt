@@ -14,9 +14,6 @@ check-total-requires-3 c κs = search needs
 check-span-requires : tie.Need-check-span-requires
 check-span-requires c κs = search needs
 
-check-nested-requires : tie.Need-check-nested-requires
-check-nested-requires c κs = search needs
-
 or-else-requires : tie.Need-or-else-requires
 or-else-requires c κs = search needs
 
@@ -26,11 +23,8 @@ or-else-requires-2 c κs = search needs
 or-else-requires-3 : tie.Need-or-else-requires-3
 or-else-requires-3 c κs = search needs
 
-or-else-requires-4 : tie.Need-or-else-requires-4
-or-else-requires-4 c κs = search needs
-
 returns : tie.Need-returns
-returns c = rw (c .or-else4 .ensures, c .before .or-else3 .ensures, c .before .before .or-else2 .ensures, c .before .before .before .or-else .ensures, c .before .before .before .before .check-nested .ensures, c .before .before .before .before .before .check-span .ensures, c .before .before .before .before .before .before .check-total3 .ensures, c .before .before .before .before .before .before .before .check-total2 .ensures, c .before .before .before .before .before .before .before .before .check-total .ensures)
+returns c = rw (c .or-else3 .ensures, c .before .or-else2 .ensures, c .before .before .or-else .ensures, c .before .before .before .check-span .ensures, c .before .before .before .before .check-total3 .ensures, c .before .before .before .before .before .check-total2 .ensures, c .before .before .before .before .before .before .check-total .ensures)
 
 pub check-numbers-spec : {M : Type 1} → statement M
 check-numbers-spec =
@@ -40,9 +34,7 @@ check-numbers-spec =
     check-total-requires-2
     check-total-requires-3
     check-span-requires
-    check-nested-requires
     or-else-requires
     or-else-requires-2
     or-else-requires-3
-    or-else-requires-4
     returns)

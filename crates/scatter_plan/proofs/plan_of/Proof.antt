@@ -1,25 +1,24 @@
 use mathlib.Core.Path.{ap, _∙_}
-use mathlib.Core.List.{List}
 use Prim.Native.Nat.{min}
-use lib.ListN.{length, take}
-use lib.IntN.{ℤ, pos}
+use borrow.Author.Needs.{needs}
+use lib.ListN.{length}
+use lib.IntN.{ℤ}
 use mir.Syntax.{w64}
 use mir.Val.{SFits}
 use Rattle.integer.specs.Z.{back}
-use Rattle.indexing.specs.Coordinates.{pick, tabulate}
-use Rattle.indexing.specs.Scatter.{scatterDims, windowDims, batchShape, windowShape, windows}
+use Rattle.indexing.specs.Coordinates.{tabulate}
+use Rattle.indexing.specs.Scatter.{Scatter}
 use Rattle.layout.specs.Layouts.{rankLimit}
 use Rattle.axis_lists.specs.Held.{heldSteps}
-use Rattle.checks.proofs.Made as M
 use Rattle.checks.specs.Values.{offsetOr}
-use Rattle.checks.proofs.Fits.{strides-yes, rank-yes}
-use Rattle.scatter_plan.specs.Made.{made}
-use borrow.Author.Needs.{needs}
+use Rattle.scatter_checks.specs.Refusals.{scatterFrom}
+use Rattle.scatter_plan.proofs.Planned.{fits, plan-is}
 use Rattle.scatter_plan.proofs.plan_of.Statement.{statement}
 use Rattle.scatter_plan.proofs.plan_of.Tie as tie
 
-fit : (w : tie.After-stride-at) → SFits w64 (w .stride-at .result)
-fit w = search needs
+-- the scatter of the arguments
+abbrev asked : tie.Start → Scatter
+asked s = scatterFrom (s .args .index-extents .now) (s .args .index-strides .now) (s .args .updates-extents .now) (s .args .updates-strides .now) (s .args .dest-extents .now) (s .args .dest-strides .now) (s .args .window .now) (s .args .inserted .now) (s .args .map .now) (s .args .vector)
 
 make-layout-requires : tie.Need-make-layout-requires
 make-layout-requires c κs = search needs
@@ -31,7 +30,7 @@ make-layout-requires-3 : tie.Need-make-layout-requires-3
 make-layout-requires-3 c κs = search needs
 
 windows-of-requires : tie.Need-windows-of-requires
-windows-of-requires c κs = search needs
+windows-of-requires c κs = let s = c .before .before .before .before .before .before .before .before .before .before .before .before in (fits (asked s) _ _ (s .pre) .dest-rank, fits (asked s) _ _ (s .pre) .window-few)
 
 stride-at-requires : tie.Need-stride-at-requires
 stride-at-requires c κs = search needs
@@ -39,8 +38,8 @@ stride-at-requires c κs = search needs
 component-offsets-requires : tie.Need-component-offsets-requires
 component-offsets-requires c κs = search needs
 
-component-strides-requires : tie.Need-component-strides-requires
-component-strides-requires c κs = search needs
+strides-on-requires : tie.Need-strides-on-requires
+strides-on-requires c κs = search needs
 
 numbers-from-requires : tie.Need-numbers-from-requires
 numbers-from-requires c κs = search needs
@@ -52,44 +51,17 @@ numbers-from-requires-3 : tie.Need-numbers-from-requires-3
 numbers-from-requires-3 c κs = search needs
 
 batch-count-requires : tie.Need-batch-count-requires
-batch-count-requires c κs = c .before .before .before .before .before .before .before .before .before .before .before .before .before .before .before .before .before .before .before .pre .0 .updates-few
+batch-count-requires c κs = let s = c .before .before .before .before .before .before .before .before .before .before .before .before .before .before .before .before .before .before .before in fits (asked s) _ _ (s .pre) .updates-rank
 
 product-value-requires : tie.Need-product-value-requires
-product-value-requires c κs = c .before .before .before .before .before .before .before .before .before .before .before .before .before .before .before .before .before .before .before .before .pre .1
+product-value-requires c κs = let s = c .before .before .before .before .before .before .before .before .before .before .before .before .before .before .before .before .before .before .before .before in fits (asked s) _ _ (s .pre) .window-few
 
 returns : tie.Need-returns
-unfolding made batchShape windowShape windows scatterDims windowDims
 returns c =
     let s = c .before .before .before .before .before .before .before .before .before .before .before .before .before .before .before .before .before .before .before .before .before in
-    let f = s .pre .0 in
-    let i = M.made (s .args .index-extents .now) (s .args .index-strides .now) (c .before .before .before .before .before .before .before .before .before .before .before .before .before .before .make-layout .result) (c .before .before .before .before .before .before .before .before .before .before .before .before .before .before .make-layout .ensures) (strides-yes _ _ (f .index)) (rank-yes _ (f .index-few)) in
-    let u = M.made (s .args .updates-extents .now) (s .args .updates-strides .now) (c .before .before .before .before .before .before .before .before .before .before .before .before .before .make-layout2 .result) (c .before .before .before .before .before .before .before .before .before .before .before .before .before .make-layout2 .ensures) (strides-yes _ _ (f .updates)) (rank-yes _ (f .updates-few)) in
-    let d = M.made (s .args .dest-extents .now) (s .args .dest-strides .now) (c .before .before .before .before .before .before .before .before .before .before .before .before .make-layout3 .result) (c .before .before .before .before .before .before .before .before .before .before .before .before .make-layout3 .ensures) (strides-yes _ _ (f .dest)) (rank-yes _ (f .dest-few)) in
-    let t = M.made-strides (s .args .dest-extents .now) (s .args .dest-strides .now) (c .before .before .before .before .before .before .before .before .before .before .before .before .make-layout3 .result) (c .before .before .before .before .before .before .before .before .before .before .before .before .make-layout3 .ensures) (strides-yes _ _ (f .dest)) (rank-yes _ (f .dest-few)) in
-    let w = c .before .before .before .before .before .before .before .before .windows-of .ensures in
-    let o = c .before .before .before .before .before .before .component-offsets .ensures ∙ ap (λ (z : ℤ). heldSteps (tabulate (min (length (s .args .map .now)) rankLimit) (offsetOr z))) (back (fit (c .before .before .before .before .before .before .before)) ∙ c .before .before .before .before .before .before .before .stride-at .ensures) in
-    let r = c .before .before .before .before .before .component-strides .ensures ∙ ap (λ (l : List ℤ). heldSteps (pick (pos 0) (take rankLimit (s .args .map .now)) l)) t in
-    let x = c .before .before .before .before .numbers-from .ensures in
-    let y = c .before .before .before .numbers-from2 .ensures in
-    let z = c .before .before .numbers-from3 .ensures in
-    let b = c .before .batch-count .ensures in
-    let n = c .product-value .ensures in
-    λ j. record {
-      index = i j;
-      updates = u j;
-      dest = d j;
-      «update_window_dims» = x j;
-      «inserted_window_dims» = y j;
-      «scatter_dims_to_operand_dims» = z j;
-      «index_vector_dim» = s .args .vector;
-      batch = s .pre .2 j;
-      window = s .pre .3 j;
-      windows = w j;
-      «component_offsets» = o j;
-      «component_strides» = r j;
-      batches = b j;
-      cells = n j;
-    }
+    let f : SFits w64 (c .before .before .before .before .before .before .before .stride-at .result) = search needs in
+    let o = c .before .before .before .before .before .before .component-offsets .ensures ∙ ap (λ (z : ℤ). heldSteps (tabulate (min (length (s .args .map .now)) rankLimit) (offsetOr z))) (back f ∙ c .before .before .before .before .before .before .before .stride-at .ensures) in
+    plan-is (asked s) (s .args .from-batch) (s .args .from-cell) (s .pre) _ _ _ _ _ _ _ _ _ _ _ (c .before .before .before .before .before .before .before .before .before .before .before .before .before .before .make-layout .ensures) (c .before .before .before .before .before .before .before .before .before .before .before .before .before .make-layout2 .ensures) (c .before .before .before .before .before .before .before .before .before .before .before .before .make-layout3 .ensures) (c .before .before .before .before .before .before .before .before .windows-of .ensures) o (c .before .before .before .before .before .strides-on .ensures) (c .before .before .before .before .numbers-from .ensures) (c .before .before .before .numbers-from2 .ensures) (c .before .before .numbers-from3 .ensures) (c .before .batch-count .ensures) (c .product-value .ensures)
 
 pub plan-of-spec : {M : Type 1} → statement M
 plan-of-spec =
@@ -101,7 +73,7 @@ plan-of-spec =
     windows-of-requires
     stride-at-requires
     component-offsets-requires
-    component-strides-requires
+    strides-on-requires
     numbers-from-requires
     numbers-from-requires-2
     numbers-from-requires-3

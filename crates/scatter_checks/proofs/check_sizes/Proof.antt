@@ -1,0 +1,35 @@
+use mathlib.Core.Path.{sym, ap, _∙_}
+use borrow.Author.Needs.{needs}
+use lib.ListN.{length}
+use borrow.Author.Tests.{not-true, not-false}
+use Rattle.layout.specs.Answers.{isDone}
+use Rattle.layout.proofs.First.{stops, goes}
+use Rattle.checks.proofs.Held.{lengths-pass}
+use Rattle.scatter_checks.specs.Refusals.{sizesRefusal}
+use Rattle.scatter_checks.proofs.check_sizes.Statement.{statement}
+use Rattle.scatter_checks.proofs.check_sizes.Tie as tie
+
+check-layouts-requires : tie.Need-check-layouts-requires
+check-layouts-requires c κs = search needs
+
+is-done-requires : tie.Need-is-done-requires
+is-done-requires c κs = search needs
+
+returns : tie.Need-returns
+unfolding sizesRefusal
+returns c = stops _ (c .before .before .check-layouts .ensures) (c .before .is-done .ensures) (not-true _ (c .if1 .taken))
+
+check-numbers-requires : tie.Need-check-numbers-requires
+check-numbers-requires c κs =
+    let s = c .before .before .before .before .before .before in
+    lengths-pass (length (s .args .ie .now)) (length (s .args .is .now)) (length (s .args .ue .now)) (length (s .args .us .now)) (length (s .args .de .now)) (length (s .args .ds .now))
+    (ap isDone (sym (c .before .before .check-layouts .ensures)) ∙ sym (c .before .is-done .ensures) ∙ not-false _ (c .if1 .left)) .dest
+
+returns-2 : tie.Need-returns-2
+unfolding sizesRefusal
+returns-2 c = goes (c .before .before .before .check-layouts .ensures) (c .before .before .is-done .ensures) (not-false _ (c .before .if1 .left)) (c .check-numbers .ensures)
+
+pub check-sizes-spec : {M : Type 1} → statement M
+check-sizes-spec =
+    tie.close
+    (tie.spec check-layouts-requires is-done-requires returns check-numbers-requires returns-2)

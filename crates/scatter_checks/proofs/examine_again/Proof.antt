@@ -1,0 +1,41 @@
+use mathlib.Core.Path.{sym, ap, _∙_}
+use borrow.Author.Needs.{needs}
+use borrow.Author.Tests.{not-true, not-false}
+use Rattle.layout.specs.Answers.{isDone}
+use Rattle.layout.proofs.First.{stops}
+use Rattle.checks.proofs.Held.{never}
+use Rattle.scatter_checks.proofs.examine_again.Statement.{statement}
+use Rattle.scatter_checks.proofs.examine_again.Tie as tie
+
+check-sizes-requires : tie.Need-check-sizes-requires
+check-sizes-requires c κs = search needs
+
+is-done-requires : tie.Need-is-done-requires
+is-done-requires c κs = search needs
+
+unexamined-requires : tie.Need-unexamined-requires
+unexamined-requires c κs = search needs
+
+returns : tie.Need-returns
+returns c =
+    let e = c .unexamined .ensures in
+    let f = c .before .before .is-done .ensures in
+    let g = not-true _ (c .before .if1 .taken) in
+    record { answered = e ∙ stops _ (c .before .before .before .check-sizes .ensures) f g; found = λ d. never (sym d ∙ ap isDone e ∙ sym f ∙ g) }
+
+examine-from-requires : tie.Need-examine-from-requires
+examine-from-requires c κs = ap isDone (sym (c .before .before .check-sizes .ensures)) ∙ sym (c .before .is-done .ensures) ∙ not-false _ (c .if1 .left)
+
+returns-2 : tie.Need-returns-2
+returns-2 c = c .examine-from .ensures
+
+pub examine-again-spec : {M : Type 1} → statement M
+examine-again-spec =
+    tie.close
+    (tie.spec
+    check-sizes-requires
+    is-done-requires
+    unexamined-requires
+    returns
+    examine-from-requires
+    returns-2)

@@ -1,0 +1,15 @@
+use borrow.Author.Needs.{needs}
+use Rattle.scatter_plan.proofs.compile_again.Statement.{statement}
+use Rattle.scatter_plan.proofs.compile_again.Tie as tie
+
+examine-again-requires : tie.Need-examine-again-requires
+examine-again-requires c κs = search needs
+
+compiled-from-requires : tie.Need-compiled-from-requires
+compiled-from-requires c κs = c .examine-again .ensures .found
+
+returns : tie.Need-returns
+returns c = rw (c .compiled-from .ensures, c .before .examine-again .ensures .answered)
+
+pub compile-again-spec : {M : Type 1} → statement M
+compile-again-spec = tie.close (tie.spec examine-again-requires compiled-from-requires returns)
