@@ -148,7 +148,7 @@ fn run_f64(p: PreparedGather, source: &[f64], starts: &[i64], into: &mut [f64], 
     let offsets = numbers.offsets;
     let strides = numbers.strides;
     let limits = numbers.limits;
-    gather_windows_f64::gather_window_f64(
+    gather_windows_f64::gather_window(
         source,
         starts,
         into,

@@ -13,8 +13,8 @@ use Rattle.gather_move.proofs.run_f64.Tie as tie
 bases : (s : tie.Start) → SFits w64 (s .args .p .operand) × SFits w64 (s .args .p .index)
 bases s = (search needs, search needs)
 
-gather-window-f64-requires : tie.Need-gather-window-f64-requires
-gather-window-f64-requires c κs = let s = c .before .before .before .before .before .before .before .before .before .before .before .before .before .before .before .before .before .before .before .before in simp (back (bases s .0), back (bases s .1), back (s .fits .at)) (s .pre)
+gather-window-requires : tie.Need-gather-window-requires
+gather-window-requires c κs = let s = c .before .before .before .before .before .before .before .before .before .before .before .before .before .before .before .before .before .before .before .before in simp (back (bases s .0), back (bases s .1), back (s .fits .at)) (s .pre)
 
 same-length : tie.Need-same-length
 same-length c = search needs
@@ -23,7 +23,7 @@ returns : tie.Need-returns
 returns c =
     let s = c .before .before .before .before .before .before .before .before .before .before .before .before .before .before .before .before .before .before .before .before .before .before .before in
     let w = s .args .p .numbers in
-    back-end nan (ruleF64 R.Copy) (s .args .source .now) (s .args .starts .now) (w .offsets) (w .strides) (w .limits) (w .count) (s .args .p .operand) (s .args .p .index) (s .args .at) (w .extents) (w .«window_steps») (w .«batch_steps») (w .«dest_steps») (w .rank) (s .args .into .now) _ (bases s .0) (bases s .1) (s .fits .at) (c .before .before .gather-window-f64 .ensures)
+    back-end nan (ruleF64 R.Copy) (s .args .source .now) (s .args .starts .now) (w .offsets) (w .strides) (w .limits) (w .count) (s .args .p .operand) (s .args .p .index) (s .args .at) (w .extents) (w .«window_steps») (w .«batch_steps») (w .«dest_steps») (w .rank) (s .args .into .now) _ (bases s .0) (bases s .1) (s .fits .at) (c .before .before .gather-window .ensures)
 
 pub run-f64-spec : {M : Type 1} → statement M
-run-f64-spec = tie.close (tie.spec gather-window-f64-requires same-length returns)
+run-f64-spec = tie.close (tie.spec gather-window-requires same-length returns)

@@ -22,7 +22,7 @@ use Rattle.replay.specs.Replays.{noAxis, compiledReplay, extents, sources, dest
 use Rattle.replay.specs.Merging.{IsReset, AllReset, Meets, IsDone, compiled-done}
 use Rattle.windows.specs.Windows.{placeAt}
 use Rattle.components.proofs.Padded.{padded-entry}
-use Rattle.scatter_walk.specs.Walks.{stepsAt}
+use Rattle.scatter_move.specs.Prepared.{stepsAt}
 
 take-map : {A B : Type 0} (f : A → B) (n : ℕ) (l : List A) → take n (map f l) ≡ map f (take n l)
 take-map f zero l = refl

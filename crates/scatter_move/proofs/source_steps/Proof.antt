@@ -12,9 +12,9 @@ use Rattle.indexing.specs.Cuts.{length-tabulate, getD-tabulate}
 use Rattle.layout.specs.Layouts.{rankLimit}
 use Rattle.axis_lists.proofs.Filling.{written, one-written, all-written}
 use Rattle.components.proofs.Padded.{full}
-use Rattle.scatter_walk.specs.Walks.{stepsAt}
-use Rattle.scatter_walk.proofs.source_steps.Statement.{statement}
-use Rattle.scatter_walk.proofs.source_steps.Tie as tie
+use Rattle.scatter_move.specs.Prepared.{stepsAt}
+use Rattle.scatter_move.proofs.source_steps.Statement.{statement}
+use Rattle.scatter_move.proofs.source_steps.Tie as tie
 
 abbrev Inv-loop : tie.InvT-loop
 Inv-loop rows out₀ i₀ out i = (i ≤ rankLimit) × (out ≡ written (pos 0) (stepsAt 0 rows) i)

@@ -1,0 +1,6 @@
+pub mod Merged
+pub mod Numbers
+pub mod Moving
+pub mod Rowed
+pub mod Parts
+pub mod Empty

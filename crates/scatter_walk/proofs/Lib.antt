@@ -1,5 +1,0 @@
-pub mod Merged
-pub mod Planned
-pub mod Walking
-pub mod Rowed
-pub mod Parts

@@ -1,2 +1,0 @@
--- what a plan's walks are run with
-pub mod Walks
