@@ -1,2 +1,2 @@
--- what a reader must believe: what a call answers, and what it leaves
+-- what a reader must believe: what a call with a plan answers
 pub mod Calls

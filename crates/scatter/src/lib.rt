@@ -1,23 +1,70 @@
-// Scatter: the calls. A call takes a plan by value with the rows of its two walks, made by compile or by anyone, the three views and
-// their slices. It answers 8 where the plan, its rows or a layout does not fit, then 9 for each view in turn; otherwise it is done.
+// Scatter: the calls with a plan. A call takes a plan by value with the rows of its two walks, made by compile or by anyone, the three
+// views and their slices. It answers 8 where the plan, its rows or a layout does not fit, then 9 for each view in turn; otherwise it
+// is done.
 ghost use mathlib.Core.Path.{_≡_};
 ghost use mathlib.Core.Bool.{true};
 ghost use lib.Ieee.{nan};
 ghost use lib.IntN.{pos};
-ghost use lib.ListN.{length};
-ghost use Rattle.indexing.specs.Scatter.{cuts, combined, scatteredI32, scatteredF64};
-ghost use Rattle.runs.specs.Runs.{ruleI32, ruleF64};
-ghost use Rattle.runs.specs.declared.Rule.the-variants as R;
+ghost use Rattle.indexing.specs.Scatter.{addI32, addF64};
+ghost use Rattle.calls.specs.Calls.{asIs, Scatters};
+ghost use Rattle.scatter_plan.specs.Plan.{heldScatter};
 ghost use Rattle.scatter_same.specs.Same.{isCompiled};
-ghost use Rattle.scatter_walk.specs.Walks.{scatterAt, Reached};
-ghost use Rattle.scatter.specs.Calls.{planFits, callAnswer, Called};
+ghost use Rattle.scatter_move.specs.Prepared.{scatterNumbers, Prepares};
+ghost use Rattle.scatter.specs.Calls.{scatterOf, planFits, callAnswer, byPlan};
 use layout::Answer;
 use layout::RAW_FUSED_RANK_LIMIT;
-use layout::Reach;
 use layout::View;
+use runs::Rule;
+use scatter_move::PreparedScatter;
+use scatter_move::ScatterNumbers;
 use scatter_plan::ScatterPlan;
 
-// Whether the views have the plan's layouts, and plan and rows are what compile gives; that is not tried where it is known.
+// The numbers that the batches and the windows of a plan are moved with.
+fn numbers_of(
+    plan: ScatterPlan,
+    batch_rows: [[i64; 4]; RAW_FUSED_RANK_LIMIT],
+    window_rows: [[i64; 4]; RAW_FUSED_RANK_LIMIT],
+) -> ScatterNumbers
+    requires { ⌜ isCompiled plan «batch_rows» «window_rows» ≡ true ⌝ }
+    ensures { λ r. ⌜ r ≡ scatterNumbers (heldScatter plan) ⌝ }
+{
+    let batch = plan.batch;
+    let window = plan.window;
+    let dest = plan.dest;
+    let map = plan.scatter_dims_to_operand_dims;
+    let windows = plan.windows;
+    let component_offsets = plan.component_offsets;
+    let component_strides = plan.component_strides;
+    let batch_axes = batch.axes;
+    let window_axes = window.axes;
+    let batch_extents = replay::shape_of(batch_axes);
+    let window_extents = replay::shape_of(window_axes);
+    let index = scatter_move::source_steps(batch_rows);
+    let stepped = components::unless_none(map.count, index);
+    let update_steps = scatter_move::dest_steps(batch_rows);
+    let window_steps = scatter_move::source_steps(window_rows);
+    let steps = scatter_move::dest_steps(window_rows);
+    let limits = components::limits_of(dest, windows, map);
+    let offsets = component_offsets.entries;
+    let strides = component_strides.entries;
+    ScatterNumbers {
+        batch_rank: batch.rank,
+        batches: plan.batches,
+        batch_extents,
+        index_steps: stepped,
+        update_steps,
+        window_rank: window.rank,
+        window_extents,
+        window_steps,
+        dest_steps: steps,
+        count: map.count,
+        offsets,
+        strides,
+        limits,
+    }
+}
+
+// Whether the views have the plan's layouts, and plan and rows are what compile gives.
 fn plan_fits(
     plan: ScatterPlan,
     batch_rows: [[i64; 4]; RAW_FUSED_RANK_LIMIT],
@@ -25,10 +72,8 @@ fn plan_fits(
     index: View,
     updates: View,
     dest: View,
-    known: bool,
 ) -> bool
-    requires { ⌜ (known ≡ true → isCompiled plan «batch_rows» «window_rows» ≡ true) ⌝ }
-    ensures { λ r. ⌜ r ≡ planFits plan «batch_rows» «window_rows» index updates dest ⌝ }
+    ensures { λ r. ⌜ r ≡ planFits plan «batch_rows» «window_rows» (scatterOf plan index updates dest) ⌝ }
 {
     let a = index.layout;
     let b = updates.layout;
@@ -36,138 +81,56 @@ fn plan_fits(
     let x = plan.index;
     let y = plan.updates;
     let z = plan.dest;
-    if !equality::same_layout(a, x) {
-        return false;
+    let first = calls::same_layout(a, x);
+    let second = calls::same_layout(b, y);
+    let third = calls::same_layout(c, z);
+    let views = equality::both(first, equality::both(second, third));
+    if views {
+        scatter_same::is_compiled(plan, batch_rows, window_rows)
+    } else {
+        false
     }
-    if !equality::same_layout(b, y) {
-        return false;
-    }
-    if !equality::same_layout(c, z) {
-        return false;
-    }
-    if known {
-        return true;
-    }
-    scatter_same::is_compiled(plan, batch_rows, window_rows)
 }
 
-// What a call answers, given the lengths of the three slices.
-pub fn check_call(
+// What a call decides before it touches an element, given the lengths of the three slices.
+fn prepare(
     plan: ScatterPlan,
     batch_rows: [[i64; 4]; RAW_FUSED_RANK_LIMIT],
     window_rows: [[i64; 4]; RAW_FUSED_RANK_LIMIT],
     index: View,
     updates: View,
     dest: View,
-    known: bool,
     starts_len: usize,
     updates_len: usize,
     dest_len: usize,
-) -> Answer
-    requires { ⌜ (known ≡ true → isCompiled plan «batch_rows» «window_rows» ≡ true) ⌝ }
-    ensures { λ r. ⌜ r ≡ callAnswer plan «batch_rows» «window_rows» index updates dest «starts_len» «updates_len» «dest_len» ⌝ }
+) -> PreparedScatter
+    ensures { λ r. ⌜ Prepares r (callAnswer plan «batch_rows» «window_rows» (scatterOf plan index updates dest) «starts_len» «updates_len» «dest_len») (scatterOf plan index updates dest) «starts_len» «updates_len» «dest_len» ⌝ }
 {
-    let fits = plan_fits(plan, batch_rows, window_rows, index, updates, dest, known);
-    let eight = gather::check_plan(fits);
+    let fits = plan_fits(plan, batch_rows, window_rows, index, updates, dest);
+    let eight = calls::check_plan(fits);
     let x = spans::view_reach(index, starts_len);
     let y = spans::view_reach(updates, updates_len);
     let z = spans::view_reach(dest, dest_len);
-    let a = layout::check_reach(x, 1);
-    let b = layout::check_reach(y, 2);
-    let c = layout::check_reach(z, 3);
-    let views = checks::or_else(a, checks::or_else(b, c));
-    checks::or_else(eight, views)
-}
-
-// The scatter where the destination has cells, from the index low to the index high: it is lent on as that part.
-fn cells_i32(
-    plan: ScatterPlan,
-    batch_rows: [[i64; 4]; RAW_FUSED_RANK_LIMIT],
-    window_rows: [[i64; 4]; RAW_FUSED_RANK_LIMIT],
-    starts: &[i64],
-    source: &[i32],
-    into: &mut [i32],
-    t: i64,
-    u: i64,
-    d: i64,
-    low: usize,
-    high: usize,
-)
-    requires { ⌜ Reached plan «batch_rows» «window_rows» t u d low high (length (now starts)) (length (now source)) (length (now into)) ⌝ }
-    ensures { λ _. ⌜ now (into .exit) ≡ combined (ruleI32 R.Add) (pos 0) (cuts (pos 0) (scatterAt plan t u d) (now (starts .entry)) (now (source .entry))) (now (into .entry)) ⌝ }
-{
-    let end = high + 1;
-    let walk = scatter_walk::walk_of(plan, batch_rows, window_rows);
-    let base = gather_walk::start_base(walk.count, t);
-    let from = low as i64;
-    let at = d - from;
-    scatter_walk::run_i32(
-        walk,
-        batch_rows,
-        starts,
-        source,
-        &mut into[low..end],
-        base,
-        u,
-        at,
-    );
-}
-
-// A scatter of i32 with a plan and rows that are known to be what compile gives, or with any.
-pub fn call_i32(
-    plan: ScatterPlan,
-    batch_rows: [[i64; 4]; RAW_FUSED_RANK_LIMIT],
-    window_rows: [[i64; 4]; RAW_FUSED_RANK_LIMIT],
-    index: View,
-    updates: View,
-    dest: View,
-    known: bool,
-    starts: &[i64],
-    source: &[i32],
-    into: &mut [i32],
-) -> Answer
-    requires { ⌜ (known ≡ true → isCompiled plan «batch_rows» «window_rows» ≡ true) ⌝ }
-    ensures { λ r. ⌜ Called scatteredI32 plan «batch_rows» «window_rows» index updates dest (now (starts .entry)) (now (source .entry)) (now (into .entry)) (now (into .exit)) r ⌝ }
-{
-    let answer = check_call(
-        plan,
-        batch_rows,
-        window_rows,
-        index,
-        updates,
-        dest,
-        known,
-        starts.len(),
-        source.len(),
-        into.len(),
-    );
+    let nine = calls::check_bounds(x, y, z);
+    let answer = checks::or_else(eight, nine);
     if !layout::is_done(answer) {
-        return answer;
+        return scatter_move::refused(answer);
     }
-    let reach = spans::view_reach(dest, into.len());
-    match reach {
-        Reach::Cells(low, high) => {
-            cells_i32(
-                plan,
-                batch_rows,
-                window_rows,
-                starts,
-                source,
-                into,
-                index.offset,
-                updates.offset,
-                dest.offset,
-                low,
-                high,
-            );
-            answer
-        }
-        Reach::NoCells => answer,
-        Reach::Outside => answer,
+    let numbers = numbers_of(plan, batch_rows, window_rows);
+    let base = components::start_base(numbers.count, index.offset);
+    let batch = plan.batch;
+    PreparedScatter {
+        answer,
+        reach: z,
+        numbers,
+        batch,
+        index: base,
+        updates: updates.offset,
+        dest: dest.offset,
     }
 }
 
-// The scatter of a plan on these views.
+// The scatter of a plan on these views: the updates are added.
 pub fn scatter_i32(
     plan: ScatterPlan,
     batch_rows: [[i64; 4]; RAW_FUSED_RANK_LIMIT],
@@ -179,112 +142,23 @@ pub fn scatter_i32(
     source: &[i32],
     into: &mut [i32],
 ) -> Answer
-    ensures { λ r. ⌜ Called scatteredI32 plan «batch_rows» «window_rows» index updates dest (now (starts .entry)) (now (source .entry)) (now (into .entry)) (now (into .exit)) r ⌝ }
+    ensures { λ r. ⌜ Scatters (pos 0) addI32 asIs (byPlan plan «batch_rows» «window_rows» index updates dest (now (starts .entry)) (now (source .entry))) (now (into .entry)) (now (into .exit)) r ⌝ }
 {
-    call_i32(
+    let p = prepare(
         plan,
         batch_rows,
         window_rows,
         index,
         updates,
         dest,
-        false,
-        starts,
-        source,
-        into,
-    )
-}
-
-// The scatter where the destination has cells, from the index low to the index high: it is lent on as that part.
-fn cells_f64(
-    plan: ScatterPlan,
-    batch_rows: [[i64; 4]; RAW_FUSED_RANK_LIMIT],
-    window_rows: [[i64; 4]; RAW_FUSED_RANK_LIMIT],
-    starts: &[i64],
-    source: &[f64],
-    into: &mut [f64],
-    t: i64,
-    u: i64,
-    d: i64,
-    low: usize,
-    high: usize,
-)
-    requires { ⌜ Reached plan «batch_rows» «window_rows» t u d low high (length (now starts)) (length (now source)) (length (now into)) ⌝ }
-    ensures { λ _. ⌜ now (into .exit) ≡ combined (ruleF64 R.Add) nan (cuts nan (scatterAt plan t u d) (now (starts .entry)) (now (source .entry))) (now (into .entry)) ⌝ }
-{
-    let end = high + 1;
-    let walk = scatter_walk::walk_of(plan, batch_rows, window_rows);
-    let base = gather_walk::start_base(walk.count, t);
-    let from = low as i64;
-    let at = d - from;
-    scatter_walk::run_f64(
-        walk,
-        batch_rows,
-        starts,
-        source,
-        &mut into[low..end],
-        base,
-        u,
-        at,
-    );
-}
-
-// A scatter of f64 with a plan and rows that are known to be what compile gives, or with any.
-pub fn call_f64(
-    plan: ScatterPlan,
-    batch_rows: [[i64; 4]; RAW_FUSED_RANK_LIMIT],
-    window_rows: [[i64; 4]; RAW_FUSED_RANK_LIMIT],
-    index: View,
-    updates: View,
-    dest: View,
-    known: bool,
-    starts: &[i64],
-    source: &[f64],
-    into: &mut [f64],
-) -> Answer
-    requires { ⌜ (known ≡ true → isCompiled plan «batch_rows» «window_rows» ≡ true) ⌝ }
-    ensures { λ r. ⌜ Called scatteredF64 plan «batch_rows» «window_rows» index updates dest (now (starts .entry)) (now (source .entry)) (now (into .entry)) (now (into .exit)) r ⌝ }
-{
-    let answer = check_call(
-        plan,
-        batch_rows,
-        window_rows,
-        index,
-        updates,
-        dest,
-        known,
         starts.len(),
         source.len(),
         into.len(),
     );
-    if !layout::is_done(answer) {
-        return answer;
-    }
-    let reach = spans::view_reach(dest, into.len());
-    match reach {
-        Reach::Cells(low, high) => {
-            cells_f64(
-                plan,
-                batch_rows,
-                window_rows,
-                starts,
-                source,
-                into,
-                index.offset,
-                updates.offset,
-                dest.offset,
-                low,
-                high,
-            );
-            answer
-        }
-        Reach::NoCells => answer,
-        Reach::Outside => answer,
-    }
+    scatter_move::move_i32(Rule::Add, p, starts, source, into)
 }
 
-// The scatter of a plan on these views. Whole numbers whose magnitudes total at most 2^53 are summed exactly: `exact-f64` in
-// indexing's Exact.
+// The same for f64.
 pub fn scatter_f64(
     plan: ScatterPlan,
     batch_rows: [[i64; 4]; RAW_FUSED_RANK_LIMIT],
@@ -296,18 +170,18 @@ pub fn scatter_f64(
     source: &[f64],
     into: &mut [f64],
 ) -> Answer
-    ensures { λ r. ⌜ Called scatteredF64 plan «batch_rows» «window_rows» index updates dest (now (starts .entry)) (now (source .entry)) (now (into .entry)) (now (into .exit)) r ⌝ }
+    ensures { λ r. ⌜ Scatters nan addF64 asIs (byPlan plan «batch_rows» «window_rows» index updates dest (now (starts .entry)) (now (source .entry))) (now (into .entry)) (now (into .exit)) r ⌝ }
 {
-    call_f64(
+    let p = prepare(
         plan,
         batch_rows,
         window_rows,
         index,
         updates,
         dest,
-        false,
-        starts,
-        source,
-        into,
-    )
+        starts.len(),
+        source.len(),
+        into.len(),
+    );
+    scatter_move::move_f64(Rule::Add, p, starts, source, into)
 }

@@ -1,17 +1,22 @@
-use mathlib.Core.Bool.{false≢true}
-use lib.IntN.{pos}
+use mathlib.Core.Path.{_≡_, sym, ap, _∙_}
 use borrow.Author.Needs.{needs}
+use Rattle.layout.specs.Answers.{isDone}
+use Rattle.calls.proofs.Does.{by-answer}
+use Rattle.scatter_move.proofs.Parts.{movable}
 use Rattle.scatter.proofs.scatter_f64.Statement.{statement}
 use Rattle.scatter.proofs.scatter_f64.Tie as tie
 
-call-f64-requires : tie.Need-call-f64-requires
-call-f64-requires c κs = λ e. absurd (false≢true e)
+prepare-requires : tie.Need-prepare-requires
+prepare-requires c κs = search needs
+
+move-f64-requires : tie.Need-move-f64-requires
+move-f64-requires c κs = movable (c .before .prepare .ensures)
 
 same-length : tie.Need-same-length
 same-length c = search needs
 
 returns : tie.Need-returns
-returns c = c .before .before .call-f64 .ensures
+returns c = let q = c .before .before .before .before .prepare .ensures in by-answer (q .answered) (c .before .before .move-f64 .ensures (movable q))
 
 pub scatter-f64-spec : {M : Type 1} → statement M
-scatter-f64-spec = tie.close (tie.spec call-f64-requires same-length returns)
+scatter-f64-spec = tie.close (tie.spec prepare-requires move-f64-requires same-length returns)

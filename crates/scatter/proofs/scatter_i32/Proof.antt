@@ -1,17 +1,22 @@
-use mathlib.Core.Bool.{false≢true}
-use lib.IntN.{pos}
+use mathlib.Core.Path.{_≡_, sym, ap, _∙_}
 use borrow.Author.Needs.{needs}
+use Rattle.layout.specs.Answers.{isDone}
+use Rattle.calls.proofs.Does.{by-answer}
+use Rattle.scatter_move.proofs.Parts.{movable}
 use Rattle.scatter.proofs.scatter_i32.Statement.{statement}
 use Rattle.scatter.proofs.scatter_i32.Tie as tie
 
-call-i32-requires : tie.Need-call-i32-requires
-call-i32-requires c κs = λ e. absurd (false≢true e)
+prepare-requires : tie.Need-prepare-requires
+prepare-requires c κs = search needs
+
+move-i32-requires : tie.Need-move-i32-requires
+move-i32-requires c κs = movable (c .before .prepare .ensures)
 
 same-length : tie.Need-same-length
 same-length c = search needs
 
 returns : tie.Need-returns
-returns c = c .before .call-i32 .ensures
+returns c = let q = c .before .before .before .prepare .ensures in by-answer (q .answered) (c .before .move-i32 .ensures (movable q))
 
 pub scatter-i32-spec : {M : Type 1} → statement M
-scatter-i32-spec = tie.close (tie.spec call-i32-requires same-length returns)
+scatter-i32-spec = tie.close (tie.spec prepare-requires move-i32-requires same-length returns)
