@@ -101,7 +101,7 @@ fn product_value(axes: &[u64], list: &[u64]) -> u64
 }
 
 // How many batches: the product of the updates' extents on their other axes.
-fn batch_count(updates: &[u64], window: &[u64]) -> u64
+pub fn batch_elems(updates: &[u64], window: &[u64]) -> u64
     requires { ⌜ length (now updates) ≤ rankLimit ⌝ }
     ensures { λ r. ⌜ r ≡ totalOr (pick 0 (others (length (now (updates .entry))) (now (window .entry))) (now (updates .entry))) ⌝ }
 {
@@ -157,7 +157,7 @@ fn plan_of(
     let a = axis_lists::numbers_from(window);
     let b = axis_lists::numbers_from(inserted);
     let c = axis_lists::numbers_from(map);
-    let batches = batch_count(updates_extents, window);
+    let batches = batch_elems(updates_extents, window);
     let cells = product_value(window, updates_extents);
     ScatterPlan {
         index,

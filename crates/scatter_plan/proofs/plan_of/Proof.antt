@@ -50,8 +50,8 @@ numbers-from-requires-2 c κs = search needs
 numbers-from-requires-3 : tie.Need-numbers-from-requires-3
 numbers-from-requires-3 c κs = search needs
 
-batch-count-requires : tie.Need-batch-count-requires
-batch-count-requires c κs = let s = c .before .before .before .before .before .before .before .before .before .before .before .before .before .before .before .before .before .before .before in fits (asked s) _ _ (s .pre) .updates-rank
+batch-elems-requires : tie.Need-batch-elems-requires
+batch-elems-requires c κs = let s = c .before .before .before .before .before .before .before .before .before .before .before .before .before .before .before .before .before .before .before in fits (asked s) _ _ (s .pre) .updates-rank
 
 product-value-requires : tie.Need-product-value-requires
 product-value-requires c κs = let s = c .before .before .before .before .before .before .before .before .before .before .before .before .before .before .before .before .before .before .before .before in fits (asked s) _ _ (s .pre) .window-few
@@ -61,7 +61,7 @@ returns c =
     let s = c .before .before .before .before .before .before .before .before .before .before .before .before .before .before .before .before .before .before .before .before .before in
     let f : SFits w64 (c .before .before .before .before .before .before .before .stride-at .result) = search needs in
     let o = c .before .before .before .before .before .before .component-offsets .ensures ∙ ap (λ (z : ℤ). heldSteps (tabulate (min (length (s .args .map .now)) rankLimit) (offsetOr z))) (back f ∙ c .before .before .before .before .before .before .before .stride-at .ensures) in
-    plan-is (asked s) (s .args .from-batch) (s .args .from-cell) (s .pre) _ _ _ _ _ _ _ _ _ _ _ (c .before .before .before .before .before .before .before .before .before .before .before .before .before .before .make-layout .ensures) (c .before .before .before .before .before .before .before .before .before .before .before .before .before .make-layout2 .ensures) (c .before .before .before .before .before .before .before .before .before .before .before .before .make-layout3 .ensures) (c .before .before .before .before .before .before .before .before .windows-of .ensures) o (c .before .before .before .before .before .strides-on .ensures) (c .before .before .before .before .numbers-from .ensures) (c .before .before .before .numbers-from2 .ensures) (c .before .before .numbers-from3 .ensures) (c .before .batch-count .ensures) (c .product-value .ensures)
+    plan-is (asked s) (s .args .from-batch) (s .args .from-cell) (s .pre) _ _ _ _ _ _ _ _ _ _ _ (c .before .before .before .before .before .before .before .before .before .before .before .before .before .before .make-layout .ensures) (c .before .before .before .before .before .before .before .before .before .before .before .before .before .make-layout2 .ensures) (c .before .before .before .before .before .before .before .before .before .before .before .before .make-layout3 .ensures) (c .before .before .before .before .before .before .before .before .windows-of .ensures) o (c .before .before .before .before .before .strides-on .ensures) (c .before .before .before .before .numbers-from .ensures) (c .before .before .before .numbers-from2 .ensures) (c .before .before .numbers-from3 .ensures) (c .before .batch-elems .ensures) (c .product-value .ensures)
 
 pub plan-of-spec : {M : Type 1} → statement M
 plan-of-spec =
@@ -77,6 +77,6 @@ plan-of-spec =
     numbers-from-requires
     numbers-from-requires-2
     numbers-from-requires-3
-    batch-count-requires
+    batch-elems-requires
     product-value-requires
     returns)

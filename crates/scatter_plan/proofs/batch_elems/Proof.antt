@@ -8,8 +8,8 @@ use Rattle.axis_lists.proofs.Filling.{length-others}
 use Rattle.checks.specs.Values.{totalOr}
 use Rattle.scatter_checks.proofs.Read.{others-few, others-part}
 use borrow.Author.Needs.{needs}
-use Rattle.scatter_plan.proofs.batch_count.Statement.{statement}
-use Rattle.scatter_plan.proofs.batch_count.Tie as tie
+use Rattle.scatter_plan.proofs.batch_elems.Statement.{statement}
+use Rattle.scatter_plan.proofs.batch_elems.Tie as tie
 
 other-axes-requires : tie.Need-other-axes-requires
 other-axes-requires c κs = search needs
@@ -31,8 +31,8 @@ returns c =
     let s = c .before .before .before .before .before .before .before in
     c .product-value .ensures ∙ ap (λ (axes : List ℕ). totalOr (pick 0 axes (s .args .updates .now))) (others-part (length (s .args .updates .now)) (s .args .window .now) (c .before .before .before .before .other-axes .result) (s .pre) (c .before .before .before .before .other-axes .ensures))
 
-pub batch-count-spec : {M : Type 1} → statement M
-batch-count-spec =
+pub batch-elems-spec : {M : Type 1} → statement M
+batch-elems-spec =
     tie.close
     (tie.spec
     other-axes-requires
