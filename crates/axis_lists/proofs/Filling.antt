@@ -1,11 +1,11 @@
--- Lists written into an array of eight, entry by entry. Assumes nothing.
+-- Lists written into an array of axes, entry by entry. Assumes nothing.
 use mathlib.Core.Path.{_≡_, refl, sym, ap, ap₂, _∙_}
-use mathlib.Core.Bool.{Bool, true, false, cond, _||_, _&&_}
+use mathlib.Core.Bool.{Bool, true, false, cond, _||_}
 use mathlib.Core.List.{List, [], _∷_, _++_}
 use Prim.Native.Nat.{ℕ, zero, suc, _+_, _-_, _<_, _≤_, min}
 use native.Mathlib.Numerals.{add-one}
 use native.Mathlib.Omega.{arith}
-use borrow.Author.Tests.{eq-eqb, ne-eqb, lt-ltb, le-ltb, ltb-true, ltb-false, eqb-true}
+use borrow.Author.Tests.{eq-eqb, ne-eqb, lt-ltb, le-ltb, ltb-true, ltb-false}
 use lib.Dec.{eqb, ltb}
 use lib.ListN.{length, take, drop, getD, set, replicate, length-take, length-drop, length-append, drop-of-length-le, List·getD-eq-default}
 use lib.Seq.{take-all, drop-cons, getD-take, take-append-seam}
@@ -15,8 +15,7 @@ use Rattle.indexing.specs.Start.{without}
 use Rattle.indexing.specs.Axes.{length-pick, getD-pick, length-spread}
 use Rattle.layout.specs.Layouts.{rankLimit, padded}
 use Rattle.layout.proofs.Fill.{fill-one, fill-short}
-use Rattle.spans.proofs.Parts.{take-count}
-use Rattle.axis_lists.specs.Held.{heldNumbers, heldSteps, sameList, Decides}
+use Rattle.axis_lists.specs.Held.{heldNumbers, heldSteps}
 
 pub numbers-are : (n : ℕ) (out l : List ℕ) → n ≡ length l → out ≡ padded rankLimit 0 l → record { count = n; entries = out } ≡ heldNumbers l
 numbers-are n out l e f = ap₂ (λ (c : ℕ) (xs : List ℕ). record { count = c; entries = xs }) e f
@@ -27,9 +26,6 @@ steps-are n out l e f = ap₂ (λ (c : ℕ) (xs : List ℤ). record { count = c;
 -- what is written after i entries of a list
 abbrev pub written : {A : Type 0} → A → List A → ℕ → List A
 written d l i = take i l ++ replicate (rankLimit - i) d
-
-pub none-written : {A : Type 0} (d : A) (l : List A) → replicate rankLimit d ≡ written d l 0
-none-written d l = refl
 
 pub one-written : {A : Type 0} (d : A) (l out : List A) (i : ℕ) (x : A) → i < length l → length l ≤ rankLimit → out ≡ written d l i → x ≡ getD l i d → set out i x ≡ written d l (i + 1)
 one-written d l out i x h k e f = ap₂ (λ (o : List _) (y : _). set o i y) e f ∙ fill-one rankLimit d d l i (omega arith) h
@@ -79,7 +75,7 @@ set-front [] m i x h = absurd (omega arith)
 set-front (y ∷ l) m zero x h = refl
 set-front (y ∷ l) m (suc i) x h = ap (λ (t : List _). y ∷ t) (set-front l m i x (omega arith))
 
--- eight entries: n spread over the axes, then zeros
+-- an array: n entries spread over the axes, then zeros
 abbrev pub spreadIn : {A : Type 0} → A → A → ℕ → List ℕ → List A → List A
 spreadIn z d n axes l = spread d n axes l ++ replicate (rankLimit - n) z
 
@@ -216,32 +212,8 @@ spread-counted d n axes l a b m p q e =
     ap₂ (λ (xs : List ℕ) (ys : List _). spread d n xs ys) (sym (take-less m a axes (omega arith))) (sym (take-less m b l (omega arith)))
     ∙ spread-both d n (take a axes) (take b l) m (omega (arith, length-take a axes, length-take b l))
 
--- a list of at most eight, read again
+-- a list that is not too long, read again
 pub read-back : {A : Type 0} (d : A) (l : List A) → length l ≤ rankLimit → take (length l) (padded rankLimit d l) ≡ l
 unfolding padded
 read-back d l h = rw (take-all rankLimit l h) (take-append-seam l (replicate (rankLimit - length l) d))
 
--- ---- a flag that decides whether two lists are the same is the test
-same-true : (xs ys : List ℕ) → sameList xs ys ≡ true → xs ≡ ys
-unfolding sameList
-same-true [] [] e = refl
-same-true [] (b ∷ ys) e = let z : _≡_ {A = ℕ} 0 1 = cc in absurd (omega arith)
-same-true (a ∷ xs) [] e = let z : _≡_ {A = ℕ} 0 1 = cc in absurd (omega arith)
-same-true (a ∷ xs) (b ∷ ys) e = go (eqb a b) refl e (same-true xs ys)
-  where
-    go : (t : Bool) → eqb a b ≡ t → (t && sameList xs ys) ≡ true → (sameList xs ys ≡ true → xs ≡ ys) → a ∷ xs ≡ b ∷ ys
-    go true f h ih = ap₂ _∷_ (eqb-true a b f) (ih h)
-    go false f h ih = let z : _≡_ {A = ℕ} 0 1 = cc in absurd (omega arith)
-
-same-refl : (xs : List ℕ) → sameList xs xs ≡ true
-unfolding sameList
-same-refl [] = refl
-same-refl (a ∷ xs) = rw (eq-eqb a a refl) (same-refl xs)
-
-pub decides-same : (r : Bool) (xs ys : List ℕ) → Decides r xs ys → r ≡ sameList xs ys
-decides-same r xs ys d = go r (sameList xs ys) refl refl
-  where
-    go : (x y : Bool) → r ≡ x → sameList xs ys ≡ y → r ≡ sameList xs ys
-    go true y e f = e ∙ sym (ap (sameList xs) (sym (d .yes e)) ∙ same-refl xs)
-    go false true e f = d .no (same-true xs ys f) ∙ sym f
-    go false false e f = e ∙ sym f

@@ -1,13 +1,13 @@
 -- Turns of the loops over lent axes. Assumes nothing.
 use mathlib.Core.Path.{_≡_, refl, sym, ap, _∙_}
-use mathlib.Core.Bool.{Bool, true, false, cond, _&&_}
+use mathlib.Core.Bool.{Bool, true, false, _&&_}
 use mathlib.Core.List.{List, [], _∷_, _++_}
-use Prim.Native.Nat.{ℕ, zero, suc, _+_, _-_, _<_, _≤_}
+use Prim.Native.Nat.{ℕ, suc, _+_, _-_, _<_, _≤_}
 use native.Mathlib.Numerals.{add-one}
 use native.Mathlib.Omega.{arith}
 use borrow.Author.Tests.{eq-eqb, ne-eqb}
-use lib.Dec.{eqb, ltb}
-use lib.ListN.{length, drop, getD, set, replicate, drop-of-length-le, replicate-append-replicate}
+use lib.Dec.{eqb}
+use lib.ListN.{length, drop, getD, replicate, drop-of-length-le, replicate-append-replicate}
 use lib.Seq.{drop-cons}
 use Rattle.layout.specs.Layouts.{rankLimit}
 use Rattle.axis_lists.specs.Held.{sameList}

@@ -1,7 +1,7 @@
 -- Views and lists written and read back, and read and written again. Assumes nothing.
 use mathlib.Core.Path.{_≡_, refl, sym, ap, ap₂, _∙_, subst}
 use mathlib.Core.List.{List, [], _∷_, _++_, map}
-use Prim.Native.Nat.{ℕ, _+_, _-_, _^_, _≤_, _<_}
+use Prim.Native.Nat.{ℕ, _+_, _-_, _^_, _≤_, _<_, min}
 use native.Mathlib.Omega.{arith}
 use lib.ListN.{length, take, replicate, length-map}
 use lib.Seq.{take-all, take-append-seam}
@@ -51,7 +51,9 @@ list-bytes l h = rw (held-back listLimit 0 (length l) l refl h)
 
 pub view-bytes : (es : List ℕ) (ss : List ℤ) (o : ℤ) → length ss ≡ length es → length es ≤ storedRankLimit → viewBytes (viewOf es ss o) ≡ bytesOf 1 (length es) ++ (wordsOf es ++ (wordsOf (map wordOf ss) ++ bytesOf 8 (wordOf o)))
 unfolding viewBytes
-view-bytes es ss o e h = rw (held-back rankLimit 1 (length es) es refl h, held-back rankLimit (pos 0) (length es) ss (sym e) (omega arith))
+view-bytes es ss o e h =
+    let n : ℕ = min (length es) storedRankLimit in
+    rw (held-back rankLimit 1 n es (omega arith) (omega arith), held-back rankLimit (pos 0) n ss (omega arith) (omega arith))
 
 -- words as they were read
 view-words : (n : ℕ) (es ws : List ℕ) (o : ℕ) → length es ≡ n → length ws ≡ n → n ≤ storedRankLimit → AllBelow (2 ^ 64) ws → o < 2 ^ 64 → viewBytes (viewOf es (map signedOf ws) (signedOf o)) ≡ bytesOf 1 n ++ (wordsOf es ++ (wordsOf ws ++ bytesOf 8 o))

@@ -22,7 +22,7 @@ pub enum Element {
     F64,
 }
 
-// A list of up to sixteen entries. Past the count stand zeros.
+// A list of up to `LIST_LIMIT` entries. Past the count stand zeros.
 pub struct List16 {
     pub count: usize,
     pub entries: [u64; LIST_LIMIT],
@@ -118,7 +118,7 @@ pub fn no_job() -> Job
     }
 }
 
-// A view of these extents and strides, of which the first eight are held.
+// A view of these extents and strides, of which a layout holds the first.
 pub fn view_from(extents: &[u64], strides: &[i64], offset: i64) -> View
     ensures { λ r. ⌜ r ≡ viewOf (now (extents .entry)) (now (strides .entry)) offset ⌝ }
 {
@@ -134,7 +134,7 @@ pub fn view_from(extents: &[u64], strides: &[i64], offset: i64) -> View
     }
 }
 
-// A lent list, of which the first sixteen entries are held.
+// A lent list, of which the first entries are held.
 pub fn list_from(list: &[u64]) -> List16
     ensures { λ r. ⌜ r ≡ heldList (now (list .entry)) ⌝ }
 {

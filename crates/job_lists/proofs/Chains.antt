@@ -20,7 +20,7 @@ use Rattle.job.specs.Format.{viewAt, listAt}
 use Rattle.job_bytes.specs.Version.{storedRankLimit, listLimit}
 use Rattle.job_lists.specs.Held.{heldView, heldEntries}
 
--- ---- the first n of a list copied into eight places, each by f
+-- ---- a list copied into an array of axes, entry by entry
 abbrev pub copied : {A : Type 0} → A → List A → ℕ → List A
 copied d xs i = take i xs ++ replicate (rankLimit - i) d
 

@@ -16,9 +16,6 @@ fill-one n d z xs i h l =
     rw (e, add-one i, take-suc xs i z l, append-snoc)
     (rw (← add-one i) (set-at (take i xs) d (replicate (n - (i + 1)) d) (getD xs i z) i (length-take-le i xs (omega arith))))
 
-pub fill-none : {A : Type 0} (n : ℕ) (d : A) (xs : List A) → replicate n d ≡ take 0 xs ++ replicate (n - 0) d
-fill-none n d xs = let e : n - 0 ≡ n = omega arith in rw e refl
-
 pub fill-short : {A : Type 0} (n : ℕ) (d : A) (xs : List A) (i : ℕ) → i ≤ length xs → length xs ≤ i → i ≤ n
     → take i xs ++ replicate (n - i) d ≡ padded n d xs
 unfolding padded

@@ -49,10 +49,6 @@ and-false : (b : Bool) → (b && false) ≡ false
 and-false true = refl
 and-false false = refl
 
-and-true : (b : Bool) → (b && true) ≡ b
-and-true true = refl
-and-true false = refl
-
 and-swap : (a b c : Bool) → (a && (b && c)) ≡ (b && (a && c))
 and-swap true b c = refl
 and-swap false true c = refl

@@ -2,10 +2,9 @@ use mathlib.Core.Path.{_≡_, refl, sym, ap, _∙_}
 use Prim.Native.Nat.{ℕ, zero, suc, _-_, _<_, _≤_, zero-le, min}
 use native.Mathlib.Omega.{arith}
 use borrow.Author.Needs.{needs}
-use lib.ListN.{getD, replicate}
+use lib.ListN.{getD, replicate, length-replicate}
 use Rattle.layout.specs.Layouts.{rankLimit, padded}
 use Rattle.axis_lists.proofs.Filling.{numbers-are, written, one-written, all-written}
-use lib.ListN.{length-replicate}
 use Rattle.axis_lists.proofs.ones.Statement.{statement}
 use Rattle.axis_lists.proofs.ones.Tie as tie
 
@@ -20,41 +19,33 @@ Inv-loop n m out₀ i₀ out i = (i ≤ m) × (out ≡ written 0 (replicate m 1)
 abbrev μ-loop : tie.MeasureT-loop
 μ-loop n m out₀ i₀ out i = m - i
 
--- src/lib.rt:259:9
 axis-count-requires : tie.Need-axis-count-requires Inv-loop μ-loop
 axis-count-requires c κs = search needs
 
--- src/lib.rt:262:5
 loop-holds : tie.Need-loop-holds Inv-loop μ-loop
 loop-holds c = (zero-le, refl)
 
--- src/lib.rt:263:9
 mul-out : tie.Need-mul-out Inv-loop μ-loop
 mul-out c = search needs
 
--- src/lib.rt:263:9
 array-write-out : tie.Need-array-write-out Inv-loop μ-loop
 array-write-out c = search needs
 
--- src/lib.rt:264:9
 add-i : tie.Need-add-i Inv-loop μ-loop
 add-i c = search needs
 
--- src/lib.rt:262:5
 loop-less : tie.Need-loop-less Inv-loop μ-loop
 loop-less c = search needs
 
--- src/lib.rt:262:5
 loop-again : tie.Need-loop-again Inv-loop μ-loop
 loop-again c =
     let l = c .before in
     (omega (arith, l .before .axis-count .ensures), one-written 0 (replicate (l .before .axis-count .result) 1) (l .loop .out) (l .loop .i) 1 (omega (arith, length-replicate {A = ℕ} (l .before .axis-count .result) 1)) (omega (arith, length-replicate {A = ℕ} (l .before .axis-count .result) 1, l .before .axis-count .ensures)) (l .loop .inv .1) (sym (getD-replicate (l .before .axis-count .result) (l .loop .i) (omega arith))))
 
--- src/lib.rt:256:1
 returns : tie.Need-returns Inv-loop μ-loop
 returns c =
     let l = c .before in
-    numbers-are (l .before .axis-count .result) (l .loop .out) (replicate (min (l .before .before .args .n) 8) 1) (l .before .axis-count .ensures ∙ sym (length-replicate {A = ℕ} (min (l .before .before .args .n) 8) 1))
+    numbers-are (l .before .axis-count .result) (l .loop .out) (replicate (min (l .before .before .args .n) rankLimit) 1) (l .before .axis-count .ensures ∙ sym (length-replicate {A = ℕ} (min (l .before .before .args .n) rankLimit) 1))
     (l .loop .inv .1 ∙ all-written 0 (replicate (l .before .axis-count .result) 1) (l .loop .i) (omega (arith, length-replicate {A = ℕ} (l .before .axis-count .result) 1)) (omega (arith, length-replicate {A = ℕ} (l .before .axis-count .result) 1, l .before .axis-count .ensures)) ∙ ap (λ (k : ℕ). padded rankLimit 0 (replicate k 1)) (l .before .axis-count .ensures))
 
 pub ones-spec : {M : Type 1} → statement M

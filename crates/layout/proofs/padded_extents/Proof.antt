@@ -5,15 +5,16 @@ use mathlib.Core.Path.{_≡_, refl, _∙_, ap}
 use mathlib.Core.List.{List, _++_}
 use native.Mathlib.Omega.{arith}
 use lib.ListN.{length, take, getD, replicate, set}
+use Rattle.layout.specs.Layouts.{rankLimit}
 use Rattle.layout.proofs.Fill.{fill-one, fill-short, fill-full}
 use Rattle.layout.proofs.padded_extents.Statement.{statement}
 use Rattle.layout.proofs.padded_extents.Tie as tie
 
 abbrev Inv-loop : tie.InvT-loop
-Inv-loop extents out₀ i₀ out i = (i ≤ length extents) × (i ≤ 8) × (out ≡ take i extents ++ replicate (8 - i) 1)
+Inv-loop extents out₀ i₀ out i = (i ≤ length extents) × (i ≤ rankLimit) × (out ≡ take i extents ++ replicate (rankLimit - i) 1)
 
 abbrev μ-loop : tie.MeasureT-loop
-μ-loop extents out₀ i₀ out i = 8 - i
+μ-loop extents out₀ i₀ out i = rankLimit - i
 
 loop-holds : tie.Need-loop-holds Inv-loop μ-loop
 loop-holds c = (search needs, search needs, refl)
@@ -38,13 +39,13 @@ loop-less c = search needs
 
 loop-again : tie.Need-loop-again Inv-loop μ-loop
 loop-again c =
-    (omega (arith, ltb-true), omega (arith, ltb-true), ap (λ (l : List ℕ). set l (c .before .before .before .loop .i) (getD (c .before .before .before .before .args .extents .now) (c .before .before .before .loop .i) 0)) (c .before .before .before .loop .inv .2) ∙ fill-one 8 1 0 (c .before .before .before .before .args .extents .now) (c .before .before .before .loop .i) (omega (arith, ltb-true)) (omega (arith, ltb-true)))
+    (omega (arith, ltb-true), omega (arith, ltb-true), ap (λ (l : List ℕ). set l (c .before .before .before .loop .i) (getD (c .before .before .before .before .args .extents .now) (c .before .before .before .loop .i) 0)) (c .before .before .before .loop .inv .2) ∙ fill-one rankLimit 1 0 (c .before .before .before .before .args .extents .now) (c .before .before .before .loop .i) (omega (arith, ltb-true)) (omega (arith, ltb-true)))
 
 returns : tie.Need-returns Inv-loop μ-loop
-returns c = c .before .before .loop .inv .2 ∙ fill-short 8 1 (c .before .before .before .args .extents .now) (c .before .before .loop .i) (omega arith) (omega (arith, ltb-false)) (omega arith)
+returns c = c .before .before .loop .inv .2 ∙ fill-short rankLimit 1 (c .before .before .before .args .extents .now) (c .before .before .loop .i) (omega arith) (omega (arith, ltb-false)) (omega arith)
 
 returns-2 : tie.Need-returns-2 Inv-loop μ-loop
-returns-2 c = c .before .loop .inv .2 ∙ fill-full 8 1 (c .before .before .args .extents .now) (c .before .loop .i) (omega arith) (omega arith) (omega arith)
+returns-2 c = c .before .loop .inv .2 ∙ fill-full rankLimit 1 (c .before .before .args .extents .now) (c .before .loop .i) (omega arith) (omega arith) (omega arith)
 
 pub padded-extents-spec : {M : Type 1} → statement M
 padded-extents-spec =

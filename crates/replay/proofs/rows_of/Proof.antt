@@ -14,8 +14,6 @@ use Rattle.replay.proofs.Fill.{fill-done}
 use borrow.Author.Needs.{needs}
 use Rattle.replay.proofs.rows_of.Statement.{statement}
 use Rattle.replay.proofs.rows_of.Tie as tie
-use Rattle.replay.proofs.rows_of.Reads as reads
-use Rattle.replay.proofs.rows_of.Lts as lts
 
 abbrev Inv-loop : tie.InvT-loop
 Inv-loop axes out₀ i₀ out i = (i ≤ rankLimit) × (out ≡ take i (rowsOf axes) ++ replicate (rankLimit - i) (replicate 4 (pos 0)))

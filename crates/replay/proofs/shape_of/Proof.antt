@@ -12,8 +12,6 @@ use Rattle.replay.proofs.Fill.{fill-done}
 use borrow.Author.Needs.{needs}
 use Rattle.replay.proofs.shape_of.Statement.{statement}
 use Rattle.replay.proofs.shape_of.Tie as tie
-use Rattle.replay.proofs.shape_of.Reads as reads
-use Rattle.replay.proofs.shape_of.Lts as lts
 
 abbrev Inv-loop : tie.InvT-loop
 Inv-loop axes out₀ i₀ out i = (i ≤ rankLimit) × (out ≡ take i (extents axes) ++ replicate (rankLimit - i) 0)
