@@ -1,19 +1,18 @@
 -- Parts of a job as bytes: how many they are, and one stored behind another. Assumes nothing.
 use mathlib.Core.Path.{_≡_, refl, sym, ap, ap₂, _∙_}
 use mathlib.Core.Bool.{true, false}
-use mathlib.Core.List.{List, [], _∷_, _++_, append-nil, map}
-use Prim.Native.Nat.{ℕ, zero, suc, _+_, _-_, _*_, _≤_, _<_, min}
+use mathlib.Core.List.{List, [], _∷_, _++_, map}
+use Prim.Native.Nat.{ℕ, zero, suc, _+_, _*_, _≤_, _<_, min}
 use native.Mathlib.Omega.{arith}
 use native.Mathlib.Nat.{zero-add}
 use borrow.Author.Tests.{le-leb, lt-leb}
 use lib.Dec.{leb}
-use lib.ListN.{length, take, drop, getD, set, replicate, length-append, length-take, length-map, List·getD-map}
-use lib.Seq.{sets, length-sets, sets-eq, take-all}
-use lib.IntN.{ℤ, pos}
+use lib.ListN.{length, take, drop, length-append, length-take, length-map}
+use lib.Seq.{sets, length-sets, sets-eq}
+use lib.IntN.{ℤ}
 use Rattle.layout.specs.declared.Answer.the-variants as A
 use Rattle.layout.specs.declared.View.{View}
 use Rattle.layout.specs.Layouts.{rankLimit}
-use Rattle.layout.proofs.Fill.{fill-one}
 use Rattle.spans.proofs.Parts.{take-count}
 use Rattle.job_bytes.specs.Fields.{bytesOf, wordsOf, wordOf}
 use Rattle.job_bytes.proofs.Putting.{sets-append, length-bytes, length-words}
@@ -112,20 +111,6 @@ put-view-is v n k at w ws before a b c after se ss h ew eo ek p q r t =
     let p3 : Put b c (at + 1 + 8 * n) (wordsOf zs) (at + 1 + 16 * n) = put-of (rw (← ts) r) (omega (arith, length-words zs)) in
     let p4 : Put c after (at + 1 + 16 * n) (bytesOf 8 (wordOf (v .offset))) (at + k) = put-of (rw (← eo) t) (omega (arith, length-bytes 8 (wordOf (v .offset)))) in
     put-then p1 (put-then p2 (put-then p3 p4))
-
--- the strides as words, i of them written
-abbrev pub worded : List ℤ → ℕ → List ℕ
-worded ss i = take i (map wordOf ss) ++ replicate (rankLimit - i) 0
-
-pub word-one : (ss : List ℤ) (out : List ℕ) (i x : ℕ) → length ss ≡ rankLimit → i < rankLimit → out ≡ worded ss i → x ≡ wordOf (getD ss i (pos 0)) → set out i x ≡ worded ss (i + 1)
-word-one ss out i x s h e f =
-    ap₂ (λ (o : List ℕ) (y : ℕ). set o i y) e (f ∙ sym (List·getD-map wordOf ss i (pos 0)))
-    ∙ fill-one rankLimit 0 0 (map wordOf ss) i h (omega (arith, length-map ss wordOf))
-
-pub word-all : (ss : List ℤ) (out : List ℕ) (i : ℕ) → length ss ≡ rankLimit → rankLimit ≤ i → i ≤ rankLimit → out ≡ worded ss i → out ≡ map wordOf ss
-word-all ss out i s h k e =
-    let n : rankLimit - i ≡ 0 = omega arith in
-    e ∙ rw (n, take-all i (map wordOf ss) (omega (arith, length-map ss wordOf))) (append-nil (map wordOf ss))
 
 pub put-views-is : (vs : Views) (before a b after : List ℕ) (at k l m : ℕ) → Put before a at (viewBytes (vs .first)) k → Put a b k (viewBytes (vs .second)) l → Put b after l (viewBytes (vs .third)) m → Put before after at (viewsBytes vs) m
 unfolding viewsBytes

@@ -1,18 +1,17 @@
-use mathlib.Core.Path.{_≡_, refl, ap, _∙_}
-use mathlib.Core.List.{List, _++_}
-use Prim.Native.Nat.{ℕ, _-_, _≤_}
+use mathlib.Core.Path.{_≡_, refl}
+use Prim.Native.Nat.{_-_, _≤_}
 use native.Mathlib.Omega.{arith}
 use borrow.Author.Needs.{needs}
 use borrow.Author.Tests.{ltb-true, ltb-false}
-use lib.ListN.{length, take, getD, set, replicate}
+use lib.ListN.{length}
 use Rattle.layout.specs.Layouts.{rankLimit}
-use Rattle.layout.proofs.Fill.{fill-one, fill-short, fill-full}
+use Rattle.layout.proofs.Fill.{filled, fill-one, fill-done}
 use Rattle.axis_lists.proofs.Filling.{numbers-are}
 use Rattle.axis_lists.proofs.numbers_from.Statement.{statement}
 use Rattle.axis_lists.proofs.numbers_from.Tie as tie
 
 abbrev Inv-loop : tie.InvT-loop
-Inv-loop list out₀ i₀ out i = (i ≤ length list) × (i ≤ rankLimit) × (out ≡ take i list ++ replicate (rankLimit - i) 0)
+Inv-loop list out₀ i₀ out i = (i ≤ length list) × (i ≤ rankLimit) × (out ≡ filled rankLimit 0 list i)
 
 abbrev μ-loop : tie.MeasureT-loop
 μ-loop list out₀ i₀ out i = rankLimit - i
@@ -41,17 +40,17 @@ loop-less c = search needs
 loop-again : tie.Need-loop-again Inv-loop μ-loop
 loop-again c =
     let l = c .before .before .before in
-    (omega (arith, ltb-true), omega (arith, ltb-true), ap (λ (o : List ℕ). set o (l .loop .i) (getD (l .before .args .list .now) (l .loop .i) 0)) (l .loop .inv .2) ∙ fill-one rankLimit 0 0 (l .before .args .list .now) (l .loop .i) (omega (arith, ltb-true)) (omega (arith, ltb-true)))
+    (omega (arith, ltb-true), omega (arith, ltb-true), fill-one rankLimit 0 0 (l .before .args .list .now) (l .loop .out) (l .loop .i) _ (omega (arith, ltb-true)) (omega (arith, ltb-true)) (l .loop .inv .2) refl)
 
 returns : tie.Need-returns Inv-loop μ-loop
 returns c =
     let l = c .before .before in
-    numbers-are _ (l .loop .out) (l .before .args .list .now) refl (l .loop .inv .2 ∙ fill-short rankLimit 0 (l .before .args .list .now) (l .loop .i) (omega arith) (omega (arith, ltb-false)) (omega arith))
+    numbers-are _ (l .loop .out) (l .before .args .list .now) refl (fill-done rankLimit 0 (l .before .args .list .now) (l .loop .out) (l .loop .i) (omega (arith, ltb-false)) (l .loop .inv .2))
 
 returns-2 : tie.Need-returns-2 Inv-loop μ-loop
 returns-2 c =
     let l = c .before in
-    numbers-are _ (l .loop .out) (l .before .args .list .now) refl (l .loop .inv .2 ∙ fill-full rankLimit 0 (l .before .args .list .now) (l .loop .i) (omega arith) (omega arith) (omega arith))
+    numbers-are _ (l .loop .out) (l .before .args .list .now) refl (fill-done rankLimit 0 (l .before .args .list .now) (l .loop .out) (l .loop .i) (omega arith) (l .loop .inv .2))
 
 pub numbers-from-spec : {M : Type 1} → statement M
 numbers-from-spec =

@@ -1,17 +1,12 @@
 use mathlib.Core.Path.{_≡_, refl, sym, ap, _∙_}
-use Prim.Native.Nat.{ℕ, zero, suc, _-_, _<_, _≤_, zero-le, min}
+use Prim.Native.Nat.{ℕ, _-_, _≤_, zero-le, min}
 use native.Mathlib.Omega.{arith}
 use borrow.Author.Needs.{needs}
-use lib.ListN.{getD, replicate, length-replicate}
+use lib.ListN.{replicate, length-replicate, getD-replicate}
 use Rattle.layout.specs.Layouts.{rankLimit, padded}
 use Rattle.axis_lists.proofs.Filling.{numbers-are, written, one-written, all-written}
 use Rattle.axis_lists.proofs.ones.Statement.{statement}
 use Rattle.axis_lists.proofs.ones.Tie as tie
-
-getD-replicate : (n i : ℕ) → i < n → _≡_ {A = ℕ} (getD (replicate n 1) i 0) 1
-getD-replicate zero i h = absurd (omega arith)
-getD-replicate (suc n) zero h = refl
-getD-replicate (suc n) (suc i) h = getD-replicate n i (omega arith)
 
 abbrev Inv-loop : tie.InvT-loop
 Inv-loop n m out₀ i₀ out i = (i ≤ m) × (out ≡ written 0 (replicate m 1) i)
@@ -40,7 +35,7 @@ loop-less c = search needs
 loop-again : tie.Need-loop-again Inv-loop μ-loop
 loop-again c =
     let l = c .before in
-    (omega (arith, l .before .axis-count .ensures), one-written 0 (replicate (l .before .axis-count .result) 1) (l .loop .out) (l .loop .i) 1 (omega (arith, length-replicate {A = ℕ} (l .before .axis-count .result) 1)) (omega (arith, length-replicate {A = ℕ} (l .before .axis-count .result) 1, l .before .axis-count .ensures)) (l .loop .inv .1) (sym (getD-replicate (l .before .axis-count .result) (l .loop .i) (omega arith))))
+    (omega (arith, l .before .axis-count .ensures), one-written 0 (replicate (l .before .axis-count .result) 1) (l .loop .out) (l .loop .i) 1 (omega (arith, length-replicate {A = ℕ} (l .before .axis-count .result) 1)) (omega (arith, length-replicate {A = ℕ} (l .before .axis-count .result) 1, l .before .axis-count .ensures)) (l .loop .inv .1) (sym (getD-replicate (l .before .axis-count .result) (l .loop .i) 1 0 (omega arith))))
 
 returns : tie.Need-returns Inv-loop μ-loop
 returns c =

@@ -1,9 +1,9 @@
 use mathlib.Core.Path.{_≡_, refl, sym, ap, ap₂, _∙_}
-use mathlib.Core.List.{List, _∷_, _++_}
-use Prim.Native.Nat.{ℕ, zero, suc, _+_, _-_, _≤_, min}
+use mathlib.Core.List.{List}
+use Prim.Native.Nat.{ℕ, _-_, _≤_, min}
 use native.Mathlib.Omega.{arith}
 use borrow.Author.Needs.{needs}
-use lib.ListN.{length, take, drop, getD, replicate, length-take}
+use lib.ListN.{length, take, drop, getD, length-take}
 use Rattle.indexing.specs.Axes.{length-spread}
 use lib.IntN.{ℤ, pos}
 use mir.Syntax.{w64}
@@ -14,15 +14,9 @@ use Rattle.layout.specs.Layouts.{rankLimit, padded}
 use Rattle.axis_lists.specs.declared.Steps.{Steps}
 use Rattle.axis_lists.specs.Held.{numbersOf, stepsOf, putStep}
 use Rattle.axis_lists.proofs.Filling.{steps-are, entry-below, spreadIn, spread-none, spread-padded, spread-turn, spread-counted}
+use Rattle.axis_lists.proofs.Slices.{all-same}
 use Rattle.axis_lists.proofs.spread_steps.Statement.{statement}
 use Rattle.axis_lists.proofs.spread_steps.Tie as tie
-
-zeros : (n : ℕ) → n ≤ rankLimit → replicate rankLimit (pos 0) ≡ replicate n (pos 0) ++ replicate (rankLimit - n) (pos 0)
-zeros n h = let e : rankLimit ≡ n + (rankLimit - n) = omega arith in ap (λ (k : ℕ). replicate k (pos 0)) e ∙ joined n (rankLimit - n)
-  where
-    joined : (a b : ℕ) → replicate (a + b) (pos 0) ≡ replicate a (pos 0) ++ replicate b (pos 0)
-    joined zero b = let z : 0 + b ≡ b = omega arith in ap (λ (k : ℕ). replicate k (pos 0)) z
-    joined (suc a) b = let z : suc a + b ≡ suc (a + b) = omega arith in ap (λ (k : ℕ). replicate k (pos 0)) z ∙ ap (λ (l : List ℤ). pos 0 ∷ l) (joined a b)
 
 -- what is spread so far
 abbrev so-far : ℕ → List ℕ → List ℤ → ℕ → Steps
@@ -46,7 +40,7 @@ loop-holds c =
     let m = c .both-counts .ensures in
     let e : length (s .args .axes .entries) ≡ rankLimit = search needs in
     let g : length (s .args .list .entries) ≡ rankLimit = search needs in
-    (omega arith, omega (arith, m), rw (c .before .axis-count .ensures) (ap (λ (es : List ℤ). record { count = min (s .args .n) rankLimit; entries = es }) (zeros (min (s .args .n) rankLimit) (omega arith) ∙ spread-none (pos 0) (pos 0) (min (s .args .n) rankLimit) (take (c .both-counts .result) (s .args .axes .entries)) (take (c .both-counts .result) (s .args .list .entries)) (c .both-counts .result) (omega (arith, length-take (c .both-counts .result) (s .args .axes .entries))))))
+    (omega arith, omega (arith, m), rw (c .before .axis-count .ensures) (ap (λ (es : List ℤ). record { count = min (s .args .n) rankLimit; entries = es }) (all-same (pos 0) (min (s .args .n) rankLimit) (omega arith) ∙ spread-none (pos 0) (pos 0) (min (s .args .n) rankLimit) (take (c .both-counts .result) (s .args .axes .entries)) (take (c .both-counts .result) (s .args .list .entries)) (c .both-counts .result) (omega (arith, length-take (c .both-counts .result) (s .args .axes .entries))))))
 
 sub-i : tie.Need-sub-i Inv-loop μ-loop
 sub-i c = omega (arith, c .before .loop .inv .0, c .before .loop .inv .1, c .loop-test .taken)

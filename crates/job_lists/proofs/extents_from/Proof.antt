@@ -6,13 +6,13 @@ use lib.ListN.{length, take, length-take}
 use lib.Seq.{getD-take}
 use Rattle.job_bytes.specs.Version.{listLimit}
 use Rattle.layout.specs.Layouts.{rankLimit}
-use Rattle.job_lists.proofs.Chains.{copied, copy-one, copy-ends, copy-full}
+use Rattle.layout.proofs.Fill.{filled, fill-one, fill-done}
 use borrow.Author.Needs.{needs}
 use Rattle.job_lists.proofs.extents_from.Statement.{statement}
 use Rattle.job_lists.proofs.extents_from.Tie as tie
 
 abbrev Inv-loop : tie.InvT-loop
-Inv-loop n words out₀ i₀ out i = (i ≤ n) × (i ≤ rankLimit) × (out ≡ copied 1 (take n words) i)
+Inv-loop n words out₀ i₀ out i = (i ≤ n) × (i ≤ rankLimit) × (out ≡ filled rankLimit 1 (take n words) i)
 
 abbrev μ-loop : tie.MeasureT-loop
 μ-loop n words out₀ i₀ out i = rankLimit - i
@@ -40,16 +40,24 @@ loop-less c = search needs
 
 loop-again : tie.Need-loop-again Inv-loop μ-loop
 loop-again c =
-    let p3 = c .before .before .before in
-    let s : length (p3 .args .t1) ≡ listLimit = search needs in (omega (arith, ltb-true), omega (arith, ltb-true), copy-one 1 0 (take (p3 .args .n) (p3 .args .t1)) _ _ _ (omega (arith, ltb-true)) (omega (arith, ltb-true, length-take (p3 .args .n) (p3 .args .t1))) (c .before .before .loop .inv .2) (sym (getD-take (p3 .args .n) (p3 .args .t1) (c .before .before .loop .i) 0 (omega (arith, ltb-true)))))
+    let l = c .before .before in
+    let a = l .before .args in
+    let s : length (a .t1) ≡ listLimit = search needs in
+    (omega (arith, ltb-true), omega (arith, ltb-true), fill-one rankLimit 1 0 (take (a .n) (a .t1)) (l .loop .out) (l .loop .i) _ (omega (arith, ltb-true)) (omega (arith, ltb-true, length-take (a .n) (a .t1))) (l .loop .inv .2) (sym (getD-take (a .n) (a .t1) (l .loop .i) 0 (omega (arith, ltb-true)))))
 
 returns : tie.Need-returns Inv-loop μ-loop
 returns c =
-    let p3 = c .before .before .before in
-    let s : length (p3 .args .t1) ≡ listLimit = search needs in copy-ends 1 (take (p3 .args .n) (p3 .args .t1)) _ (c .before .before .loop .i) (omega arith) (omega (arith, ltb-true, length-take (p3 .args .n) (p3 .args .t1))) (omega (arith, ltb-false, length-take (p3 .args .n) (p3 .args .t1))) (c .before .before .loop .inv .2)
+    let l = c .before .before in
+    let a = l .before .args in
+    let s : length (a .t1) ≡ listLimit = search needs in
+    fill-done rankLimit 1 (take (a .n) (a .t1)) (l .loop .out) (l .loop .i) (omega (arith, ltb-true, ltb-false, length-take (a .n) (a .t1))) (l .loop .inv .2)
 
 returns-2 : tie.Need-returns-2 Inv-loop μ-loop
-returns-2 c = let s : length (c .before .before .args .t1) ≡ listLimit = search needs in copy-full 1 (take (c .before .before .args .n) (c .before .before .args .t1)) _ (c .before .loop .i) (omega arith) (omega arith) (omega (arith, length-take (c .before .before .args .n) (c .before .before .args .t1))) (c .before .loop .inv .2)
+returns-2 c =
+    let l = c .before in
+    let a = l .before .args in
+    let s : length (a .t1) ≡ listLimit = search needs in
+    fill-done rankLimit 1 (take (a .n) (a .t1)) (l .loop .out) (l .loop .i) (omega (arith, length-take (a .n) (a .t1))) (l .loop .inv .2)
 
 pub extents-from-spec : {M : Type 1} → statement M
 extents-from-spec =

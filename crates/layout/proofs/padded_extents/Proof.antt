@@ -1,17 +1,16 @@
 use borrow.Author.Tests.{ltb-true, ltb-false}
 use borrow.Author.Needs.{needs}
-use Prim.Native.Nat.{ℕ, _≤_, _-_}
-use mathlib.Core.Path.{_≡_, refl, _∙_, ap}
-use mathlib.Core.List.{List, _++_}
+use Prim.Native.Nat.{_≤_, _-_}
+use mathlib.Core.Path.{_≡_, refl}
 use native.Mathlib.Omega.{arith}
-use lib.ListN.{length, take, getD, replicate, set}
+use lib.ListN.{length}
 use Rattle.layout.specs.Layouts.{rankLimit}
-use Rattle.layout.proofs.Fill.{fill-one, fill-short, fill-full}
+use Rattle.layout.proofs.Fill.{filled, fill-one, fill-done}
 use Rattle.layout.proofs.padded_extents.Statement.{statement}
 use Rattle.layout.proofs.padded_extents.Tie as tie
 
 abbrev Inv-loop : tie.InvT-loop
-Inv-loop extents out₀ i₀ out i = (i ≤ length extents) × (i ≤ rankLimit) × (out ≡ take i extents ++ replicate (rankLimit - i) 1)
+Inv-loop extents out₀ i₀ out i = (i ≤ length extents) × (i ≤ rankLimit) × (out ≡ filled rankLimit 1 extents i)
 
 abbrev μ-loop : tie.MeasureT-loop
 μ-loop extents out₀ i₀ out i = rankLimit - i
@@ -39,13 +38,18 @@ loop-less c = search needs
 
 loop-again : tie.Need-loop-again Inv-loop μ-loop
 loop-again c =
-    (omega (arith, ltb-true), omega (arith, ltb-true), ap (λ (l : List ℕ). set l (c .before .before .before .loop .i) (getD (c .before .before .before .before .args .extents .now) (c .before .before .before .loop .i) 0)) (c .before .before .before .loop .inv .2) ∙ fill-one rankLimit 1 0 (c .before .before .before .before .args .extents .now) (c .before .before .before .loop .i) (omega (arith, ltb-true)) (omega (arith, ltb-true)))
+    let l = c .before .before .before in
+    (omega (arith, ltb-true), omega (arith, ltb-true), fill-one rankLimit 1 0 (l .before .args .extents .now) (l .loop .out) (l .loop .i) _ (omega (arith, ltb-true)) (omega (arith, ltb-true)) (l .loop .inv .2) refl)
 
 returns : tie.Need-returns Inv-loop μ-loop
-returns c = c .before .before .loop .inv .2 ∙ fill-short rankLimit 1 (c .before .before .before .args .extents .now) (c .before .before .loop .i) (omega arith) (omega (arith, ltb-false)) (omega arith)
+returns c =
+    let l = c .before .before in
+    fill-done rankLimit 1 (l .before .args .extents .now) (l .loop .out) (l .loop .i) (omega (arith, ltb-false)) (l .loop .inv .2)
 
 returns-2 : tie.Need-returns-2 Inv-loop μ-loop
-returns-2 c = c .before .loop .inv .2 ∙ fill-full rankLimit 1 (c .before .before .args .extents .now) (c .before .loop .i) (omega arith) (omega arith) (omega arith)
+returns-2 c =
+    let l = c .before in
+    fill-done rankLimit 1 (l .before .args .extents .now) (l .loop .out) (l .loop .i) (omega arith) (l .loop .inv .2)
 
 pub padded-extents-spec : {M : Type 1} → statement M
 padded-extents-spec =
