@@ -195,4 +195,3 @@ spread-counted d n axes l a b m p q e =
 -- a list that is not too long, read again
 pub read-back : {A : Type 0} (d : A) (l : List A) → length l ≤ rankLimit → take (length l) (padded rankLimit d l) ≡ l
 read-back d l h = padded-back rankLimit d (length l) l refl h
-
