@@ -30,12 +30,7 @@ pub struct Steps {
 pub fn numbers_from(list: &[u64]) -> Numbers
     ensures { λ r. ⌜ r ≡ heldNumbers (now (list .entry)) ⌝ }
 {
-    let mut out = [0u64; RAW_FUSED_RANK_LIMIT];
-    let mut i: usize = 0;
-    while i < RAW_FUSED_RANK_LIMIT && i < list.len() {
-        out[i] = list[i];
-        i += 1;
-    }
+    let out = layout::padded_numbers(list, 0);
     Numbers {
         count: list.len(),
         entries: out,
@@ -48,16 +43,7 @@ pub fn extents_of(layout: Layout) -> Numbers
 {
     let extents = layout.extents;
     let n = layout::axis_count(layout.rank);
-    let mut out = [0u64; RAW_FUSED_RANK_LIMIT];
-    let mut i: usize = 0;
-    while i < n {
-        out[i] = extents[i];
-        i += 1;
-    }
-    Numbers {
-        count: n,
-        entries: out,
-    }
+    numbers_from(&extents[0..n])
 }
 
 // A layout's strides.
@@ -66,12 +52,7 @@ pub fn strides_of(layout: Layout) -> Steps
 {
     let strides = layout.strides;
     let n = layout::axis_count(layout.rank);
-    let mut out = [0i64; RAW_FUSED_RANK_LIMIT];
-    let mut i: usize = 0;
-    while i < n {
-        out[i] = strides[i];
-        i += 1;
-    }
+    let out = layout::padded_strides(&strides[0..n]);
     Steps {
         count: n,
         entries: out,
@@ -240,17 +221,9 @@ pub fn spread_numbers(n: usize, axes: Numbers, list: Numbers) -> Numbers
 fn ones(n: usize) -> Numbers
     ensures { λ r. ⌜ r ≡ heldNumbers (replicate (min n rankLimit) 1) ⌝ }
 {
+    let all = [1u64; RAW_FUSED_RANK_LIMIT];
     let m = layout::axis_count(n);
-    let mut out = [0u64; RAW_FUSED_RANK_LIMIT];
-    let mut i: usize = 0;
-    while i < m {
-        out[i] = 1;
-        i += 1;
-    }
-    Numbers {
-        count: m,
-        entries: out,
-    }
+    numbers_from(&all[0..m])
 }
 
 // Where entry i of a list stands once `axis` is put back in.

@@ -131,17 +131,24 @@ pub struct View {
     pub offset: i64,
 }
 
+// The first numbers of a list, one for each axis that a layout can have, filled up with `rest`.
+pub fn padded_numbers(list: &[u64], rest: u64) -> [u64; RAW_FUSED_RANK_LIMIT]
+    ensures { λ r. ⌜ r ≡ padded rankLimit rest (now (list .entry)) ⌝ }
+{
+    let mut out = [rest; RAW_FUSED_RANK_LIMIT];
+    let mut i: usize = 0;
+    while i < RAW_FUSED_RANK_LIMIT && i < list.len() {
+        out[i] = list[i];
+        i += 1;
+    }
+    out
+}
+
 // The extents as a layout holds them: the first ones, filled up with 1.
 pub fn padded_extents(extents: &[u64]) -> [u64; RAW_FUSED_RANK_LIMIT]
     ensures { λ r. ⌜ r ≡ padded rankLimit 1 (now (extents .entry)) ⌝ }
 {
-    let mut out = [1u64; RAW_FUSED_RANK_LIMIT];
-    let mut i: usize = 0;
-    while i < RAW_FUSED_RANK_LIMIT && i < extents.len() {
-        out[i] = extents[i];
-        i += 1;
-    }
-    out
+    padded_numbers(extents, 1)
 }
 
 // The strides as a layout holds them: the first ones, filled up with 0.

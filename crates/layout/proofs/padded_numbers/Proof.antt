@@ -6,14 +6,14 @@ use native.Mathlib.Omega.{arith}
 use lib.ListN.{length}
 use Rattle.layout.specs.Layouts.{rankLimit}
 use Rattle.layout.proofs.Fill.{filled, fill-one, fill-done}
-use Rattle.layout.proofs.padded_extents.Statement.{statement}
-use Rattle.layout.proofs.padded_extents.Tie as tie
+use Rattle.layout.proofs.padded_numbers.Statement.{statement}
+use Rattle.layout.proofs.padded_numbers.Tie as tie
 
 abbrev Inv-loop : tie.InvT-loop
-Inv-loop extents out₀ i₀ out i = (i ≤ length extents) × (i ≤ rankLimit) × (out ≡ filled rankLimit 1 extents i)
+Inv-loop list rest out₀ i₀ out i = (i ≤ length list) × (i ≤ rankLimit) × (out ≡ filled rankLimit rest list i)
 
 abbrev μ-loop : tie.MeasureT-loop
-μ-loop extents out₀ i₀ out i = rankLimit - i
+μ-loop list rest out₀ i₀ out i = rankLimit - i
 
 loop-holds : tie.Need-loop-holds Inv-loop μ-loop
 loop-holds c = (search needs, search needs, refl)
@@ -39,20 +39,20 @@ loop-less c = search needs
 loop-again : tie.Need-loop-again Inv-loop μ-loop
 loop-again c =
     let l = c .before .before .before in
-    (omega (arith, ltb-true), omega (arith, ltb-true), fill-one rankLimit 1 0 (l .before .args .extents .now) (l .loop .out) (l .loop .i) _ (omega (arith, ltb-true)) (omega (arith, ltb-true)) (l .loop .inv .2) refl)
+    (omega (arith, ltb-true), omega (arith, ltb-true), fill-one rankLimit (l .before .args .rest) 0 (l .before .args .list .now) (l .loop .out) (l .loop .i) _ (omega (arith, ltb-true)) (omega (arith, ltb-true)) (l .loop .inv .2) refl)
 
 returns : tie.Need-returns Inv-loop μ-loop
 returns c =
     let l = c .before .before in
-    fill-done rankLimit 1 (l .before .args .extents .now) (l .loop .out) (l .loop .i) (omega (arith, ltb-false)) (l .loop .inv .2)
+    fill-done rankLimit (l .before .args .rest) (l .before .args .list .now) (l .loop .out) (l .loop .i) (omega (arith, ltb-false)) (l .loop .inv .2)
 
 returns-2 : tie.Need-returns-2 Inv-loop μ-loop
 returns-2 c =
     let l = c .before in
-    fill-done rankLimit 1 (l .before .args .extents .now) (l .loop .out) (l .loop .i) (omega arith) (l .loop .inv .2)
+    fill-done rankLimit (l .before .args .rest) (l .before .args .list .now) (l .loop .out) (l .loop .i) (omega arith) (l .loop .inv .2)
 
-pub padded-extents-spec : {M : Type 1} → statement M
-padded-extents-spec =
+pub padded-numbers-spec : {M : Type 1} → statement M
+padded-numbers-spec =
     tie.close
     (tie.spec
     Inv-loop
