@@ -10,13 +10,10 @@ use lib.Dec.{eqb}
 use lib.ListN.{length, drop, getD, replicate, drop-of-length-le, replicate-append-replicate}
 use lib.Seq.{drop-cons}
 use Rattle.layout.specs.Layouts.{rankLimit}
+use Rattle.spans.proofs.Apart.{and-false}
 use Rattle.axis_lists.specs.Held.{sameList}
 
 -- ---- whether two lists are the same
-and-false : (t : Bool) → (t && false) ≡ false
-and-false true = refl
-and-false false = refl
-
 pub same-lengths : (xs ys : List ℕ) → (length xs ≡ length ys → ⊥) → false ≡ sameList xs ys
 unfolding sameList
 same-lengths [] [] h = absurd (h refl)
