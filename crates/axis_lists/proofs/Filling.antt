@@ -1,4 +1,4 @@
--- Lists written into an array of axes, entry by entry. Assumes nothing.
+-- Turns of the loops over axis lists: entries written into an array of axes, found, picked, spread over axes and left out. Assumes nothing.
 use mathlib.Core.Path.{_≡_, refl, sym, ap, ap₂, _∙_}
 use mathlib.Core.Bool.{Bool, true, false, cond, _||_}
 use mathlib.Core.List.{List, [], _∷_, _++_}

@@ -1,4 +1,4 @@
--- Turns of the loops over lent axes. Assumes nothing.
+-- Whether two lent lists are the same, entry by entry; and an array of one number in two parts. Assumes nothing.
 use mathlib.Core.Path.{_≡_, refl, sym, ap, _∙_}
 use mathlib.Core.Bool.{Bool, true, false, _&&_}
 use mathlib.Core.List.{List, [], _∷_, _++_}

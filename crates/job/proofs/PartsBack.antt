@@ -17,7 +17,7 @@ use Rattle.job_bytes.proofs.Reading.{then-read, byte-range, words-count}
 use Rattle.job_bytes.proofs.Back.{Here, WordsHere, Number, here-front, here-behind, here-both, number-held, number-holds, byte-held, byte-holds, words-held, words-hold}
 use Rattle.job.specs.Jobs.{heldList, viewOf}
 use Rattle.job.specs.Format.{viewBytes, listBytes, viewAt, listAt}
-use Rattle.job_bytes.specs.Version.{storedRankLimit, listLimit}
+use Rattle.job_bytes.specs.Version.{storedRankLimit, listLimit, stored-held}
 use Rattle.job.specs.Made.{MadeView}
 
 -- ---- two's complement there and back
@@ -48,7 +48,7 @@ list-bytes l h = rw (padded-back listLimit 0 (length l) l refl h)
 pub view-bytes : (es : List ℕ) (ss : List ℤ) (o : ℤ) → length ss ≡ length es → length es ≤ storedRankLimit → viewBytes (viewOf es ss o) ≡ bytesOf 1 (length es) ++ (wordsOf es ++ (wordsOf (map wordOf ss) ++ bytesOf 8 (wordOf o)))
 unfolding viewBytes
 view-bytes es ss o e h =
-    rw (padded-back rankLimit 1 (min (length es) storedRankLimit) es (omega arith) (omega arith), padded-back rankLimit (pos 0) (min (length es) storedRankLimit) ss (omega arith) (omega arith))
+    rw (padded-back rankLimit 1 (min (length es) storedRankLimit) es (omega arith) (omega (arith, stored-held)), padded-back rankLimit (pos 0) (min (length es) storedRankLimit) ss (omega arith) (omega (arith, stored-held)))
 
 -- words as they were read
 view-words : (n : ℕ) (es ws : List ℕ) (o : ℕ) → length es ≡ n → length ws ≡ n → n ≤ storedRankLimit → AllBelow (2 ^ 64) ws → o < 2 ^ 64 → viewBytes (viewOf es (map signedOf ws) (signedOf o)) ≡ bytesOf 1 n ++ (wordsOf es ++ (wordsOf ws ++ bytesOf 8 o))

@@ -16,7 +16,7 @@ use Rattle.job_lists.specs.declared.ReadView.{ReadView}
 use Rattle.job_lists.specs.declared.ReadList.{ReadList}
 use Rattle.job.specs.Jobs.{heldList, viewOf}
 use Rattle.job.specs.Format.{viewAt, listAt}
-use Rattle.job_bytes.specs.Version.{storedRankLimit, listLimit}
+use Rattle.job_bytes.specs.Version.{storedRankLimit, listLimit, stored-listed}
 use Rattle.job_lists.specs.Held.{heldView, heldEntries}
 
 -- ---- words read as i64
@@ -99,4 +99,4 @@ got-list (fault k) r e h = let z : false ≡ true = sym (ap (λ (n : ReadList). 
 
 -- a rank is a count of words that can be read
 pub rank-words : (bs : List ℕ) (at n k : ℕ) → byteAt 0 storedRankLimit bs at ≡ read n k → n ≤ listLimit
-rank-words bs at n k e = omega (arith, byte-range 0 storedRankLimit bs at n k e .1)
+rank-words bs at n k e = omega (arith, stored-listed, byte-range 0 storedRankLimit bs at n k e .1)

@@ -1,4 +1,4 @@
-// The views and the lists of a stored job, read.
+// The views and the lists of a stored job, read, each with the place after it or that of the field at fault.
 ghost use mathlib.Core.Path.{_≡_};
 ghost use mathlib.Core.List.{map};
 ghost use Prim.Native.Nat.{_≤_};

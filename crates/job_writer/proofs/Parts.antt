@@ -23,7 +23,7 @@ use Rattle.job.specs.declared.Spec.{Spec}
 use Rattle.job.specs.declared.Job.{Job}
 use Rattle.job.specs.Jobs.{entriesOf}
 use Rattle.job.specs.Format.{storedExtents, storedStrides, viewBytes, listBytes, sizesBytes, specBytes, viewsBytes, bodyBytes, encoded, viewMost, listMost, viewsMost, specMost, kindByte, elementByte}
-use Rattle.job_bytes.specs.Version.{version, storedRankLimit, listLimit}
+use Rattle.job_bytes.specs.Version.{version, storedRankLimit, listLimit, stored-held}
 use Rattle.job_writer.specs.Written.{Put, Written, Sized}
 
 -- ---- how many bytes
@@ -36,7 +36,7 @@ length-view v e s =
     let xs : List ℕ = wordsOf es in
     let ys : List ℕ = wordsOf (map wordOf ss) in
     let zs : List ℕ = bytesOf 8 (wordOf (v .offset)) in
-    omega (arith, length-append (bytesOf 1 n) (xs ++ (ys ++ zs)), length-append xs (ys ++ zs), length-append ys zs, length-bytes 1 n, length-bytes 8 (wordOf (v .offset)), length-words es, length-words (map wordOf ss), length-map ss wordOf, length-take (min (v .layout .rank) storedRankLimit) (v .layout .extents), length-take (min (v .layout .rank) storedRankLimit) (v .layout .strides))
+    omega (arith, stored-held, length-append (bytesOf 1 n) (xs ++ (ys ++ zs)), length-append xs (ys ++ zs), length-append ys zs, length-bytes 1 n, length-bytes 8 (wordOf (v .offset)), length-words es, length-words (map wordOf ss), length-map ss wordOf, length-take (min (v .layout .rank) storedRankLimit) (v .layout .extents), length-take (min (v .layout .rank) storedRankLimit) (v .layout .strides))
 
 pub length-list : (l : List16) → length (l .entries) ≡ listLimit → length (listBytes l) ≡ 1 + 8 * min (l .count) listLimit
 unfolding listBytes
@@ -104,8 +104,8 @@ put-view-is v n k at w ws before a b c after se ss h ew eo ek p q r t =
     let zs : List ℕ = map wordOf (storedStrides (v .layout)) in
     let te : take n (v .layout .extents) ≡ es = ap (λ (j : ℕ). take j (v .layout .extents)) h in
     let ts : take n ws ≡ zs = ap (take n) ew ∙ take-map wordOf n (v .layout .strides) ∙ ap (λ (j : ℕ). map wordOf (take j (v .layout .strides))) h in
-    let m : n ≡ length es = omega (arith, length-take (min (v .layout .rank) storedRankLimit) (v .layout .extents)) in
-    let o : n ≡ length zs = omega (arith, length-map (storedStrides (v .layout)) wordOf, length-take (min (v .layout .rank) storedRankLimit) (v .layout .strides)) in
+    let m : n ≡ length es = omega (arith, stored-held, length-take (min (v .layout .rank) storedRankLimit) (v .layout .extents)) in
+    let o : n ≡ length zs = omega (arith, stored-held, length-map (storedStrides (v .layout)) wordOf, length-take (min (v .layout .rank) storedRankLimit) (v .layout .strides)) in
     let p1 : Put before a at (bytesOf 1 (length es)) (at + 1) = put-of (rw (← m) p) (omega (arith, length-bytes 1 (length es))) in
     let p2 : Put a b (at + 1) (wordsOf es) (at + 1 + 8 * n) = put-of (rw (← te) q) (omega (arith, length-words es)) in
     let p3 : Put b c (at + 1 + 8 * n) (wordsOf zs) (at + 1 + 16 * n) = put-of (rw (← ts) r) (omega (arith, length-words zs)) in

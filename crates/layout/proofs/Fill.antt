@@ -1,4 +1,4 @@
--- Lists stored in an array of a fixed length, entry by entry. Assumes nothing.
+-- Lists stored in an array of a fixed length, entry by entry, and read again. Assumes nothing.
 use mathlib.Core.Path.{_≡_, refl, ap₂, _∙_}
 use mathlib.Core.Bool.{Bool, true, false}
 use mathlib.Core.List.{List, _++_, append-nil}

@@ -1,4 +1,4 @@
--- What an accepted product, span or reset is: the product, the least and the greatest sums, the way back. Assumes nothing.
+-- What an accepted product, span, reset or offset is: the product, the least and the greatest sums, the way back, the place. Assumes nothing.
 use mathlib.Core.Path.{_≡_, refl, sym, ap, subst, _∙_}
 use mathlib.Core.Bool.{Bool, true, false}
 use mathlib.Core.List.{List, [], _∷_}
