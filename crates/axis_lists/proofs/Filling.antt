@@ -1,22 +1,21 @@
--- Lists written into an array of eight, entry by entry. Assumes nothing.
+-- Turns of the loops over axis lists: entries written into an array of axes, found, picked, spread over axes and left out. Assumes nothing.
 use mathlib.Core.Path.{_≡_, refl, sym, ap, ap₂, _∙_}
-use mathlib.Core.Bool.{Bool, true, false, cond, _||_, _&&_}
+use mathlib.Core.Bool.{Bool, true, false, cond, _||_}
 use mathlib.Core.List.{List, [], _∷_, _++_}
 use Prim.Native.Nat.{ℕ, zero, suc, _+_, _-_, _<_, _≤_, min}
 use native.Mathlib.Numerals.{add-one}
 use native.Mathlib.Omega.{arith}
-use borrow.Author.Tests.{eq-eqb, ne-eqb, lt-ltb, le-ltb, ltb-true, ltb-false, eqb-true}
+use borrow.Author.Tests.{eq-eqb, ne-eqb, lt-ltb, le-ltb, ltb-true, ltb-false}
 use lib.Dec.{eqb, ltb}
 use lib.ListN.{length, take, drop, getD, set, replicate, length-take, length-drop, length-append, drop-of-length-le, List·getD-eq-default}
-use lib.Seq.{take-all, drop-cons, getD-take, take-append-seam}
+use lib.Seq.{take-all, take-take, drop-nil, drop-cons, getD-take, set-append-left, set-out}
 use lib.IntN.{ℤ, pos}
 use Rattle.indexing.specs.Coordinates.{has, pick, spread, othersFrom}
 use Rattle.indexing.specs.Start.{without}
 use Rattle.indexing.specs.Axes.{length-pick, getD-pick, length-spread}
 use Rattle.layout.specs.Layouts.{rankLimit, padded}
-use Rattle.layout.proofs.Fill.{fill-one, fill-short}
-use Rattle.spans.proofs.Parts.{take-count}
-use Rattle.axis_lists.specs.Held.{heldNumbers, heldSteps, sameList, Decides}
+use Rattle.layout.proofs.Fill.{filled, fill-one, fill-done, padded-back}
+use Rattle.axis_lists.specs.Held.{heldNumbers, heldSteps}
 
 pub numbers-are : (n : ℕ) (out l : List ℕ) → n ≡ length l → out ≡ padded rankLimit 0 l → record { count = n; entries = out } ≡ heldNumbers l
 numbers-are n out l e f = ap₂ (λ (c : ℕ) (xs : List ℕ). record { count = c; entries = xs }) e f
@@ -26,16 +25,13 @@ steps-are n out l e f = ap₂ (λ (c : ℕ) (xs : List ℤ). record { count = c;
 
 -- what is written after i entries of a list
 abbrev pub written : {A : Type 0} → A → List A → ℕ → List A
-written d l i = take i l ++ replicate (rankLimit - i) d
-
-pub none-written : {A : Type 0} (d : A) (l : List A) → replicate rankLimit d ≡ written d l 0
-none-written d l = refl
+written d l i = filled rankLimit d l i
 
 pub one-written : {A : Type 0} (d : A) (l out : List A) (i : ℕ) (x : A) → i < length l → length l ≤ rankLimit → out ≡ written d l i → x ≡ getD l i d → set out i x ≡ written d l (i + 1)
-one-written d l out i x h k e f = ap₂ (λ (o : List _) (y : _). set o i y) e f ∙ fill-one rankLimit d d l i (omega arith) h
+one-written d l out i x h k e f = fill-one rankLimit d d l out i x (omega arith) h e f
 
 pub all-written : {A : Type 0} (d : A) (l : List A) (i : ℕ) → i ≡ length l → length l ≤ rankLimit → written d l i ≡ padded rankLimit d l
-all-written d l i e h = fill-short rankLimit d l i (omega arith) (omega arith) (omega arith)
+all-written d l i e h = fill-done rankLimit d l (written d l i) i (omega arith) refl
 
 -- ---- membership, entry by entry
 module _ (xs : List ℕ) (i a : ℕ) where
@@ -69,17 +65,7 @@ pub length-picked : {A : Type 0} (d : A) (axes : List ℕ) (l : List A) (n : ℕ
 length-picked d axes l n = length-pick d (take n axes) l ∙ length-take n axes
 
 -- ---- spreading, from the last entry to the first
-set-past : {A : Type 0} (l : List A) (i : ℕ) (x : A) → length l ≤ i → set l i x ≡ l
-set-past [] i x h = refl
-set-past (y ∷ l) zero x h = absurd (omega arith)
-set-past (y ∷ l) (suc i) x h = ap (λ (t : List _). y ∷ t) (set-past l i x (omega arith))
-
-set-front : {A : Type 0} (l m : List A) (i : ℕ) (x : A) → i < length l → set (l ++ m) i x ≡ set l i x ++ m
-set-front [] m i x h = absurd (omega arith)
-set-front (y ∷ l) m zero x h = refl
-set-front (y ∷ l) m (suc i) x h = ap (λ (t : List _). y ∷ t) (set-front l m i x (omega arith))
-
--- eight entries: n spread over the axes, then zeros
+-- an array: n entries spread over the axes, then zeros
 abbrev pub spreadIn : {A : Type 0} → A → A → ℕ → List ℕ → List A → List A
 spreadIn z d n axes l = spread d n axes l ++ replicate (rankLimit - n) z
 
@@ -105,8 +91,8 @@ spread-one {A} z d n axes l i x h k e = rw (e, add-one i, drop-cons axes i 0 h, 
     rest = spread d n (drop (suc i) axes) (drop (suc i) l)
 
     go : (t : Bool) → ltb (getD axes i 0) n ≡ t → cond (ltb (getD axes i 0) n) (set (rest ++ replicate (rankLimit - n) z) (getD axes i 0) (getD l i z)) (rest ++ replicate (rankLimit - n) z) ≡ set rest (getD axes i 0) (getD l i z) ++ replicate (rankLimit - n) z
-    go true f = rw f (set-front rest (replicate (rankLimit - n) z) (getD axes i 0) (getD l i z) (omega (arith, ltb-true (getD axes i 0) n f, length-spread d n (drop (suc i) axes) (drop (suc i) l))))
-    go false f = rw f (ap (λ (t : List _). t ++ replicate (rankLimit - n) z) (sym (set-past rest (getD axes i 0) (getD l i z) (omega (arith, ltb-false (getD axes i 0) n f, length-spread d n (drop (suc i) axes) (drop (suc i) l))))))
+    go true f = rw f (set-append-left rest (replicate (rankLimit - n) z) (getD axes i 0) (getD l i z) (omega (arith, ltb-true (getD axes i 0) n f, length-spread d n (drop (suc i) axes) (drop (suc i) l))))
+    go false f = rw f (ap (λ (t : List _). t ++ replicate (rankLimit - n) z) (sym (set-out rest (getD axes i 0) (getD l i z) (omega (arith, ltb-false (getD axes i 0) n f, length-spread d n (drop (suc i) axes) (drop (suc i) l))))))
 
 -- all of it, as it is held
 pub spread-padded : {A : Type 0} (z d : A) (n : ℕ) (axes : List ℕ) (l : List A) → n ≤ rankLimit → spreadIn z d n axes l ≡ padded rankLimit z (spread d n axes l)
@@ -145,11 +131,7 @@ pub record Head {A : Type 0} (d : A) (l : List A) (c : ℕ) (x : A) (rest : List
   pub next : drop (c + 1) l ≡ rest
 
 pub head-of : {A : Type 0} (d : A) (l : List A) (c : ℕ) (x : A) (rest : List A) → drop c l ≡ x ∷ rest → Head d l c x rest
-head-of d [] zero x rest e = absurd (nil-cons e)
-  where
-    nil-cons : {B : Type 0} {y : B} {ys : List B} → [] ≡ y ∷ ys → ⊥
-    nil-cons f = let z : _≡_ {A = ℕ} 0 1 = cc in omega arith
-head-of d [] (suc c) x rest e = absurd (nil-cons e)
+head-of d [] c x rest e = absurd (nil-cons (sym (drop-nil c) ∙ e))
   where
     nil-cons : {B : Type 0} {y : B} {ys : List B} → [] ≡ y ∷ ys → ⊥
     nil-cons f = let z : _≡_ {A = ℕ} 0 1 = cc in omega arith
@@ -204,44 +186,12 @@ spread-both d n (a ∷ axes) [] (suc m) e = absurd (omega arith)
 spread-both d n (a ∷ axes) (x ∷ l) zero e = absurd (omega arith)
 spread-both d n (a ∷ axes) (x ∷ l) (suc m) e = ap (λ (t : List _). set t a x) (spread-both d n axes l m (omega arith))
 
-take-less : {A : Type 0} (i k : ℕ) (l : List A) → i ≤ k → take i (take k l) ≡ take i l
-take-less zero k l h = refl
-take-less (suc i) zero l h = absurd (omega arith)
-take-less (suc i) (suc k) [] h = refl
-take-less (suc i) (suc k) (x ∷ l) h = ap (λ (t : List _). x ∷ t) (take-less i k l (omega arith))
-
 pub spread-counted : {A : Type 0} (d : A) (n : ℕ) (axes : List ℕ) (l : List A) (a b m : ℕ) → length axes ≡ rankLimit → length l ≡ rankLimit → m ≡ min (min a rankLimit) (min b rankLimit)
     → spread d n (take m axes) (take m l) ≡ spread d n (take a axes) (take b l)
 spread-counted d n axes l a b m p q e =
-    ap₂ (λ (xs : List ℕ) (ys : List _). spread d n xs ys) (sym (take-less m a axes (omega arith))) (sym (take-less m b l (omega arith)))
+    ap₂ (λ (xs : List ℕ) (ys : List _). spread d n xs ys) (sym (take-take m a axes (omega arith))) (sym (take-take m b l (omega arith)))
     ∙ spread-both d n (take a axes) (take b l) m (omega (arith, length-take a axes, length-take b l))
 
--- a list of at most eight, read again
+-- a list that is not too long, read again
 pub read-back : {A : Type 0} (d : A) (l : List A) → length l ≤ rankLimit → take (length l) (padded rankLimit d l) ≡ l
-unfolding padded
-read-back d l h = rw (take-all rankLimit l h) (take-append-seam l (replicate (rankLimit - length l) d))
-
--- ---- a flag that decides whether two lists are the same is the test
-same-true : (xs ys : List ℕ) → sameList xs ys ≡ true → xs ≡ ys
-unfolding sameList
-same-true [] [] e = refl
-same-true [] (b ∷ ys) e = let z : _≡_ {A = ℕ} 0 1 = cc in absurd (omega arith)
-same-true (a ∷ xs) [] e = let z : _≡_ {A = ℕ} 0 1 = cc in absurd (omega arith)
-same-true (a ∷ xs) (b ∷ ys) e = go (eqb a b) refl e (same-true xs ys)
-  where
-    go : (t : Bool) → eqb a b ≡ t → (t && sameList xs ys) ≡ true → (sameList xs ys ≡ true → xs ≡ ys) → a ∷ xs ≡ b ∷ ys
-    go true f h ih = ap₂ _∷_ (eqb-true a b f) (ih h)
-    go false f h ih = let z : _≡_ {A = ℕ} 0 1 = cc in absurd (omega arith)
-
-same-refl : (xs : List ℕ) → sameList xs xs ≡ true
-unfolding sameList
-same-refl [] = refl
-same-refl (a ∷ xs) = rw (eq-eqb a a refl) (same-refl xs)
-
-pub decides-same : (r : Bool) (xs ys : List ℕ) → Decides r xs ys → r ≡ sameList xs ys
-decides-same r xs ys d = go r (sameList xs ys) refl refl
-  where
-    go : (x y : Bool) → r ≡ x → sameList xs ys ≡ y → r ≡ sameList xs ys
-    go true y e f = e ∙ sym (ap (sameList xs) (sym (d .yes e)) ∙ same-refl xs)
-    go false true e f = d .no (same-true xs ys f) ∙ sym f
-    go false false e f = e ∙ sym f
+read-back d l h = padded-back rankLimit d (length l) l refl h

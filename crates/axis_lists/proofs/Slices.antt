@@ -1,22 +1,19 @@
--- Turns of the loops over lent axes. Assumes nothing.
+-- Whether two lent lists are the same, entry by entry; and an array of one number in two parts. Assumes nothing.
 use mathlib.Core.Path.{_≡_, refl, sym, ap, _∙_}
-use mathlib.Core.Bool.{Bool, true, false, cond, _&&_}
+use mathlib.Core.Bool.{Bool, true, false, _&&_}
 use mathlib.Core.List.{List, [], _∷_, _++_}
-use Prim.Native.Nat.{ℕ, zero, suc, _+_, _-_, _<_, _≤_}
+use Prim.Native.Nat.{ℕ, suc, _+_, _-_, _<_, _≤_}
 use native.Mathlib.Numerals.{add-one}
 use native.Mathlib.Omega.{arith}
 use borrow.Author.Tests.{eq-eqb, ne-eqb}
-use lib.Dec.{eqb, ltb}
-use lib.ListN.{length, drop, getD, set, replicate, drop-of-length-le, replicate-append-replicate}
+use lib.Dec.{eqb}
+use lib.ListN.{length, drop, getD, replicate, drop-of-length-le, replicate-append-replicate}
 use lib.Seq.{drop-cons}
 use Rattle.layout.specs.Layouts.{rankLimit}
+use Rattle.spans.proofs.Apart.{and-false}
 use Rattle.axis_lists.specs.Held.{sameList}
 
 -- ---- whether two lists are the same
-and-false : (t : Bool) → (t && false) ≡ false
-and-false true = refl
-and-false false = refl
-
 pub same-lengths : (xs ys : List ℕ) → (length xs ≡ length ys → ⊥) → false ≡ sameList xs ys
 unfolding sameList
 same-lengths [] [] h = absurd (h refl)

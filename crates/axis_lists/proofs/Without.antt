@@ -2,19 +2,15 @@
 use mathlib.Core.Path.{_≡_, refl, sym, ap, ap₂, _∙_}
 use mathlib.Core.Bool.{Bool, true, false, cond, _||_}
 use mathlib.Core.List.{List, [], _∷_, _++_}
-use Prim.Native.Nat.{ℕ, zero, suc, _+_, _-_, _<_, _≤_}
+use Prim.Native.Nat.{ℕ, zero, suc, _-_, _<_, _≤_}
 use native.Mathlib.Omega.{arith}
-use borrow.Author.Tests.{eq-eqb, ne-eqb, lt-ltb, le-ltb, ltb-true, ltb-false, eqb-true, eqb-false}
+use borrow.Author.Tests.{lt-ltb, le-ltb, ltb-true, ltb-false, eqb-true, eqb-false}
 use lib.Dec.{eqb, ltb}
-use lib.ListN.{length, take, drop, getD, length-append}
-use lib.Seq.{getD-append-seam}
+use lib.ListN.{length, length-append}
+use lib.Seq.{append-snoc, getD-append-seam}
 use Rattle.indexing.specs.Coordinates.{has, pick, othersFrom, others}
 use Rattle.indexing.specs.Start.{without}
 use Rattle.indexing.specs.Axes.{length-pick}
-
-snoc : {A : Type 0} (p l : List A) (x : A) → (p ++ (x ∷ [])) ++ l ≡ p ++ (x ∷ l)
-snoc [] l x = refl
-snoc (y ∷ p) l x = ap (λ (t : List _). y ∷ t) (snoc p l x)
 
 longer : {A : Type 0} (p : List A) (x : A) → length (p ++ (x ∷ [])) ≡ suc (length p)
 longer p x = omega (arith, length-append p (x ∷ []))
@@ -53,7 +49,7 @@ module _ {A : Type 0} (d : A) (v : ℕ) where
   -- the axes from that of x on, with x counted to those before
   next : (p l : List A) (x : A) (n : ℕ) → pick d (othersFrom (suc (length p)) n (v ∷ [])) (p ++ (x ∷ l)) ≡ pick d (othersFrom (length (p ++ (x ∷ []))) n (v ∷ [])) ((p ++ (x ∷ [])) ++ l)
   next p l x n =
-      ap₂ (λ (i : ℕ) (q : List A). pick d (othersFrom i n (v ∷ [])) q) (sym (longer p x)) (sym (snoc p l x))
+      ap₂ (λ (i : ℕ) (q : List A). pick d (othersFrom i n (v ∷ [])) q) (sym (longer p x)) (sym (append-snoc p x l))
 
   from : (p l : List A) → pick d (othersFrom (length p) (length l) (v ∷ [])) (p ++ l) ≡ left (length p) l
   unfolding pick othersFrom has

@@ -1,5 +1,6 @@
-// Lists of up to eight numbers by value, and what compile makes of a spec's axis lists: picking, spreading, leaving out. Every
-// function answers for all its arguments: of a list, the first `count` entries count, or all eight where `count` is larger.
+// Lists by value, with as many entries as a layout can have axes, and what compile makes of a spec's axis lists: picking,
+// spreading, leaving out. Every function answers for all its arguments: of a list, the first `count` entries count, or all where
+// `count` is larger.
 ghost use mathlib.Core.Path.{_≡_};
 ghost use mathlib.Core.Bool.{cond};
 ghost use Prim.Native.Nat.{_+_, _-_, _<_, min};
@@ -9,7 +10,7 @@ ghost use lib.ListN.{getD, replicate};
 ghost use Rattle.indexing.specs.Coordinates.{has, pick, spread, others};
 ghost use Rattle.indexing.specs.Start.{without};
 ghost use Rattle.layout.specs.Layouts.{rankLimit, padded, extentsOf, stridesOf};
-ghost use Rattle.axis_lists.specs.Held.{numbersOf, stepsOf, heldNumbers, heldSteps, putNumber, putStep, sameList, Decides};
+ghost use Rattle.axis_lists.specs.Held.{numbersOf, stepsOf, heldNumbers, heldSteps, putNumber, putStep, sameList};
 use layout::Layout;
 use layout::RAW_FUSED_RANK_LIMIT;
 
@@ -25,16 +26,11 @@ pub struct Steps {
     pub entries: [i64; RAW_FUSED_RANK_LIMIT],
 }
 
-// A lent list; of a longer one the first eight entries are held.
+// A lent list; of one that is too long the first entries are held.
 pub fn numbers_from(list: &[u64]) -> Numbers
     ensures { λ r. ⌜ r ≡ heldNumbers (now (list .entry)) ⌝ }
 {
-    let mut out = [0u64; RAW_FUSED_RANK_LIMIT];
-    let mut i: usize = 0;
-    while i < RAW_FUSED_RANK_LIMIT && i < list.len() {
-        out[i] = list[i];
-        i += 1;
-    }
+    let out = layout::padded_numbers(list, 0);
     Numbers {
         count: list.len(),
         entries: out,
@@ -47,16 +43,7 @@ pub fn extents_of(layout: Layout) -> Numbers
 {
     let extents = layout.extents;
     let n = layout::axis_count(layout.rank);
-    let mut out = [0u64; RAW_FUSED_RANK_LIMIT];
-    let mut i: usize = 0;
-    while i < n {
-        out[i] = extents[i];
-        i += 1;
-    }
-    Numbers {
-        count: n,
-        entries: out,
-    }
+    numbers_from(&extents[0..n])
 }
 
 // A layout's strides.
@@ -65,12 +52,7 @@ pub fn strides_of(layout: Layout) -> Steps
 {
     let strides = layout.strides;
     let n = layout::axis_count(layout.rank);
-    let mut out = [0i64; RAW_FUSED_RANK_LIMIT];
-    let mut i: usize = 0;
-    while i < n {
-        out[i] = strides[i];
-        i += 1;
-    }
+    let out = layout::padded_strides(&strides[0..n]);
     Steps {
         count: n,
         entries: out,
@@ -91,7 +73,7 @@ pub fn contains(list: &[u64], axis: u64) -> bool
     false
 }
 
-// The axes below n (at most eight) that the list has not, rising.
+// The axes below n, or below the limit, that the list has not, rising.
 pub fn other_axes(n: usize, list: &[u64]) -> Numbers
     ensures { λ r. ⌜ r ≡ heldNumbers (others (min n rankLimit) (now (list .entry))) ⌝ }
 {
@@ -142,23 +124,6 @@ pub fn step_at(list: Steps, axis: u64) -> i64
 }
 
 // The entries on the axes, in the axes' order.
-pub fn pick_numbers(axes: Numbers, list: Numbers) -> Numbers
-    ensures { λ r. ⌜ r ≡ heldNumbers (pick 0 (numbersOf axes) (numbersOf list)) ⌝ }
-{
-    let entries = axes.entries;
-    let n = layout::axis_count(axes.count);
-    let mut out = [0u64; RAW_FUSED_RANK_LIMIT];
-    let mut i: usize = 0;
-    while i < n {
-        out[i] = number_at(list, entries[i]);
-        i += 1;
-    }
-    Numbers {
-        count: n,
-        entries: out,
-    }
-}
-
 pub fn pick_steps(axes: Numbers, list: Steps) -> Steps
     ensures { λ r. ⌜ r ≡ heldSteps (pick (pos 0) (numbersOf axes) (stepsOf list)) ⌝ }
 {
@@ -218,7 +183,7 @@ fn both_counts(a: usize, b: usize) -> usize
     if n < m { n } else { m }
 }
 
-// n entries (at most eight): on each axis of the list the step that stands with it, and 0 on every other.
+// n entries, or as many as the limit: on each axis of the list the step that stands with it, and 0 on every other.
 pub fn spread_steps(n: usize, axes: Numbers, list: Steps) -> Steps
     ensures { λ r. ⌜ r ≡ heldSteps (spread (pos 0) (min n rankLimit) (numbersOf axes) (stepsOf list)) ⌝ }
 {
@@ -252,21 +217,13 @@ pub fn spread_numbers(n: usize, axes: Numbers, list: Numbers) -> Numbers
     out
 }
 
-// n ones (at most eight).
+// n ones, or as many as the limit.
 fn ones(n: usize) -> Numbers
     ensures { λ r. ⌜ r ≡ heldNumbers (replicate (min n rankLimit) 1) ⌝ }
 {
+    let all = [1u64; RAW_FUSED_RANK_LIMIT];
     let m = layout::axis_count(n);
-    let mut out = [0u64; RAW_FUSED_RANK_LIMIT];
-    let mut i: usize = 0;
-    while i < m {
-        out[i] = 1;
-        i += 1;
-    }
-    Numbers {
-        count: m,
-        entries: out,
-    }
+    numbers_from(&all[0..m])
 }
 
 // Where entry i of a list stands once `axis` is put back in.
@@ -279,22 +236,6 @@ fn put_back(i: usize, axis: u64) -> u64
 }
 
 // The entries of all axes but one; of all, where the axis is past the last.
-pub fn without_number(axis: u64, list: Numbers) -> Numbers
-    ensures { λ r. ⌜ r ≡ heldNumbers (without axis (numbersOf list)) ⌝ }
-{
-    let n = left_over(list.count, axis);
-    let mut out = [0u64; RAW_FUSED_RANK_LIMIT];
-    let mut i: usize = 0;
-    while i < n {
-        out[i] = number_at(list, put_back(i, axis));
-        i += 1;
-    }
-    Numbers {
-        count: n,
-        entries: out,
-    }
-}
-
 pub fn without_step(axis: u64, list: Steps) -> Steps
     ensures { λ r. ⌜ r ≡ heldSteps (without axis (stepsOf list)) ⌝ }
 {
@@ -317,27 +258,6 @@ fn left_over(count: usize, axis: u64) -> usize
 {
     let n = layout::axis_count(count);
     if axis < n as u64 { n - 1 } else { n }
-}
-
-// Whether two lists have the same entries.
-pub fn same_numbers(a: Numbers, b: Numbers) -> bool
-    ensures { λ r. ⌜ Decides r (numbersOf a) (numbersOf b) ⌝ }
-{
-    let x = a.entries;
-    let y = b.entries;
-    let n = layout::axis_count(a.count);
-    let m = layout::axis_count(b.count);
-    if n != m {
-        return false;
-    }
-    let mut i: usize = 0;
-    while i < n {
-        if x[i] != y[i] {
-            return false;
-        }
-        i += 1;
-    }
-    true
 }
 
 // Entry `axis` of a lent list, and 0 past its end.
@@ -408,7 +328,7 @@ fn fewer(a: usize, b: usize) -> usize
     if a < b { a } else { b }
 }
 
-// n steps (at most eight): at each place the stride on the axis that stands with it, and 0 at every other.
+// n steps, or as many as the limit: at each place the stride on the axis that stands with it, and 0 at every other.
 pub fn spread_picked(
     n: usize,
     places: &[u64],

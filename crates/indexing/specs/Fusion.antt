@@ -2,14 +2,13 @@
 use mathlib.Core.Path.{_≡_, sym, _∙_, ap, ap₂}
 use mathlib.Core.List.{List, [], _∷_, _++_}
 use Prim.Native.Nat.{ℕ, _+_, _*_, _-_, _/_, _%_, _<_}
-use native.Mathlib.Nat.{div-add-mod, div-div-eq-div-mul, mul-add, mul-assoc, mod-def, mod-one, div-one, mul-zero, mul-pos, one-mul}
+use native.Mathlib.Nat.{div-add-mod, div-div-eq-div-mul, mul-add, mul-assoc, mod-def, mod-one, div-one, mul-pos}
 use native.Mathlib.Omega.{arith}
 use lib.ListN.{length}
 use lib.IntN.{ℤ, pos, _+ℤ_, _*ℤ_, +ℤ-idl, +ℤ-assoc, *ℤ-zero}
 use Rattle.integer.specs.Z.{*ℤ-+ℤ, *ℤ-assoc}
 use Rattle.indexing.specs.Coordinates.{product, unravel, dot}
-use Rattle.indexing.specs.Odometer.{AllPos, offsetAt}
-use Rattle.indexing.specs.Linear.{div-below}
+use Rattle.indexing.specs.Odometer.{AllPos}
 
 -- ---- two axes that are one
 
@@ -42,11 +41,6 @@ dot-fuse s t ss p d ds k e =
     ∙ ap (λ (x : ℤ). x +ℤ dot ss (unravel ds (k / p / d))) (fuse-term s t k p d e)
     ∙ ap (λ (n : ℕ). s *ℤ pos (k % (p * d)) +ℤ dot ss (unravel ds n)) (div-fuse k p d)
 
-pub offset-fuse : (base s t : ℤ) (ss : List ℤ) (p d : ℕ) (ds : List ℕ) (k : ℕ) → t ≡ s *ℤ pos p
-    → offsetAt base (p ∷ d ∷ ds) (s ∷ t ∷ ss) k ≡ offsetAt base (p * d ∷ ds) (s ∷ ss) k
-unfolding offsetAt
-offset-fuse base s t ss p d ds k e = ap (λ (x : ℤ). base +ℤ x) (dot-fuse s t ss p d ds k e)
-
 pub product-fuse : (p d : ℕ) (ds : List ℕ) → product (p ∷ d ∷ ds) ≡ product (p * d ∷ ds)
 unfolding product
 product-fuse p d ds = sym (mul-assoc p d (product ds))
@@ -77,34 +71,9 @@ pub fuse-at : (ss₁ : List ℤ) (ds₁ : List ℕ) (s t : ℤ) (ss : List ℤ) 
     → (k : ℕ) → dot (ss₁ ++ s ∷ t ∷ ss) (unravel (ds₁ ++ p ∷ d ∷ ds) k) ≡ dot (ss₁ ++ s ∷ ss) (unravel (ds₁ ++ p * d ∷ ds) k)
 fuse-at ss₁ ds₁ s t ss p d ds l e = under-axes ss₁ ds₁ (s ∷ t ∷ ss) (s ∷ ss) (p ∷ d ∷ ds) (p * d ∷ ds) l (λ k. dot-fuse s t ss p d ds k e)
 
--- ---- dense strides
-
-unfoldable pub dense : ℕ → List ℕ → List ℤ
-dense w [] = []
-dense w (d ∷ ds) = pos w ∷ dense (w * d) ds
+-- ---- axes with cells have a product with cells
 
 pub product-pos : (ds : List ℕ) → AllPos ds → 0 < product ds
 unfolding AllPos product
 product-pos [] p = omega arith
 product-pos (d ∷ ds) p = mul-pos (p .0) (product-pos ds (p .1))
-
--- over dense strides the sum is the linear index, times the first stride
-pub dot-dense : (w : ℕ) (ds : List ℕ) (k : ℕ) → k < product ds → dot (dense w ds) (unravel ds k) ≡ pos (w * k)
-unfolding product unravel dense dot
-dot-dense w [] k h = sym (ap (λ (n : ℕ). pos (w * n)) (zero-of k h) ∙ ap pos (mul-zero w))
-  where
-    zero-of : (k : ℕ) → k < 1 → k ≡ 0
-    zero-of k h = omega arith
-dot-dense w (d ∷ ds) k h =
-    ap (λ (x : ℤ). pos (w * (k % d)) +ℤ x) (dot-dense (w * d) ds (k / d) (div-below k d (product ds) h))
-    ∙ ap pos (sum w d k)
-  where
-    sum : (w d k : ℕ) → w * (k % d) + w * d * (k / d) ≡ w * k
-    sum w d k =
-        let e₁ : w * k ≡ w * (d * (k / d)) + w * (k % d) = ap (λ (n : ℕ). w * n) (sym (div-add-mod k d)) ∙ mul-add w (d * (k / d)) (k % d) in
-        let e₂ : w * d * (k / d) ≡ w * (d * (k / d)) = mul-assoc w d (k / d) in
-        omega arith
-
-pub offset-dense : (base : ℤ) (ds : List ℕ) (k : ℕ) → k < product ds → offsetAt base ds (dense 1 ds) k ≡ base +ℤ pos k
-unfolding offsetAt
-offset-dense base ds k h = ap (λ (x : ℤ). base +ℤ x) (dot-dense 1 ds k h ∙ ap pos (one-mul k))

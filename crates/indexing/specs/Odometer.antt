@@ -84,16 +84,6 @@ unfolding unravel
 unravel-zero [] = refl
 unravel-zero (d ∷ ds) = rw (zero-mod, zero-div) (ap (λ (l : List ℕ). 0 ∷ l) (unravel-zero ds))
 
-pub length-next : (ds cs : List ℕ) → length (next ds cs) ≡ length cs
-unfolding next
-length-next [] cs = refl
-length-next (d ∷ ds) [] = refl
-length-next (d ∷ ds) (c ∷ cs) = go (ltb (c + 1) d) (length-next ds cs)
-  where
-    go : (t : Bool) → length (next ds cs) ≡ length cs → length (cond t ((c + 1) ∷ cs) (0 ∷ next ds cs)) ≡ suc (length cs)
-    go true e = refl
-    go false e = ap suc e
-
 -- the step goes on past the axes as it stands
 pub next-append : (ds cs ts : List ℕ) → length cs ≡ length ds → next ds (cs ++ ts) ≡ next ds cs ++ ts
 unfolding next

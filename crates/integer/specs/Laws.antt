@@ -1,36 +1,27 @@
 -- The laws of ℤ that `lib.IntN` and `lib.Signed` lack. Assumes nothing.
 use mathlib.Core.Path.{_≡_, refl, sym, ap, _∙_}
 use mathlib.Core.Logic.{_≢_, _⊎_, inl, inr, ⊎-elim}
-use Prim.Native.Nat.{ℕ, _+_, _*_, _≤_}
+use Prim.Native.Nat.{ℕ, _*_, _≤_}
 use native.Mathlib.Nat.{mul-le-mul-right}
 use native.Mathlib.Omega.{arith}
 use borrow.Author.Tests.{eqb-true, eq-eqb}
-use lib.IntN.{ℤ, pos, negsuc, negℤ, _+ℤ_, _-ℤ_, _*ℤ_, +ℤ-assoc, +ℤ-comm, *ℤ-comm, zero-*ℤ, one, *ℤ-one}
+use lib.IntN.{ℤ, pos, negsuc, negℤ, _+ℤ_, _*ℤ_, +ℤ-assoc, +ℤ-comm, *ℤ-comm, zero-*ℤ, one, *ℤ-one}
 use mathlib.Core.Bool.{Bool, true, false, cond, true≢false}
 use lib.Signed.{_≤ℤ_, _<ℤ_, ≤ℤ-refl, leZ}
-use mir.Syntax.{Width, w64}
+use mir.Syntax.{Width}
 use mir.Val.{SFits}
 use Rattle.integer.specs.Defs.{minℤ, maxℤ, eqZ}
-use Rattle.integer.specs.Z.{up, ≤-to, ≤-from, <-from, ≡-from, znorm, zflat, zfacts, up-*pos, dn-*pos, known}
+use Rattle.integer.specs.Z.{≤-to, ≤-from, <-from, znorm, zflat, zfacts, up-*pos, dn-*pos, known}
 
 -- ---- the order
 pub ≤ℤ-trans : {a b c : ℤ} → a ≤ℤ b → b ≤ℤ c → a ≤ℤ c
 ≤ℤ-trans {a} {b} {c} h k = ≤-from a c (omega (arith, zfacts))
 
-pub <ℤ-trans : {a b c : ℤ} → a <ℤ b → b <ℤ c → a <ℤ c
-<ℤ-trans {a} {b} {c} h k = <-from a c (omega (arith, zfacts))
-
 pub ≤ℤ-<ℤ-trans : {a b c : ℤ} → a ≤ℤ b → b <ℤ c → a <ℤ c
 ≤ℤ-<ℤ-trans {a} {b} {c} h k = <-from a c (omega (arith, zfacts))
 
-pub ≤ℤ-antisym : {a b : ℤ} → a ≤ℤ b → b ≤ℤ a → a ≡ b
-≤ℤ-antisym {a} {b} h k = ≡-from a b (omega (arith, zfacts))
-
 pub <ℤ→≤ℤ : {a b : ℤ} → a <ℤ b → a ≤ℤ b
 <ℤ→≤ℤ {a} {b} h = ≤-from a b (omega (arith, zfacts))
-
-pub ≡→≤ℤ : {a b : ℤ} → a ≡ b → a ≤ℤ b
-≡→≤ℤ {a} {b} h = ≤-from a b (omega (arith, zfacts))
 
 pub ≤ℤ-total : (a b : ℤ) → (a ≤ℤ b) ⊎ (b <ℤ a)
 ≤ℤ-total a b = go (leZ a b) refl
@@ -49,26 +40,11 @@ pub ruleset +ℤ-ac = (+ℤ-assoc, +ℤ-comm, +ℤ-left-comm)
 pub +ℤ-mono : {a b c d : ℤ} → a ≤ℤ b → c ≤ℤ d → (a +ℤ c) ≤ℤ (b +ℤ d)
 +ℤ-mono h k = simp znorm (simp zflat (omega (arith, zfacts)))
 
-pub +ℤ-mono-l : {a b : ℤ} (c : ℤ) → a ≤ℤ b → (a +ℤ c) ≤ℤ (b +ℤ c)
-+ℤ-mono-l c h = simp znorm (simp zflat (omega (arith, zfacts)))
-
 pub +ℤ-mono-r : (a : ℤ) {b c : ℤ} → b ≤ℤ c → (a +ℤ b) ≤ℤ (a +ℤ c)
 +ℤ-mono-r a h = simp znorm (simp zflat (omega (arith, zfacts)))
 
-pub +ℤ-cancel-l : (a b c : ℤ) → a +ℤ b ≡ a +ℤ c → b ≡ c
-+ℤ-cancel-l a b c e = simp znorm (simp zflat (omega (arith, simp zflat at (simp znorm at e))))
-
 pub +ℤ-cancel-r : (a b c : ℤ) → a +ℤ c ≡ b +ℤ c → a ≡ b
 +ℤ-cancel-r a b c e = simp znorm (simp zflat (omega (arith, simp zflat at (simp znorm at e))))
-
-pub +ℤ-≤-cancel : (a b c : ℤ) → (a +ℤ c) ≤ℤ (b +ℤ c) → a ≤ℤ b
-+ℤ-≤-cancel a b c e = simp znorm (simp zflat (omega (arith, simp zflat at (simp znorm at e))))
-
-pub -ℤ-self : (a : ℤ) → a -ℤ a ≡ pos 0
--ℤ-self a = simp znorm (simp zflat (omega arith))
-
-pub negℤ-mono : {a b : ℤ} → a ≤ℤ b → negℤ b ≤ℤ negℤ a
-negℤ-mono h = simp znorm (simp zflat (omega (arith, zfacts)))
 
 -- ---- products
 pub times-one : (m : ℤ) → m *ℤ pos 1 ≡ m
@@ -153,15 +129,6 @@ term-high s c m h k = ⊎-elim
     (≤ℤ-total (pos 0) s)
 
 -- ---- the embedding of ℕ
-pub pos-inj : {m n : ℕ} → pos m ≡ pos n → m ≡ n
-pos-inj {m} {n} e = ap up e
-
-pub pos-+ : (m n : ℕ) → pos (m + n) ≡ pos m +ℤ pos n
-pos-+ m n = refl
-
-pub pos-* : (m n : ℕ) → pos (m * n) ≡ pos m *ℤ pos n
-pos-* m n = refl
-
 pub pos-≤ : {m n : ℕ} → m ≤ n → pos m ≤ℤ pos n
 pos-≤ {m} {n} h = ≤-from (pos m) (pos n) (omega arith)
 
@@ -169,14 +136,5 @@ pub ≤-pos : {m n : ℕ} → pos m ≤ℤ pos n → m ≤ n
 ≤-pos {m} {n} h = omega (arith, zfacts)
 
 -- ---- ranges
-pub sfits-range : (z : ℤ) → negsuc 9223372036854775807 ≤ℤ z → z ≤ℤ pos 9223372036854775807 → SFits w64 z
-sfits-range z h k = simp znorm (simp zflat (omega (arith, zfacts)))
-
-pub sfits-lo : {z : ℤ} → SFits w64 z → negsuc 9223372036854775807 ≤ℤ z
-sfits-lo f = simp znorm (simp zflat (omega (arith, known f)))
-
-pub sfits-hi : {z : ℤ} → SFits w64 z → z ≤ℤ pos 9223372036854775807
-sfits-hi f = simp znorm (simp zflat (omega (arith, known f)))
-
 pub sfits-between : {w : Width} (a b c : ℤ) → SFits w a → SFits w c → a ≤ℤ b → b ≤ℤ c → SFits w b
 sfits-between a b c fa fc h k = simp znorm (simp zflat (omega (arith, ≤-to, known fa, known fc)))

@@ -2,9 +2,8 @@
 
 -- what a reader must believe
 pub mod Defs
--- ℤ read as differences of naturals, for `omega`; a ring solver; order, sums, products and ranges
+-- ℤ read as differences of naturals, for `omega`; order, sums, products and ranges
 pub mod Z
-pub mod Ring
 pub mod Laws
 -- what the needs of signed code ask
 pub mod Machine

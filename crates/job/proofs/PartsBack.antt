@@ -1,23 +1,23 @@
 -- Views and lists written and read back, and read and written again. Assumes nothing.
 use mathlib.Core.Path.{_≡_, refl, sym, ap, ap₂, _∙_, subst}
 use mathlib.Core.List.{List, [], _∷_, _++_, map}
-use Prim.Native.Nat.{ℕ, _+_, _-_, _^_, _≤_, _<_}
+use Prim.Native.Nat.{ℕ, _+_, _^_, _≤_, _<_, min}
 use native.Mathlib.Omega.{arith}
-use lib.ListN.{length, take, replicate, length-map}
-use lib.Seq.{take-all, take-append-seam}
+use lib.ListN.{length, length-map}
 use lib.IntN.{ℤ, pos}
 use mir.Syntax.{w64}
 use mir.Val.{SFits}
 use mir.Facts.{toZ-ofZ, ofZ-toZ, fits-ofZ, sfits-toZ}
 use Rattle.layout.specs.declared.View.{View}
-use Rattle.layout.specs.Layouts.{rankLimit, padded}
+use Rattle.layout.specs.Layouts.{rankLimit}
+use Rattle.layout.proofs.Fill.{padded-back}
 use Rattle.job_bytes.specs.Fields.{read, bytesOf, wordsOf, wordOf, signedOf, numberAt, byteAt, wordsAt}
 use Rattle.job_bytes.specs.Below.{AllBelow, none, more, AllFit, fit-none, fit-more}
 use Rattle.job_bytes.proofs.Reading.{then-read, byte-range, words-count}
 use Rattle.job_bytes.proofs.Back.{Here, WordsHere, Number, here-front, here-behind, here-both, number-held, number-holds, byte-held, byte-holds, words-held, words-hold}
 use Rattle.job.specs.Jobs.{heldList, viewOf}
 use Rattle.job.specs.Format.{viewBytes, listBytes, viewAt, listAt}
-use Rattle.job_bytes.specs.Version.{storedRankLimit, listLimit}
+use Rattle.job_bytes.specs.Version.{storedRankLimit, listLimit, stored-held}
 use Rattle.job.specs.Made.{MadeView}
 
 -- ---- two's complement there and back
@@ -40,18 +40,15 @@ signed-fit : (ws : List ℕ) → AllBelow (2 ^ 64) ws → AllFit (map signedOf w
 signed-fit [] none = fit-none
 signed-fit (w ∷ ws) (more h a) = fit-more (sfits-toZ (record { fits = h })) (signed-fit ws a)
 
--- ---- what is read of a list as it is held
-held-back : {A : Type 0} (m : ℕ) (d : A) (n : ℕ) (l : List A) → n ≡ length l → length l ≤ m → take n (padded m d l) ≡ l
-unfolding padded
-held-back m d n l e h = rw (e, take-all m l h) (take-append-seam l (replicate (m - length l) d))
-
+-- ---- what is written of a list and of a layout as they are held
 pub list-bytes : (l : List ℕ) → length l ≤ listLimit → listBytes (heldList l) ≡ bytesOf 1 (length l) ++ wordsOf l
 unfolding listBytes
-list-bytes l h = rw (held-back listLimit 0 (length l) l refl h)
+list-bytes l h = rw (padded-back listLimit 0 (length l) l refl h)
 
 pub view-bytes : (es : List ℕ) (ss : List ℤ) (o : ℤ) → length ss ≡ length es → length es ≤ storedRankLimit → viewBytes (viewOf es ss o) ≡ bytesOf 1 (length es) ++ (wordsOf es ++ (wordsOf (map wordOf ss) ++ bytesOf 8 (wordOf o)))
 unfolding viewBytes
-view-bytes es ss o e h = rw (held-back rankLimit 1 (length es) es refl h, held-back rankLimit (pos 0) (length es) ss (sym e) (omega arith))
+view-bytes es ss o e h =
+    rw (padded-back rankLimit 1 (min (length es) storedRankLimit) es (omega arith) (omega (arith, stored-held)), padded-back rankLimit (pos 0) (min (length es) storedRankLimit) ss (omega arith) (omega (arith, stored-held)))
 
 -- words as they were read
 view-words : (n : ℕ) (es ws : List ℕ) (o : ℕ) → length es ≡ n → length ws ≡ n → n ≤ storedRankLimit → AllBelow (2 ^ 64) ws → o < 2 ^ 64 → viewBytes (viewOf es (map signedOf ws) (signedOf o)) ≡ bytesOf 1 n ++ (wordsOf es ++ (wordsOf ws ++ bytesOf 8 o))

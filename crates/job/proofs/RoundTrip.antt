@@ -2,7 +2,7 @@
 use mathlib.Core.Path.{_≡_, refl, sym, ap, ap₂, _∙_, subst}
 use mathlib.Core.Bool.{Bool, true, false, cond}
 use mathlib.Core.List.{List, [], _++_, map}
-use Prim.Native.Nat.{ℕ, _+_, _-_, _^_, _≤_, _<_}
+use Prim.Native.Nat.{ℕ, _+_, _^_, _≤_, _<_}
 use native.Mathlib.Omega.{arith}
 use borrow.Author.Tests.{eq-eqb, eqb-true, eqb-false}
 use lib.Dec.{eqb}
@@ -22,7 +22,7 @@ use Rattle.job.specs.declared.Views.{Views}
 use Rattle.job.specs.declared.Spec.{Spec}
 use Rattle.job.specs.declared.Job.{Job}
 use Rattle.job.specs.Jobs.{heldList, viewsOf, specOf}
-use Rattle.job.specs.Format.{kindByte, kindOf, elementByte, elementOf, viewBytes, listBytes, sizesBytes, specBytes, viewsBytes, bodyBytes, encoded, viewAt, listAt, sizesAt, specAt, viewsAt, countAt, headAt, jobAt}
+use Rattle.job.specs.Format.{kindByte, kindOf, elementByte, elementOf, viewBytes, listBytes, sizesBytes, specBytes, viewsBytes, bodyBytes, encoded, viewMost, listMost, viewsMost, specMost, viewAt, listAt, sizesAt, specAt, viewsAt, countAt, headAt, jobAt}
 use Rattle.job_bytes.specs.Version.{version}
 use Rattle.job.specs.Made.{MadeView, MadeList, MadeSizes, MadeSpec, Made}
 use Rattle.job.proofs.PartsBack.{list-bytes, view-bytes, list-held, ListRead, list-holds, view-held, view-holds}
@@ -193,20 +193,20 @@ element-byte b l h = go (eqb b 1) refl
     go false e = rw e (omega (arith, eqb-false b 1 e))
 
 -- ---- a made job is short enough for its count
-short-view : (v : View) → MadeView v → length (viewBytes v) ≤ 137
+short-view : (v : View) → MadeView v → length (viewBytes v) ≤ viewMost
 short-view v m =
     let es : List ℕ = m .extents in
     let ws : List ℕ = map wordOf (m .strides) in
     let e : length (viewBytes v) ≡ length (bytesOf 1 (length es) ++ (wordsOf es ++ (wordsOf ws ++ bytesOf 8 (wordOf (m .offset))))) = ap length (ap viewBytes (m .is) ∙ view-bytes es (m .strides) (m .offset) (m .same) (m .few)) in
     omega (arith, m .few, m .same, length-append (bytesOf 1 (length es)) (wordsOf es ++ (wordsOf ws ++ bytesOf 8 (wordOf (m .offset)))), length-append (wordsOf es) (wordsOf ws ++ bytesOf 8 (wordOf (m .offset))), length-append (wordsOf ws) (bytesOf 8 (wordOf (m .offset))), length-bytes 1 (length es), length-bytes 8 (wordOf (m .offset)), length-words es, length-words ws, length-map (m .strides) wordOf)
 
-short-list : (l : List16) → MadeList l → length (listBytes l) ≤ 129
+short-list : (l : List16) → MadeList l → length (listBytes l) ≤ listMost
 short-list l m =
     let xs : List ℕ = m .entries in
     let e : length (listBytes l) ≡ length (bytesOf 1 (length xs) ++ wordsOf xs) = ap length (ap listBytes (m .is) ∙ list-bytes xs (m .few)) in
     omega (arith, m .few, length-append (bytesOf 1 (length xs)) (wordsOf xs), length-bytes 1 (length xs), length-words xs)
 
-short-sizes : (kind : Kind) (l : List16) → MadeSizes kind l → length (sizesBytes kind l) ≤ 129
+short-sizes : (kind : Kind) (l : List16) → MadeSizes kind l → length (sizesBytes kind l) ≤ listMost
 short-sizes K.Gather l m = short-list l m
 short-sizes K.Scatter l m = omega arith
 
@@ -225,9 +225,9 @@ short-body j m =
     let c4 : List ℕ = bytesOf 8 (j .spec .«index_vector_dim») in
     let c5 : List ℕ = sizesBytes (j .kind) (j .spec .«slice_sizes») in
     let c : List ℕ = c1 ++ (c2 ++ (c3 ++ (c4 ++ c5))) in
-    let lc : length c ≤ 524 = omega (arith, length-append c1 (c2 ++ (c3 ++ (c4 ++ c5))), length-append c2 (c3 ++ (c4 ++ c5)), length-append c3 (c4 ++ c5), length-append c4 c5, length-bytes 8 (j .spec .«index_vector_dim»), short-list (j .spec .«window_dims») (m .spec .window), short-list (j .spec .«unit_dims») (m .spec .unit), short-list (j .spec .«start_map») (m .spec .start), short-sizes (j .kind) (j .spec .«slice_sizes») (m .spec .sizes)) in
+    let lc : length c ≤ specMost = omega (arith, length-append c1 (c2 ++ (c3 ++ (c4 ++ c5))), length-append c2 (c3 ++ (c4 ++ c5)), length-append c3 (c4 ++ c5), length-append c4 c5, length-bytes 8 (j .spec .«index_vector_dim»), short-list (j .spec .«window_dims») (m .spec .window), short-list (j .spec .«unit_dims») (m .spec .unit), short-list (j .spec .«start_map») (m .spec .start), short-sizes (j .kind) (j .spec .«slice_sizes») (m .spec .sizes)) in
     let b : List ℕ = b1 ++ (b2 ++ b3) in
-    let lb : length b ≤ 411 = omega (arith, length-append b1 (b2 ++ b3), length-append b2 b3, short-view (j .views .first) (m .first), short-view (j .views .second) (m .second), short-view (j .views .third) (m .third)) in
+    let lb : length b ≤ viewsMost = omega (arith, length-append b1 (b2 ++ b3), length-append b2 b3, short-view (j .views .first) (m .first), short-view (j .views .second) (m .second), short-view (j .views .third) (m .third)) in
     omega (arith, lb, lc, length-append a1 (a2 ++ (a3 ++ (b ++ c))), length-append a2 (a3 ++ (b ++ c)), length-append a3 (b ++ c), length-append b c, length-bytes 1 version, length-bytes 1 (kindByte (j .kind)), length-bytes 1 (elementByte (j .element)))
 
 -- ---- the whole job

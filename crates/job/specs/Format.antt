@@ -1,11 +1,12 @@
 -- Document 01, "The stored job (added)": the format, written and read. Definitions only.
 use mathlib.Core.Bool.{cond}
 use mathlib.Core.List.{List, [], _++_, map}
-use Prim.Native.Nat.{ℕ, _+_}
+use Prim.Native.Nat.{ℕ, _+_, _*_, min}
 use lib.Dec.{eqb}
-use lib.ListN.{length}
+use lib.ListN.{length, take}
+use lib.IntN.{ℤ}
+use Rattle.layout.specs.declared.Layout.{Layout}
 use Rattle.layout.specs.declared.View.{View}
-use Rattle.layout.specs.Layouts.{extentsOf, stridesOf}
 use Rattle.job_bytes.specs.Fields.{Field, read, fault, andThen, bytesOf, wordsOf, wordOf, signedOf, numberAt, byteAt, wordsAt}
 use Rattle.job_bytes.specs.Version.{version, storedRankLimit, listLimit}
 use Rattle.job.specs.declared.Kind.{Kind}
@@ -35,10 +36,17 @@ abbrev pub elementOf : ℕ → Element
 elementOf n = cond (eqb n 1) E.I32 E.F64
 
 -- ---- written
+-- what is stored of a layout: as many axes as its rank says, and no more than the format has
+abbrev pub storedExtents : Layout → List ℕ
+storedExtents l = take (min (l .rank) storedRankLimit) (l .extents)
+
+abbrev pub storedStrides : Layout → List ℤ
+storedStrides l = take (min (l .rank) storedRankLimit) (l .strides)
+
 -- a layout: "a rank byte, extents, strides, offset, eight bytes each"
 unfoldable pub viewBytes : View → List ℕ
 viewBytes v =
-    bytesOf 1 (length (extentsOf (v .layout))) ++ (wordsOf (extentsOf (v .layout)) ++ (wordsOf (map wordOf (stridesOf (v .layout))) ++ bytesOf 8 (wordOf (v .offset))))
+    bytesOf 1 (length (storedExtents (v .layout))) ++ (wordsOf (storedExtents (v .layout)) ++ (wordsOf (map wordOf (storedStrides (v .layout))) ++ bytesOf 8 (wordOf (v .offset))))
 
 -- "a list as a count byte and eight-byte entries"
 unfoldable pub listBytes : List16 → List ℕ
@@ -65,6 +73,19 @@ bodyBytes j = bytesOf 1 version ++ (bytesOf 1 (kindByte (j .kind)) ++ (bytesOf 1
 -- "four bytes, the count of bytes that follow"
 unfoldable pub encoded : Job → List ℕ
 encoded j = bytesOf 4 (length (bodyBytes j)) ++ bodyBytes j
+
+-- the most bytes that a layout with its offset, a list, the layouts and a spec take
+abbrev pub viewMost : ℕ
+viewMost = 9 + 16 * storedRankLimit
+
+abbrev pub listMost : ℕ
+listMost = 1 + 8 * listLimit
+
+abbrev pub viewsMost : ℕ
+viewsMost = 3 * viewMost
+
+abbrev pub specMost : ℕ
+specMost = 4 * listMost + 8
 
 -- ---- read
 unfoldable pub viewAt : List ℕ → ℕ → Field View

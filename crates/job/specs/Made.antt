@@ -16,7 +16,7 @@ use Rattle.job.specs.declared.Spec.{Spec}
 use Rattle.job.specs.declared.Job.{Job}
 use Rattle.job.specs.Jobs.{heldList, viewOf}
 
--- as many strides as extents, at most eight; each number one that a u64 or an i64 holds
+-- as many strides as extents, no more than are stored; each number one that a u64 or an i64 holds
 pub record MadeView (v : View) : Type 0 where
   pub extents : List ℕ
   pub strides : List ℤ
@@ -28,7 +28,7 @@ pub record MadeView (v : View) : Type 0 where
   pub fits : AllFit strides
   pub fit : SFits w64 offset
 
--- at most sixteen entries
+-- no more entries than are stored
 pub record MadeList (l : List16) : Type 0 where
   pub entries : List ℕ
   pub is : l ≡ heldList entries

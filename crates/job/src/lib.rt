@@ -2,7 +2,9 @@
 // array, the first entries count, as many as its rank or count says, or all where that is larger.
 ghost use mathlib.Core.Path.{_≡_};
 ghost use mathlib.Core.List.{[]};
+ghost use lib.ListN.{length};
 ghost use lib.IntN.{pos};
+ghost use Rattle.layout.specs.Answers.{orElse};
 ghost use Rattle.job.specs.declared.Kind.the-variants as K;
 ghost use Rattle.job.specs.Jobs.{heldList, viewOf, viewsOf, specOf, noJob, rankStored, listAtMost, viewsRefusal, listsRefusal, madeJob, jobFrom};
 use job_bytes::LIST_LIMIT;
@@ -22,7 +24,7 @@ pub enum Element {
     F64,
 }
 
-// A list of up to sixteen entries. Past the count stand zeros.
+// A list of up to `LIST_LIMIT` entries. Past the count stand zeros.
 pub struct List16 {
     pub count: usize,
     pub entries: [u64; LIST_LIMIT],
@@ -118,7 +120,7 @@ pub fn no_job() -> Job
     }
 }
 
-// A view of these extents and strides, of which the first eight are held.
+// A view of these extents and strides, of which a layout holds the first.
 pub fn view_from(extents: &[u64], strides: &[i64], offset: i64) -> View
     ensures { λ r. ⌜ r ≡ viewOf (now (extents .entry)) (now (strides .entry)) offset ⌝ }
 {
@@ -134,7 +136,7 @@ pub fn view_from(extents: &[u64], strides: &[i64], offset: i64) -> View
     }
 }
 
-// A lent list, of which the first sixteen entries are held.
+// A lent list, of which the first entries are held.
 pub fn list_from(list: &[u64]) -> List16
     ensures { λ r. ⌜ r ≡ heldList (now (list .entry)) ⌝ }
 {
@@ -215,7 +217,48 @@ fn made_job(answer: Answer, job: Job) -> MadeJob
     }
 }
 
-// A gather from its parts: refusals 1, 2, 5, or the job.
+// A job from its parts, with its slice sizes as they are held: refusals 1, 2, 5, or the job.
+fn make_job(
+    kind: Kind,
+    element: Element,
+    first_extents: &[u64],
+    first_strides: &[i64],
+    first_offset: i64,
+    second_extents: &[u64],
+    second_strides: &[i64],
+    second_offset: i64,
+    third_extents: &[u64],
+    third_strides: &[i64],
+    third_offset: i64,
+    window_dims: &[u64],
+    unit_dims: &[u64],
+    start_map: &[u64],
+    index_vector_dim: u64,
+    sizes: List16,
+) -> MadeJob
+    ensures { λ r. ⌜ r ≡ madeJob (orElse (viewsRefusal (length (now («first_extents» .entry))) (length (now («first_strides» .entry))) (length (now («second_extents» .entry))) (length (now («second_strides» .entry))) (length (now («third_extents» .entry))) (length (now («third_strides» .entry)))) (listsRefusal (length (now («window_dims» .entry))) (length (now («unit_dims» .entry))) (length (now («start_map» .entry))) (sizes .count))) (record { kind = kind; element = element; views = viewsOf (viewOf (now («first_extents» .entry)) (now («first_strides» .entry)) «first_offset») (viewOf (now («second_extents» .entry)) (now («second_strides» .entry)) «second_offset») (viewOf (now («third_extents» .entry)) (now («third_strides» .entry)) «third_offset»); spec = record { «window_dims» = heldList (now («window_dims» .entry)); «unit_dims» = heldList (now («unit_dims» .entry)); «start_map» = heldList (now («start_map» .entry)); «index_vector_dim» = «index_vector_dim»; «slice_sizes» = sizes } }) ⌝ }
+{
+    let a = check_views(
+        first_extents.len(),
+        first_strides.len(),
+        second_extents.len(),
+        second_strides.len(),
+        third_extents.len(),
+        third_strides.len(),
+    );
+    let first = view_from(first_extents, first_strides, first_offset);
+    let second = view_from(second_extents, second_strides, second_offset);
+    let third = view_from(third_extents, third_strides, third_offset);
+    let window = list_from(window_dims);
+    let unit = list_from(unit_dims);
+    let map = list_from(start_map);
+    let b = check_lists(window, unit, map, sizes);
+    let spec = spec_from(window, unit, map, index_vector_dim, sizes);
+    let job = job_from(kind, element, first, second, third, spec);
+    made_job(checks::or_else(a, b), job)
+}
+
+// A gather from its parts.
 pub fn make_gather_job(
     element: Element,
     operand_extents: &[u64],
@@ -235,25 +278,25 @@ pub fn make_gather_job(
 ) -> MadeJob
     ensures { λ r. ⌜ r ≡ jobFrom K.Gather element (now («operand_extents» .entry)) (now («operand_strides» .entry)) «operand_offset» (now («index_extents» .entry)) (now («index_strides» .entry)) «index_offset» (now («dest_extents» .entry)) (now («dest_strides» .entry)) «dest_offset» (now («offset_dims» .entry)) (now («collapsed_slice_dims» .entry)) (now («start_index_map» .entry)) «index_vector_dim» (now («slice_sizes» .entry)) ⌝ }
 {
-    let a = check_views(
-        operand_extents.len(),
-        operand_strides.len(),
-        index_extents.len(),
-        index_strides.len(),
-        dest_extents.len(),
-        dest_strides.len(),
-    );
-    let first = view_from(operand_extents, operand_strides, operand_offset);
-    let second = view_from(index_extents, index_strides, index_offset);
-    let third = view_from(dest_extents, dest_strides, dest_offset);
-    let window = list_from(offset_dims);
-    let unit = list_from(collapsed_slice_dims);
-    let map = list_from(start_index_map);
     let sizes = list_from(slice_sizes);
-    let b = check_lists(window, unit, map, sizes);
-    let spec = spec_from(window, unit, map, index_vector_dim, sizes);
-    let job = job_from(Kind::Gather, element, first, second, third, spec);
-    made_job(checks::or_else(a, b), job)
+    make_job(
+        Kind::Gather,
+        element,
+        operand_extents,
+        operand_strides,
+        operand_offset,
+        index_extents,
+        index_strides,
+        index_offset,
+        dest_extents,
+        dest_strides,
+        dest_offset,
+        offset_dims,
+        collapsed_slice_dims,
+        start_index_map,
+        index_vector_dim,
+        sizes,
+    )
 }
 
 // A scatter from its parts.
@@ -275,25 +318,25 @@ pub fn make_scatter_job(
 ) -> MadeJob
     ensures { λ r. ⌜ r ≡ jobFrom K.Scatter element (now («index_extents» .entry)) (now («index_strides» .entry)) «index_offset» (now («update_extents» .entry)) (now («update_strides» .entry)) «update_offset» (now («dest_extents» .entry)) (now («dest_strides» .entry)) «dest_offset» (now («update_window_dims» .entry)) (now («inserted_window_dims» .entry)) (now («scatter_dims_to_operand_dims» .entry)) «index_vector_dim» [] ⌝ }
 {
-    let a = check_views(
-        index_extents.len(),
-        index_strides.len(),
-        update_extents.len(),
-        update_strides.len(),
-        dest_extents.len(),
-        dest_strides.len(),
-    );
-    let first = view_from(index_extents, index_strides, index_offset);
-    let second = view_from(update_extents, update_strides, update_offset);
-    let third = view_from(dest_extents, dest_strides, dest_offset);
-    let window = list_from(update_window_dims);
-    let unit = list_from(inserted_window_dims);
-    let map = list_from(scatter_dims_to_operand_dims);
     let sizes = no_list();
-    let b = check_lists(window, unit, map, sizes);
-    let spec = spec_from(window, unit, map, index_vector_dim, sizes);
-    let job = job_from(Kind::Scatter, element, first, second, third, spec);
-    made_job(checks::or_else(a, b), job)
+    make_job(
+        Kind::Scatter,
+        element,
+        index_extents,
+        index_strides,
+        index_offset,
+        update_extents,
+        update_strides,
+        update_offset,
+        dest_extents,
+        dest_strides,
+        dest_offset,
+        update_window_dims,
+        inserted_window_dims,
+        scatter_dims_to_operand_dims,
+        index_vector_dim,
+        sizes,
+    )
 }
 
 fn spec_from(

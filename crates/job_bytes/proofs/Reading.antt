@@ -119,13 +119,6 @@ module _ (low high : ℕ) (bs : List ℕ) (at : ℕ) where
   unfolding byteAt
   byte-here b k e h l = rw (e, le-leb low b h, le-leb b high l)
 
--- a number handed back as it is
-pub same-read : (f : Field ℕ) (r : Number) → r ≡ heldNumber f → r .ok ≡ true → r ≡ heldNumber (read (r .value) (r .at))
-same-read f r e h = e ∙ ap heldNumber (number-read f r e h)
-
-pub same-fault : (f : Field ℕ) (r : Number) → r ≡ heldNumber f → r .ok ≡ false → r ≡ heldNumber (fault (r .at))
-same-fault f r e h = e ∙ ap heldNumber (number-fault f r e h)
-
 -- ---- a field that was read, taken apart
 pub fault-read : {A : Type 0} {k m : ℕ} {y : A} → fault k ≡ read y m → ⊥
 fault-read e = let z : _≡_ {A = ℕ} 0 1 = cc in omega arith

@@ -1,4 +1,5 @@
-// The fields of a stored job: numbers and words as bytes, read from a lent slice and written into one.
+// The version of the format and its limits; the fields of a stored job: numbers and words as bytes, read from a lent slice and
+// written into one.
 ghost use mathlib.Core.Path.{_≡_};
 ghost use Prim.Native.Nat.{_+_, _*_, _/_, _%_, _^_, _≤_, _<_};
 ghost use lib.ListN.{length, take, drop};

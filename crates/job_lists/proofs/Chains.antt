@@ -1,15 +1,14 @@
 -- A view and a list, read field after field: where one is at fault, and what they come to. Assumes nothing.
-use mathlib.Core.Path.{_≡_, refl, sym, ap, ap₂, _∙_}
+use mathlib.Core.Path.{_≡_, refl, sym, ap, _∙_}
 use mathlib.Core.Bool.{true, false}
-use mathlib.Core.List.{List, _++_, map}
-use Prim.Native.Nat.{ℕ, _+_, _-_, _≤_, _<_, min}
+use mathlib.Core.List.{List, map}
+use Prim.Native.Nat.{ℕ, _≤_, _<_, min}
 use native.Mathlib.Omega.{arith}
-use lib.ListN.{length, take, getD, set, replicate, length-take, length-map, List·getD-map}
+use lib.ListN.{length, take, getD, length-take, length-map, List·getD-map}
 use lib.Seq.{getD-take}
 use lib.IntN.{ℤ, pos}
 use Rattle.layout.specs.declared.View.{View}
 use Rattle.layout.specs.Layouts.{rankLimit, padded}
-use Rattle.layout.proofs.Fill.{fill-one, fill-short, fill-full}
 use Rattle.job_bytes.specs.Fields.{Field, read, fault, signedOf, numberAt, byteAt, wordsAt, heldWords}
 use Rattle.job_bytes.specs.declared.Words.{Words}
 use Rattle.job_bytes.proofs.Reading.{words-count, byte-range}
@@ -17,22 +16,10 @@ use Rattle.job_lists.specs.declared.ReadView.{ReadView}
 use Rattle.job_lists.specs.declared.ReadList.{ReadList}
 use Rattle.job.specs.Jobs.{heldList, viewOf}
 use Rattle.job.specs.Format.{viewAt, listAt}
-use Rattle.job_bytes.specs.Version.{storedRankLimit, listLimit}
+use Rattle.job_bytes.specs.Version.{storedRankLimit, listLimit, stored-listed}
 use Rattle.job_lists.specs.Held.{heldView, heldEntries}
 
--- ---- the first n of a list copied into eight places, each by f
-abbrev pub copied : {A : Type 0} → A → List A → ℕ → List A
-copied d xs i = take i xs ++ replicate (rankLimit - i) d
-
-pub copy-one : {A : Type 0} (d z : A) (xs out : List A) (i : ℕ) (x : A) → i < rankLimit → i < length xs → out ≡ copied d xs i → x ≡ getD xs i z → set out i x ≡ copied d xs (i + 1)
-copy-one d z xs out i x h k e f = ap₂ (λ (o : List _) (y : _). set o i y) e f ∙ fill-one rankLimit d z xs i h k
-
-pub copy-ends : {A : Type 0} (d : A) (xs out : List A) (i : ℕ) → i ≤ rankLimit → i ≤ length xs → length xs ≤ i → out ≡ copied d xs i → out ≡ padded rankLimit d xs
-copy-ends d xs out i h k l e = e ∙ fill-short rankLimit d xs i k l h
-
-pub copy-full : {A : Type 0} (d : A) (xs out : List A) (i : ℕ) → rankLimit ≤ i → i ≤ rankLimit → i ≤ length xs → out ≡ copied d xs i → out ≡ padded rankLimit d xs
-copy-full d xs out i h k l e = e ∙ fill-full rankLimit d xs i l h k
-
+-- ---- words read as i64
 pub length-signed : (n : ℕ) (ws : List ℕ) → length (map signedOf (take n ws)) ≡ min n (length ws)
 length-signed n ws = length-map (take n ws) signedOf ∙ length-take n ws
 
@@ -112,4 +99,4 @@ got-list (fault k) r e h = let z : false ≡ true = sym (ap (λ (n : ReadList). 
 
 -- a rank is a count of words that can be read
 pub rank-words : (bs : List ℕ) (at n k : ℕ) → byteAt 0 storedRankLimit bs at ≡ read n k → n ≤ listLimit
-rank-words bs at n k e = omega (arith, byte-range 0 storedRankLimit bs at n k e .1)
+rank-words bs at n k e = omega (arith, stored-listed, byte-range 0 storedRankLimit bs at n k e .1)

@@ -1,10 +1,12 @@
-// The views and the lists of a stored job, read.
+// The views and the lists of a stored job, read, each with the place after it or that of the field at fault.
 ghost use mathlib.Core.Path.{_≡_};
 ghost use mathlib.Core.List.{map};
+ghost use Prim.Native.Nat.{_≤_};
 ghost use lib.ListN.{take};
 ghost use lib.IntN.{pos};
 ghost use Rattle.layout.specs.Layouts.{rankLimit, padded};
 ghost use Rattle.job_bytes.specs.Fields.{fault, signedOf};
+ghost use Rattle.job_bytes.specs.Version.{listLimit};
 ghost use Rattle.job.specs.Format.{viewAt, listAt, sizesAt};
 ghost use Rattle.job_lists.specs.Held.{heldView, heldEntries};
 use job::Kind;
@@ -30,19 +32,15 @@ pub struct ReadList {
 
 // The first words as extents, filled up with 1.
 fn extents_from(words: [u64; LIST_LIMIT], n: usize) -> [u64; RAW_FUSED_RANK_LIMIT]
+    requires { ⌜ n ≤ listLimit ⌝ }
     ensures { λ r. ⌜ r ≡ padded rankLimit 1 (take n words) ⌝ }
 {
-    let mut out = [1u64; RAW_FUSED_RANK_LIMIT];
-    let mut i: usize = 0;
-    while i < RAW_FUSED_RANK_LIMIT && i < n {
-        out[i] = words[i];
-        i += 1;
-    }
-    out
+    layout::padded_extents(&words[0..n])
 }
 
 // The first words as strides, filled up with 0.
 fn strides_from(words: [u64; LIST_LIMIT], n: usize) -> [i64; RAW_FUSED_RANK_LIMIT]
+    requires { ⌜ n ≤ listLimit ⌝ }
     ensures { λ r. ⌜ r ≡ padded rankLimit (pos 0) (map signedOf (take n words)) ⌝ }
 {
     let mut out = [0i64; RAW_FUSED_RANK_LIMIT];

@@ -1,4 +1,4 @@
-// The reader of a stored job.
+// The reader of a stored job: its head, its views and its spec, in order, and that no byte is left over.
 ghost use mathlib.Core.Path.{_≡_};
 ghost use Rattle.job_bytes.specs.Fields.{fault, heldNumber};
 ghost use Rattle.job.specs.Format.{kindOf, elementOf, specAt, viewsAt, countAt, headAt, jobAt};

@@ -1,19 +1,18 @@
 -- Parts of a job as bytes: how many they are, and one stored behind another. Assumes nothing.
 use mathlib.Core.Path.{_≡_, refl, sym, ap, ap₂, _∙_}
 use mathlib.Core.Bool.{true, false}
-use mathlib.Core.List.{List, [], _∷_, _++_, append-nil, map}
-use Prim.Native.Nat.{ℕ, zero, suc, _+_, _-_, _*_, _≤_, _<_, min}
+use mathlib.Core.List.{List, [], _∷_, _++_, map}
+use Prim.Native.Nat.{ℕ, zero, suc, _+_, _*_, _≤_, _<_, min}
 use native.Mathlib.Omega.{arith}
 use native.Mathlib.Nat.{zero-add}
 use borrow.Author.Tests.{le-leb, lt-leb}
 use lib.Dec.{leb}
-use lib.ListN.{length, take, drop, getD, set, replicate, length-append, length-take, length-map, List·getD-map}
-use lib.Seq.{sets, length-sets, sets-eq, take-all}
-use lib.IntN.{ℤ, pos}
+use lib.ListN.{length, take, drop, length-append, length-take, length-map}
+use lib.Seq.{sets, length-sets, sets-eq}
+use lib.IntN.{ℤ}
 use Rattle.layout.specs.declared.Answer.the-variants as A
 use Rattle.layout.specs.declared.View.{View}
-use Rattle.layout.specs.Layouts.{rankLimit, extentsOf, stridesOf}
-use Rattle.layout.proofs.Fill.{fill-one}
+use Rattle.layout.specs.Layouts.{rankLimit}
 use Rattle.spans.proofs.Parts.{take-count}
 use Rattle.job_bytes.specs.Fields.{bytesOf, wordsOf, wordOf}
 use Rattle.job_bytes.proofs.Putting.{sets-append, length-bytes, length-words}
@@ -23,19 +22,21 @@ use Rattle.job.specs.declared.Views.{Views}
 use Rattle.job.specs.declared.Spec.{Spec}
 use Rattle.job.specs.declared.Job.{Job}
 use Rattle.job.specs.Jobs.{entriesOf}
-use Rattle.job.specs.Format.{viewBytes, listBytes, sizesBytes, specBytes, viewsBytes, bodyBytes, encoded, kindByte, elementByte}
-use Rattle.job_bytes.specs.Version.{version, listLimit}
+use Rattle.job.specs.Format.{storedExtents, storedStrides, viewBytes, listBytes, sizesBytes, specBytes, viewsBytes, bodyBytes, encoded, viewMost, listMost, viewsMost, specMost, kindByte, elementByte}
+use Rattle.job_bytes.specs.Version.{version, storedRankLimit, listLimit, stored-held}
 use Rattle.job_writer.specs.Written.{Put, Written, Sized}
 
 -- ---- how many bytes
-pub length-view : (v : View) → length (v .layout .extents) ≡ rankLimit → length (v .layout .strides) ≡ rankLimit → length (viewBytes v) ≡ 9 + 16 * min (v .layout .rank) rankLimit
+pub length-view : (v : View) → length (v .layout .extents) ≡ rankLimit → length (v .layout .strides) ≡ rankLimit → length (viewBytes v) ≡ 9 + 16 * min (v .layout .rank) storedRankLimit
 unfolding viewBytes
 length-view v e s =
-    let n : ℕ = length (extentsOf (v .layout)) in
-    let xs : List ℕ = wordsOf (extentsOf (v .layout)) in
-    let ys : List ℕ = wordsOf (map wordOf (stridesOf (v .layout))) in
+    let es : List ℕ = storedExtents (v .layout) in
+    let ss : List ℤ = storedStrides (v .layout) in
+    let n : ℕ = length es in
+    let xs : List ℕ = wordsOf es in
+    let ys : List ℕ = wordsOf (map wordOf ss) in
     let zs : List ℕ = bytesOf 8 (wordOf (v .offset)) in
-    omega (arith, length-append (bytesOf 1 n) (xs ++ (ys ++ zs)), length-append xs (ys ++ zs), length-append ys zs, length-bytes 1 n, length-bytes 8 (wordOf (v .offset)), length-words (extentsOf (v .layout)), length-words (map wordOf (stridesOf (v .layout))), length-map (stridesOf (v .layout)) wordOf, length-take (v .layout .rank) (v .layout .extents), length-take (v .layout .rank) (v .layout .strides))
+    omega (arith, stored-held, length-append (bytesOf 1 n) (xs ++ (ys ++ zs)), length-append xs (ys ++ zs), length-append ys zs, length-bytes 1 n, length-bytes 8 (wordOf (v .offset)), length-words es, length-words (map wordOf ss), length-map ss wordOf, length-take (min (v .layout .rank) storedRankLimit) (v .layout .extents), length-take (min (v .layout .rank) storedRankLimit) (v .layout .strides))
 
 pub length-list : (l : List16) → length (l .entries) ≡ listLimit → length (listBytes l) ≡ 1 + 8 * min (l .count) listLimit
 unfolding listBytes
@@ -49,15 +50,15 @@ sized-two a b m n x y p q = record { is = ap₂ _+_ (p .is) (q .is) ∙ sym (len
 pub sized-number : (w v : ℕ) → Sized (bytesOf w v) w w
 sized-number w v = record { is = sym (length-bytes w v); most = omega arith }
 
-pub sized-views : (vs : Views) (x y z : ℕ) → Sized (viewBytes (vs .first)) 137 x → Sized (viewBytes (vs .second)) 137 y → Sized (viewBytes (vs .third)) 137 z → Sized (viewsBytes vs) 411 (x + (y + z))
+pub sized-views : (vs : Views) (x y z : ℕ) → Sized (viewBytes (vs .first)) viewMost x → Sized (viewBytes (vs .second)) viewMost y → Sized (viewBytes (vs .third)) viewMost z → Sized (viewsBytes vs) viewsMost (x + (y + z))
 unfolding viewsBytes
 sized-views vs x y z p q r = sized-two _ _ _ _ _ _ p (sized-two _ _ _ _ _ _ q r)
 
-pub sized-spec : (kind : Kind) (s : Spec) (a b c d : ℕ) → Sized (listBytes (s .«window_dims»)) 129 a → Sized (listBytes (s .«unit_dims»)) 129 b → Sized (listBytes (s .«start_map»)) 129 c → Sized (sizesBytes kind (s .«slice_sizes»)) 129 d → Sized (specBytes kind s) 524 (a + (b + (c + (8 + d))))
+pub sized-spec : (kind : Kind) (s : Spec) (a b c d : ℕ) → Sized (listBytes (s .«window_dims»)) listMost a → Sized (listBytes (s .«unit_dims»)) listMost b → Sized (listBytes (s .«start_map»)) listMost c → Sized (sizesBytes kind (s .«slice_sizes»)) listMost d → Sized (specBytes kind s) specMost (a + (b + (c + (8 + d))))
 unfolding specBytes
 sized-spec kind s a b c d p q r t = sized-two _ _ _ _ _ _ p (sized-two _ _ _ _ _ _ q (sized-two _ _ _ _ _ _ r (sized-two _ _ _ _ _ _ (sized-number 8 (s .«index_vector_dim»)) t)))
 
-pub sized-body : (j : Job) (a b : ℕ) → Sized (viewsBytes (j .views)) 411 a → Sized (specBytes (j .kind) (j .spec)) 524 b → Sized (bodyBytes j) 938 (3 + (a + b))
+pub sized-body : (j : Job) (a b : ℕ) → Sized (viewsBytes (j .views)) viewsMost a → Sized (specBytes (j .kind) (j .spec)) specMost b → Sized (bodyBytes j) (3 + (viewsMost + specMost)) (3 + (a + b))
 unfolding bodyBytes
 sized-body j a b p q =
     let t = sized-two _ _ _ _ _ _ (sized-number 1 version) (sized-two _ _ _ _ _ _ (sized-number 1 (kindByte (j .kind))) (sized-two _ _ _ _ _ _ (sized-number 1 (elementByte (j .element))) (sized-two _ _ _ _ _ _ p q))) in
@@ -93,35 +94,23 @@ put-list-is l n at before mid after s h e f =
     let q : Put mid after (at + 1) (wordsOf (entriesOf l)) (at + 1 + 8 * n) = put-of (rw (← t) f) (omega (arith, length-words (entriesOf l))) in
     put-then p q
 
-pub put-view-is : (v : View) (n k at w : ℕ) (ws before a b c after : List ℕ) → length (v .layout .extents) ≡ rankLimit → length (v .layout .strides) ≡ rankLimit → n ≡ min (v .layout .rank) rankLimit
+pub put-view-is : (v : View) (n k at w : ℕ) (ws before a b c after : List ℕ) → length (v .layout .extents) ≡ rankLimit → length (v .layout .strides) ≡ rankLimit → n ≡ min (v .layout .rank) storedRankLimit
     → ws ≡ map wordOf (v .layout .strides) → w ≡ wordOf (v .offset) → k ≡ 9 + 16 * n
     → a ≡ sets before at (bytesOf 1 n) → b ≡ sets a (at + 1) (wordsOf (take n (v .layout .extents))) → c ≡ sets b (at + 1 + 8 * n) (wordsOf (take n ws)) → after ≡ sets c (at + 1 + 16 * n) (bytesOf 8 w)
     → Put before after at (viewBytes v) (at + k)
 unfolding viewBytes
 put-view-is v n k at w ws before a b c after se ss h ew eo ek p q r t =
-    let te : take n (v .layout .extents) ≡ extentsOf (v .layout) = take-count n (v .layout .rank) (v .layout .extents) (omega arith) in
-    let ts : take n ws ≡ map wordOf (stridesOf (v .layout)) = ap (take n) ew ∙ take-map wordOf n (v .layout .strides) ∙ ap (map wordOf) (take-count n (v .layout .rank) (v .layout .strides) (omega arith)) in
-    let m : n ≡ length (extentsOf (v .layout)) = omega (arith, length-take (v .layout .rank) (v .layout .extents)) in
-    let o : n ≡ length (map wordOf (stridesOf (v .layout))) = omega (arith, length-map (stridesOf (v .layout)) wordOf, length-take (v .layout .rank) (v .layout .strides)) in
-    let p1 : Put before a at (bytesOf 1 (length (extentsOf (v .layout)))) (at + 1) = put-of (rw (← m) p) (omega (arith, length-bytes 1 (length (extentsOf (v .layout))))) in
-    let p2 : Put a b (at + 1) (wordsOf (extentsOf (v .layout))) (at + 1 + 8 * n) = put-of (rw (← te) q) (omega (arith, length-words (extentsOf (v .layout)))) in
-    let p3 : Put b c (at + 1 + 8 * n) (wordsOf (map wordOf (stridesOf (v .layout)))) (at + 1 + 16 * n) = put-of (rw (← ts) r) (omega (arith, length-words (map wordOf (stridesOf (v .layout))))) in
+    let es : List ℕ = storedExtents (v .layout) in
+    let zs : List ℕ = map wordOf (storedStrides (v .layout)) in
+    let te : take n (v .layout .extents) ≡ es = ap (λ (j : ℕ). take j (v .layout .extents)) h in
+    let ts : take n ws ≡ zs = ap (take n) ew ∙ take-map wordOf n (v .layout .strides) ∙ ap (λ (j : ℕ). map wordOf (take j (v .layout .strides))) h in
+    let m : n ≡ length es = omega (arith, stored-held, length-take (min (v .layout .rank) storedRankLimit) (v .layout .extents)) in
+    let o : n ≡ length zs = omega (arith, stored-held, length-map (storedStrides (v .layout)) wordOf, length-take (min (v .layout .rank) storedRankLimit) (v .layout .strides)) in
+    let p1 : Put before a at (bytesOf 1 (length es)) (at + 1) = put-of (rw (← m) p) (omega (arith, length-bytes 1 (length es))) in
+    let p2 : Put a b (at + 1) (wordsOf es) (at + 1 + 8 * n) = put-of (rw (← te) q) (omega (arith, length-words es)) in
+    let p3 : Put b c (at + 1 + 8 * n) (wordsOf zs) (at + 1 + 16 * n) = put-of (rw (← ts) r) (omega (arith, length-words zs)) in
     let p4 : Put c after (at + 1 + 16 * n) (bytesOf 8 (wordOf (v .offset))) (at + k) = put-of (rw (← eo) t) (omega (arith, length-bytes 8 (wordOf (v .offset)))) in
     put-then p1 (put-then p2 (put-then p3 p4))
-
--- the strides as words, i of them written
-abbrev pub worded : List ℤ → ℕ → List ℕ
-worded ss i = take i (map wordOf ss) ++ replicate (rankLimit - i) 0
-
-pub word-one : (ss : List ℤ) (out : List ℕ) (i x : ℕ) → length ss ≡ rankLimit → i < rankLimit → out ≡ worded ss i → x ≡ wordOf (getD ss i (pos 0)) → set out i x ≡ worded ss (i + 1)
-word-one ss out i x s h e f =
-    ap₂ (λ (o : List ℕ) (y : ℕ). set o i y) e (f ∙ sym (List·getD-map wordOf ss i (pos 0)))
-    ∙ fill-one rankLimit 0 0 (map wordOf ss) i h (omega (arith, length-map ss wordOf))
-
-pub word-all : (ss : List ℤ) (out : List ℕ) (i : ℕ) → length ss ≡ rankLimit → rankLimit ≤ i → i ≤ rankLimit → out ≡ worded ss i → out ≡ map wordOf ss
-word-all ss out i s h k e =
-    let n : rankLimit - i ≡ 0 = omega arith in
-    e ∙ rw (n, take-all i (map wordOf ss) (omega (arith, length-map ss wordOf))) (append-nil (map wordOf ss))
 
 pub put-views-is : (vs : Views) (before a b after : List ℕ) (at k l m : ℕ) → Put before a at (viewBytes (vs .first)) k → Put a b k (viewBytes (vs .second)) l → Put b after l (viewBytes (vs .third)) m → Put before after at (viewsBytes vs) m
 unfolding viewsBytes

@@ -1,12 +1,12 @@
 // The writer of a stored job. Of an array, the first entries count, as many as its rank or count says, or all where that is
-// larger: so a job that nobody made is written as the one that is read of it.
+// larger, and of a layout no more axes than are stored: so a job that nobody made is written as the one that is read of it.
 ghost use mathlib.Core.Path.{_≡_};
 ghost use mathlib.Core.List.{map};
 ghost use Prim.Native.Nat.{_+_, _*_, _≤_, min};
 ghost use lib.ListN.{length};
 ghost use Rattle.job_bytes.specs.Fields.{wordOf};
-ghost use Rattle.job.specs.Format.{kindByte, elementByte, viewBytes, listBytes, sizesBytes, specBytes, viewsBytes, bodyBytes};
-ghost use Rattle.job_bytes.specs.Version.{listLimit};
+ghost use Rattle.job.specs.Format.{kindByte, elementByte, viewBytes, listBytes, sizesBytes, specBytes, viewsBytes, bodyBytes, viewMost, listMost, viewsMost, specMost};
+ghost use Rattle.job_bytes.specs.Version.{storedRankLimit, listLimit};
 ghost use Rattle.job_writer.specs.Written.{Put, Written, Sized};
 use job::Element;
 use job::Job;
@@ -15,31 +15,43 @@ use job::List16;
 use job::Spec;
 use job::Views;
 use job_bytes::LIST_LIMIT;
+use job_bytes::STORED_RANK_LIMIT;
 use job_bytes::VERSION;
 use layout::Answer;
 use layout::RAW_FUSED_RANK_LIMIT;
 use layout::View;
 
 // The stored size of a layout with its offset, by its rank.
-const LAYOUT_SIZES: [usize; 9] = [9, 25, 41, 57, 73, 89, 105, 121, 137];
+const LAYOUT_SIZES: [usize; STORED_RANK_LIMIT + 1] = [9, 25, 41, 57, 73, 89, 105, 121, 137];
 
 fn layout_size(rank: usize) -> usize
-    requires { ⌜ rank ≤ 8 ⌝ }
+    requires { ⌜ rank ≤ storedRankLimit ⌝ }
     ensures { λ r. ⌜ r ≡ 9 + 16 * rank ⌝ }
 {
     LAYOUT_SIZES[rank]
 }
 
+// How many axes of a layout are stored.
+fn stored_count(rank: usize) -> usize
+    ensures { λ r. ⌜ r ≡ min rank storedRankLimit ⌝ }
+{
+    if rank < STORED_RANK_LIMIT {
+        rank
+    } else {
+        STORED_RANK_LIMIT
+    }
+}
+
 fn view_size(view: View) -> usize
-    ensures { λ r. ⌜ Sized (viewBytes view) 137 r ⌝ }
+    ensures { λ r. ⌜ Sized (viewBytes view) viewMost r ⌝ }
 {
     let l = view.layout;
-    let n = layout::axis_count(l.rank);
+    let n = stored_count(l.rank);
     layout_size(n)
 }
 
 fn views_size(views: Views) -> usize
-    ensures { λ r. ⌜ Sized (viewsBytes views) 411 r ⌝ }
+    ensures { λ r. ⌜ Sized (viewsBytes views) viewsMost r ⌝ }
 {
     let first = views.first;
     let second = views.second;
@@ -59,14 +71,14 @@ fn list_count(list: List16) -> usize
 }
 
 fn list_size(list: List16) -> usize
-    ensures { λ r. ⌜ Sized (listBytes list) 129 r ⌝ }
+    ensures { λ r. ⌜ Sized (listBytes list) listMost r ⌝ }
 {
     let n = list_count(list);
     1 + 8 * n
 }
 
 fn sizes_size(kind: Kind, list: List16) -> usize
-    ensures { λ r. ⌜ Sized (sizesBytes kind list) 129 r ⌝ }
+    ensures { λ r. ⌜ Sized (sizesBytes kind list) listMost r ⌝ }
 {
     match kind {
         Kind::Gather => list_size(list),
@@ -75,7 +87,7 @@ fn sizes_size(kind: Kind, list: List16) -> usize
 }
 
 fn spec_size(kind: Kind, spec: Spec) -> usize
-    ensures { λ r. ⌜ Sized (specBytes kind spec) 524 r ⌝ }
+    ensures { λ r. ⌜ Sized (specBytes kind spec) specMost r ⌝ }
 {
     let window = spec.window_dims;
     let unit = spec.unit_dims;
@@ -90,7 +102,7 @@ fn spec_size(kind: Kind, spec: Spec) -> usize
 
 // The bytes that follow the count.
 fn body_size(job: Job) -> usize
-    ensures { λ r. ⌜ Sized (bodyBytes job) 938 r ⌝ }
+    ensures { λ r. ⌜ Sized (bodyBytes job) (3 + (viewsMost + specMost)) r ⌝ }
 {
     let kind = job.kind;
     let views = job.views;
@@ -141,7 +153,7 @@ fn put_view(out: &mut [u8], at: usize, view: View) -> usize
     let extents = l.extents;
     let strides = l.strides;
     let offset = view.offset;
-    let n = layout::axis_count(l.rank);
+    let n = stored_count(l.rank);
     let words = stride_words(strides);
     let word = job_bytes::word_of(offset);
     job_bytes::put_number(out, at, 1, n as u64);

@@ -1,4 +1,4 @@
--- A turn of the loops over a layout's axes, by what the call in it returned. Of n axes and an array, those below `min n (length ..)` count. Assumes nothing.
+-- A turn of a loop over the first n entries of an array, of which those below `min n (length ..)` count; and of the loop that adds up an offset. Assumes nothing.
 use mathlib.Core.Path.{_≡_, ap, _∙_}
 use mathlib.Core.List.{List, [], _∷_}
 use Prim.Native.Nat.{ℕ, suc, _+_, _<_, _≤_, min}

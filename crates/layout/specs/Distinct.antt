@@ -15,7 +15,7 @@ use Rattle.integer.specs.Laws.{+ℤ-ac, +ℤ-left-comm, +ℤ-cancel-r}
 use Rattle.indexing.specs.Coordinates.{dot, Within}
 use Rattle.layout.specs.Nested.{hasZero, longAxes, insert, ordered, exceeds, nested}
 
-and-both : (a b : Bool) → (a && b) ≡ true → (a ≡ true) × (b ≡ true)
+pub and-both : (a b : Bool) → (a && b) ≡ true → (a ≡ true) × (b ≡ true)
 and-both true true e = (refl, refl)
 and-both true false e = (refl, e)
 and-both false b e = (e, cc)

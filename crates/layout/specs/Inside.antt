@@ -10,7 +10,7 @@ use lib.IntN.{ℤ, pos, negsuc, _+ℤ_, _*ℤ_}
 use lib.Signed.{leZ, ltZ, _≤ℤ_, _<ℤ_}
 use Rattle.integer.specs.Z.{up, zfacts, ≤-from, <-from}
 use Rattle.integer.specs.Laws.{≤ℤ-trans, +ℤ-mono, +ℤ-mono-r}
-use Rattle.indexing.specs.Coordinates.{View, dot, Within}
+use Rattle.indexing.specs.Coordinates.{dot, Within}
 use Rattle.indexing.specs.Valid.{Covered}
 use Rattle.indexing.specs.Reach.{belowZero, aboveZero, lowest, highest, dot-low, dot-high}
 use Rattle.layout.specs.declared.Reach.the-variants as R

@@ -1,4 +1,4 @@
--- What an accepted product, span or reset is: the product, the least and the greatest sums, the way back. Assumes nothing.
+-- What an accepted product, span, reset or offset is: the product, the least and the greatest sums, the way back, the place. Assumes nothing.
 use mathlib.Core.Path.{_≡_, refl, sym, ap, subst, _∙_}
 use mathlib.Core.Bool.{Bool, true, false}
 use mathlib.Core.List.{List, [], _∷_}
@@ -19,8 +19,7 @@ use Rattle.integer.specs.declared.CheckedU.{CheckedU}
 use Rattle.integer.specs.declared.CheckedU.the-variants as U
 use Rattle.layout.specs.declared.OffsetSpan.{OffsetSpan}
 use Rattle.layout.specs.declared.OffsetSpan.the-variants as S
-use Rattle.indexing.specs.Coordinates.{product, unravel, dot, Within}
-use Rattle.indexing.specs.Odometer.{AllPos, walk-within}
+use Rattle.indexing.specs.Coordinates.{product, dot, Within}
 use Rattle.indexing.specs.Reach.{belowZero, aboveZero, lowest, highest, dot-low, dot-high}
 use Rattle.layout.specs.Spans.{andThen, andThenU, spanOf, andSpan, totalFrom, totalOf, reachOf, widenBy, widened, spanFrom, spanned, resetOf, offsetAdd, stridedOffset}
 
@@ -168,9 +167,6 @@ module _ (ds : List ℕ) (ss : List ℤ) (l h : ℤ) (q : spanned ds ss ≡ S.Fi
   -- every coordinate's sum lies between the two
   pub span-bounds : (cs : List ℕ) → length ss ≤ length ds → Within ds cs → (l ≤ℤ dot ss cs) × (dot ss cs ≤ℤ h)
   span-bounds cs n w = (subst (λ (z : ℤ). z ≤ℤ dot ss cs) (sym span-low) (dot-low ss ds cs n w), subst (λ (z : ℤ). dot ss cs ≤ℤ z) (sym span-high) (dot-high ss ds cs n w))
-
-  pub span-covers : (k : ℕ) → length ss ≤ length ds → AllPos ds → (l ≤ℤ dot ss (unravel ds k)) × (dot ss (unravel ds k) ≤ℤ h)
-  span-covers k n p = span-bounds (unravel ds k) n (walk-within ds p k)
 
 -- ---- an offset that was given is the base plus stride times coordinate, over the axes
 pub offset-add-is : (base s : ℤ) (c : ℕ) (r : ℤ) → offsetAdd base s c ≡ C.Fits r → r ≡ base +ℤ s *ℤ pos c

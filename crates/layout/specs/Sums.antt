@@ -1,4 +1,4 @@
--- What the code adds up where it tests a layout, axis by axis. `Apart` and `Ends` show that the tests are those of `Nested` and `Reach`. Definitions only.
+-- What the code adds up where it tests a layout, axis by axis. `Apart` and `Ends` of `spans` show that the tests are those of `Nested` and `Reach`. Definitions only.
 use mathlib.Core.Bool.{Bool, true, false, cond, _||_}
 use mathlib.Core.List.{List, [], _∷_}
 use Prim.Native.Nat.{ℕ, suc, _+_, _*_, _-_}

@@ -1,5 +1,7 @@
-// Layouts by value, their products, spans and resets, the nested test, the axis-list check, the clamp and the reach of a
-// view. Every function answers for all its arguments: of an array, the first `rank` entries count, or all where `rank` is larger.
+// The rank limit; answers and their numbers; layouts and views by value, from lent extents and strides; what one axis adds to a
+// span, an offset, the nested test or a reach, and its reset; the offset of an index; the axis-list check; the clamp; the test
+// of 9. Products, spans, the nested test and the reach over all axes are in `spans`. Every function answers for all its
+// arguments: of an array, the first `rank` entries count, or all where `rank` is larger.
 ghost use mathlib.Core.Path.{_≡_};
 ghost use mathlib.Core.List.{[]};
 ghost use Prim.Native.Nat.{_+_, _-_, _<_, min};
@@ -129,20 +131,27 @@ pub struct View {
     pub offset: i64,
 }
 
-// The first eight extents, filled up with 1.
-pub fn padded_extents(extents: &[u64]) -> [u64; RAW_FUSED_RANK_LIMIT]
-    ensures { λ r. ⌜ r ≡ padded rankLimit 1 (now (extents .entry)) ⌝ }
+// The first numbers of a list, one for each axis that a layout can have, filled up with `rest`.
+pub fn padded_numbers(list: &[u64], rest: u64) -> [u64; RAW_FUSED_RANK_LIMIT]
+    ensures { λ r. ⌜ r ≡ padded rankLimit rest (now (list .entry)) ⌝ }
 {
-    let mut out = [1u64; RAW_FUSED_RANK_LIMIT];
+    let mut out = [rest; RAW_FUSED_RANK_LIMIT];
     let mut i: usize = 0;
-    while i < RAW_FUSED_RANK_LIMIT && i < extents.len() {
-        out[i] = extents[i];
+    while i < RAW_FUSED_RANK_LIMIT && i < list.len() {
+        out[i] = list[i];
         i += 1;
     }
     out
 }
 
-// The first eight strides, filled up with 0.
+// The extents as a layout holds them: the first ones, filled up with 1.
+pub fn padded_extents(extents: &[u64]) -> [u64; RAW_FUSED_RANK_LIMIT]
+    ensures { λ r. ⌜ r ≡ padded rankLimit 1 (now (extents .entry)) ⌝ }
+{
+    padded_numbers(extents, 1)
+}
+
+// The strides as a layout holds them: the first ones, filled up with 0.
 pub fn padded_strides(strides: &[i64]) -> [i64; RAW_FUSED_RANK_LIMIT]
     ensures { λ r. ⌜ r ≡ padded rankLimit (pos 0) (now (strides .entry)) ⌝ }
 {
@@ -173,7 +182,7 @@ pub fn check_rank(rank: usize) -> Answer
     if rank <= RAW_FUSED_RANK_LIMIT {
         Answer::Done
     } else {
-        Answer::RankTooLarge(rank as u64, 8)
+        Answer::RankTooLarge(rank as u64, RAW_FUSED_RANK_LIMIT as u64)
     }
 }
 
@@ -217,7 +226,7 @@ pub fn make_layout(extents: &[u64], strides: &[i64]) -> MadeLayout
     }
 }
 
-// How many entries of an array of eight count.
+// How many entries of an array of axes count.
 pub fn axis_count(rank: usize) -> usize
     ensures { λ r. ⌜ r ≡ min rank rankLimit ⌝ }
 {

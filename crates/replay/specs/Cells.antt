@@ -10,7 +10,6 @@ use lib.Dec.{eqb}
 use lib.IntN.{ℤ}
 use Rattle.indexing.specs.Coordinates.{product}
 use Rattle.indexing.specs.Odometer.{AllPos}
-use Rattle.indexing.specs.Fusion.{product-pos}
 use Rattle.layout.specs.Nested.{hasZero}
 use Rattle.replay.specs.declared.WindowReplayAxis.{WindowReplayAxis}
 use Rattle.replay.specs.Replays.{extents}
@@ -33,14 +32,6 @@ all-cells [] h = tt
 all-cells (zero ∷ ds) h = let z : _≡_ {A = ℕ} 0 1 = cc in absurd (omega arith)
 all-cells (suc d ∷ ds) h = (omega arith, all-cells ds (rw (not-zero d) at h))
 
--- so the product tells which
-pub cells-zero : (ds : List ℕ) → product ds ≡ 0 → hasZero ds ≡ true
-cells-zero ds e = go (hasZero ds) refl
-  where
-    go : (t : Bool) → hasZero ds ≡ t → t ≡ true
-    go true h = refl
-    go false h = let k : 0 < product ds = product-pos ds (all-cells ds h) in absurd (omega arith)
-
 pub cells-pos : (ds : List ℕ) → 0 < product ds → AllPos ds
 cells-pos ds h = all-cells ds (go (hasZero ds) refl)
   where
@@ -48,16 +39,7 @@ cells-pos ds h = all-cells ds (go (hasZero ds) refl)
     go true k = absurd (omega (arith, no-cells ds k))
     go false k = refl
 
--- the merged walk has as many cells as the walk over the axes as they were given, and an extent of 0 where that has one
+-- the merged walk has as many cells as the walk over the axes as they were given
 module _ (ds : List ℕ) (ss ts : List ℤ) (l : List WindowReplayAxis) (m : Meets ds ss ts l) where
   pub cells-kept : product (extents l) ≡ product ds
   cells-kept = m .total
-
-  pub zero-kept : hasZero (extents l) ≡ hasZero ds
-  zero-kept = go (hasZero (extents l)) (hasZero ds) refl refl
-    where
-      go : (t u : Bool) → hasZero (extents l) ≡ t → hasZero ds ≡ u → t ≡ u
-      go true true e f = refl
-      go false false e f = refl
-      go true false e f = absurd (omega (arith, no-cells (extents l) e, m .total, product-pos ds (all-cells ds f)))
-      go false true e f = absurd (omega (arith, no-cells ds f, m .total, product-pos (extents l) (all-cells (extents l) e)))

@@ -7,9 +7,10 @@ use native.Mathlib.Nat.{add-zero, mul-le-mul-left, mul-one}
 use native.Mathlib.Omega.{arith}
 use borrow.Author.Tests.{lt-ltb, le-ltb, ltb-true, ltb-false, le-leb, lt-leb, leb-true, leb-false, eq-eqb, ne-eqb, eqb-true, eqb-false}
 use lib.Dec.{eqb, leb, ltb}
-use lib.ListN.{length, drop, getD}
+use lib.ListN.{length, drop, getD, drop-of-length-le}
 use lib.Seq.{drop-cons}
 use lib.IntN.{ℤ, pos, natAbs}
+use Rattle.layout.specs.Distinct.{and-both}
 use Rattle.layout.specs.Nested.{hasZero, longAxes, insert, ordered, exceeds, nested}
 use Rattle.layout.specs.Sums.{weight, sumAxes, otherAt, othersWeight, axisExceeds}
 
@@ -45,27 +46,14 @@ ltb-shift a b w = go (ltb a b) refl
     go true e = rw (e, lt-ltb (a + w) (b + w) (omega (arith, ltb-true a b e)))
     go false e = rw (e, le-ltb (a + w) (b + w) (omega (arith, ltb-false a b e)))
 
-and-false : (b : Bool) → (b && false) ≡ false
+pub and-false : (b : Bool) → (b && false) ≡ false
 and-false true = refl
 and-false false = refl
-
-and-true : (b : Bool) → (b && true) ≡ b
-and-true true = refl
-and-true false = refl
 
 and-swap : (a b c : Bool) → (a && (b && c)) ≡ (b && (a && c))
 and-swap true b c = refl
 and-swap false true c = refl
 and-swap false false c = refl
-
-and-left : (a b : Bool) → (a && b) ≡ true → a ≡ true
-and-left true b e = refl
-and-left false b e = e
-
-and-right : (a b : Bool) → (a && b) ≡ true → b ≡ true
-and-right true b e = e
-and-right false true e = refl
-and-right false false e = e
 
 -- ---- the sum over the others is the sum over all but the axis itself
 past-own : (limit axis j : ℕ) (ds : List ℕ) (ss : List ℤ) → axis < j → sumAxes (otherAt limit axis) j ds ss ≡ upTo limit (pairs ds ss)
@@ -118,13 +106,7 @@ getD-pairs (d ∷ ds) (s ∷ ss) (suc i) l h = getD-pairs ds ss i (omega arith) 
 
 from-list : (k i : ℕ) (ds : List ℕ) (ss : List ℤ) → length ss ≡ length ds → i + k ≡ length ds → exceedsFrom k i ds ss ≡ all (long-or-apart (pairs ds ss)) (drop i (pairs ds ss))
 unfolding exceedsFrom all
-from-list zero i ds ss l h = rw (drop-end i (pairs ds ss) (omega (arith, length-pairs ds ss l)))
-  where
-    drop-end : (i : ℕ) (xs : List Axis) → length xs ≤ i → drop i xs ≡ []
-    drop-end zero [] h = refl
-    drop-end zero (x ∷ xs) h = absurd (omega arith)
-    drop-end (suc i) [] h = refl
-    drop-end (suc i) (x ∷ xs) h = drop-end i xs (omega arith)
+from-list zero i ds ss l h = rw (drop-of-length-le (pairs ds ss) {i = i} (omega (arith, length-pairs ds ss l)))
 from-list (suc k) i ds ss l h =
     let b : i < length (pairs ds ss) = omega (arith, length-pairs ds ss l) in
     rw (drop-cons (pairs ds ss) i (0, 0) b, getD-pairs ds ss i l (omega arith))
@@ -251,8 +233,8 @@ none-up-to : (limit q : ℕ) (xs : List Axis) → limit ≤ q → exceeds q xs �
 unfolding upTo exceeds
 none-up-to limit q [] h e = refl
 none-up-to limit q (x ∷ xs) h e =
-    let a : q < x .0 = ltb-true q (x .0) (and-left (ltb q (x .0)) _ e) in
-    rw (lt-leb (x .0) limit (omega arith)) (omega (arith, none-up-to limit (q + reach x) xs (omega arith) (and-right (ltb q (x .0)) _ e)))
+    let a : q < x .0 = ltb-true q (x .0) (and-both (ltb q (x .0)) _ e .0) in
+    rw (lt-leb (x .0) limit (omega arith)) (omega (arith, none-up-to limit (q + reach x) xs (omega arith) (and-both (ltb q (x .0)) _ e .1)))
 
 abbrev apartFrom : ℕ → List Axis → Axis → Bool
 apartFrom p l x = ltb (p + upTo (x .0) l) (x .0 + reach x)

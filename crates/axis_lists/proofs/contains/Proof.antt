@@ -14,41 +14,33 @@ Inv-loop list axis i₀ i = (i ≤ length list) × (has (drop i list) axis ≡ h
 abbrev μ-loop : tie.MeasureT-loop
 μ-loop list axis i₀ i = length list - i
 
--- src/lib.rt:85:5
 loop-holds : tie.Need-loop-holds Inv-loop μ-loop
 loop-holds c = (zero-le, refl)
 
--- src/lib.rt:86:12
 mul-if1 : tie.Need-mul-if1 Inv-loop μ-loop
 mul-if1 c = search needs
 
--- src/lib.rt:86:12
 shared-slice-read-if1 : tie.Need-shared-slice-read-if1 Inv-loop μ-loop
 shared-slice-read-if1 c = search needs
 
--- src/lib.rt:87:13
 returns : tie.Need-returns Inv-loop μ-loop
 returns c =
     let l = c .before .before .before in
     let s = l .before in
     has-here (s .args .list .now) (l .loop .i) (s .args .axis) (omega arith) (c .if1 .taken) ∙ l .loop .inv .1
 
--- src/lib.rt:89:9
 add-i : tie.Need-add-i Inv-loop μ-loop
 add-i c = search needs
 
--- src/lib.rt:85:5
 loop-less : tie.Need-loop-less Inv-loop μ-loop
 loop-less c = search needs
 
--- src/lib.rt:85:5
 loop-again : tie.Need-loop-again Inv-loop μ-loop
 loop-again c =
     let l = c .before .before .before in
     let s = l .before in
     (omega arith, has-next (s .args .list .now) (l .loop .i) (s .args .axis) (omega arith) (c .if1 .left) ∙ l .loop .inv .1)
 
--- src/lib.rt:81:1
 returns-2 : tie.Need-returns-2 Inv-loop μ-loop
 returns-2 c =
     let l = c .before in

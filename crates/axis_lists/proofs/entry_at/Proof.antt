@@ -4,19 +4,15 @@ use borrow.Author.Needs.{needs}
 use Rattle.axis_lists.proofs.entry_at.Statement.{statement}
 use Rattle.axis_lists.proofs.entry_at.Tie as tie
 
--- src/lib.rt:349:9
 mul-result : tie.Need-mul-result
 mul-result c = search needs
 
--- src/lib.rt:349:9
 shared-slice-read-result : tie.Need-shared-slice-read-result
 shared-slice-read-result c = search needs
 
--- src/lib.rt:344:1
 returns : tie.Need-returns
 returns c = search needs
 
--- src/lib.rt:344:1
 returns-2 : tie.Need-returns-2
 returns-2 c = sym (List·getD-eq-default (c .before .args .list .now) 0 {n = c .before .args .axis} (c .if1 .left))
 

@@ -3,19 +3,15 @@ use borrow.Author.Needs.{needs}
 use Rattle.axis_lists.proofs.left_over.Statement.{statement}
 use Rattle.axis_lists.proofs.left_over.Tie as tie
 
--- src/lib.rt:326:9
 axis-count-requires : tie.Need-axis-count-requires
 axis-count-requires c κs = search needs
 
--- src/lib.rt:327:26
 sub-result : tie.Need-sub-result
 sub-result c = search needs
 
--- src/lib.rt:323:1
 returns : tie.Need-returns
 returns c = rw (← c .before .axis-count .ensures, lt-ltb _ _ (c .if1 .taken))
 
--- src/lib.rt:323:1
 returns-2 : tie.Need-returns-2
 returns-2 c = rw (← c .before .axis-count .ensures, le-ltb _ _ (c .if1 .left))
 

@@ -1,73 +1,48 @@
-use mathlib.Core.Path.{_≡_, refl, sym, ap, _∙_}
-use Prim.Native.Nat.{ℕ, zero, suc, _-_, _<_, _≤_, zero-le, min}
+use mathlib.Core.Path.{_≡_, ap, _∙_}
+use Prim.Native.Nat.{ℕ, _-_, _≤_, min}
 use native.Mathlib.Omega.{arith}
+use lib.ListN.{take, replicate, length-replicate}
+use lib.Seq.{take-at}
+use Rattle.layout.specs.Layouts.{rankLimit}
+use Rattle.spans.proofs.Parts.{part-read}
+use Rattle.axis_lists.specs.Held.{heldNumbers}
+use Rattle.axis_lists.proofs.Slices.{all-same}
 use borrow.Author.Needs.{needs}
-use lib.ListN.{getD, replicate}
-use Rattle.layout.specs.Layouts.{rankLimit, padded}
-use Rattle.axis_lists.proofs.Filling.{numbers-are, written, one-written, all-written}
-use lib.ListN.{length-replicate}
 use Rattle.axis_lists.proofs.ones.Statement.{statement}
 use Rattle.axis_lists.proofs.ones.Tie as tie
 
-getD-replicate : (n i : ℕ) → i < n → _≡_ {A = ℕ} (getD (replicate n 1) i 0) 1
-getD-replicate zero i h = absurd (omega arith)
-getD-replicate (suc n) zero h = refl
-getD-replicate (suc n) (suc i) h = getD-replicate n i (omega arith)
+-- of as many ones as there is room for, the first n
+first-ones : (n : ℕ) → n ≤ rankLimit → take {A = ℕ} n (replicate rankLimit 1) ≡ replicate n 1
+first-ones n h = ap (take {A = ℕ} n) (all-same 1 n h) ∙ take-at {A = ℕ} (replicate n 1) (replicate (rankLimit - n) 1) n (length-replicate {A = ℕ} n 1)
 
-abbrev Inv-loop : tie.InvT-loop
-Inv-loop n m out₀ i₀ out i = (i ≤ m) × (out ≡ written 0 (replicate m 1) i)
-
-abbrev μ-loop : tie.MeasureT-loop
-μ-loop n m out₀ i₀ out i = m - i
-
--- src/lib.rt:259:9
-axis-count-requires : tie.Need-axis-count-requires Inv-loop μ-loop
+axis-count-requires : tie.Need-axis-count-requires
 axis-count-requires c κs = search needs
 
--- src/lib.rt:262:5
-loop-holds : tie.Need-loop-holds Inv-loop μ-loop
-loop-holds c = (zero-le, refl)
+sub-numbers-from : tie.Need-sub-numbers-from
+sub-numbers-from c = search needs
 
--- src/lib.rt:263:9
-mul-out : tie.Need-mul-out Inv-loop μ-loop
-mul-out c = search needs
+part-numbers-from-start : tie.Need-part-numbers-from-start
+part-numbers-from-start c = search needs
 
--- src/lib.rt:263:9
-array-write-out : tie.Need-array-write-out Inv-loop μ-loop
-array-write-out c = search needs
+part-numbers-from-end : tie.Need-part-numbers-from-end
+part-numbers-from-end c = search needs
 
--- src/lib.rt:264:9
-add-i : tie.Need-add-i Inv-loop μ-loop
-add-i c = search needs
+numbers-from-requires : tie.Need-numbers-from-requires
+numbers-from-requires c κs = search needs
 
--- src/lib.rt:262:5
-loop-less : tie.Need-loop-less Inv-loop μ-loop
-loop-less c = search needs
-
--- src/lib.rt:262:5
-loop-again : tie.Need-loop-again Inv-loop μ-loop
-loop-again c =
-    let l = c .before in
-    (omega (arith, l .before .axis-count .ensures), one-written 0 (replicate (l .before .axis-count .result) 1) (l .loop .out) (l .loop .i) 1 (omega (arith, length-replicate {A = ℕ} (l .before .axis-count .result) 1)) (omega (arith, length-replicate {A = ℕ} (l .before .axis-count .result) 1, l .before .axis-count .ensures)) (l .loop .inv .1) (sym (getD-replicate (l .before .axis-count .result) (l .loop .i) (omega arith))))
-
--- src/lib.rt:256:1
-returns : tie.Need-returns Inv-loop μ-loop
+returns : tie.Need-returns
 returns c =
-    let l = c .before in
-    numbers-are (l .before .axis-count .result) (l .loop .out) (replicate (min (l .before .before .args .n) 8) 1) (l .before .axis-count .ensures ∙ sym (length-replicate {A = ℕ} (min (l .before .before .args .n) 8) 1))
-    (l .loop .inv .1 ∙ all-written 0 (replicate (l .before .axis-count .result) 1) (l .loop .i) (omega (arith, length-replicate {A = ℕ} (l .before .axis-count .result) 1)) (omega (arith, length-replicate {A = ℕ} (l .before .axis-count .result) 1, l .before .axis-count .ensures)) ∙ ap (λ (k : ℕ). padded rankLimit 0 (replicate k 1)) (l .before .axis-count .ensures))
+    let a = c .before .before .before in
+    let m = min (a .before .args .n) rankLimit in
+    c .numbers-from .ensures ∙ ap heldNumbers (part-read {A = ℕ} (a .axis-count .result) m rankLimit (replicate rankLimit 1) (omega (arith, a .axis-count .ensures)) (length-replicate {A = ℕ} rankLimit 1) ∙ first-ones m (omega arith))
 
 pub ones-spec : {M : Type 1} → statement M
 ones-spec =
     tie.close
     (tie.spec
-    Inv-loop
-    μ-loop
     axis-count-requires
-    loop-holds
-    mul-out
-    array-write-out
-    add-i
-    loop-less
-    loop-again
+    sub-numbers-from
+    part-numbers-from-start
+    part-numbers-from-end
+    numbers-from-requires
     returns)

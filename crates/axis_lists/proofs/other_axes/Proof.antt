@@ -29,36 +29,29 @@ at-end [] k h e = omega arith
 at-end (x ∷ xs) zero h e = let z : _≡_ {A = ℕ} 0 1 = cc in absurd (omega arith)
 at-end (x ∷ xs) (suc k) h e = ap suc (at-end xs k (omega arith) e)
 
--- src/lib.rt:100:9
 axis-count-requires : tie.Need-axis-count-requires Inv-loop μ-loop
 axis-count-requires c κs = search needs
 
--- src/lib.rt:104:5
 loop-holds : tie.Need-loop-holds Inv-loop μ-loop
 loop-holds c =
     let e : c .axis-count .result ≡ c .axis-count .result - 0 = omega arith in
     (zero-le, zero-le, refl, ap (λ (n : ℕ). othersFrom 0 n (c .before .before .args .list .now)) e)
 
--- src/lib.rt:106:9
 add-i : tie.Need-add-i Inv-loop μ-loop
 add-i c = search needs
 
--- src/lib.rt:107:12
 contains-requires : tie.Need-contains-requires Inv-loop μ-loop
 contains-requires c κs = search needs
 
--- src/lib.rt:104:5
 loop-less : tie.Need-loop-less Inv-loop μ-loop
 loop-less c = search needs
 
--- src/lib.rt:104:5
 loop-again : tie.Need-loop-again Inv-loop μ-loop
 loop-again c =
     let l = c .before .before .before in
     let s = l .before .before .before in
     (omega (arith, c .before .before .loop-test .taken), l .loop .inv .1, l .loop .inv .2, l .loop .inv .3 ∙ others-skip (s .args .list .now) (l .loop .i) (l .before .axis-count .result) (c .before .before .loop-test .taken) (sym (c .before .contains .ensures) ∙ c .if1 .taken))
 
--- src/lib.rt:110:9
 mul-out : tie.Need-mul-out Inv-loop μ-loop
 mul-out c =
     let h = here c in
@@ -66,7 +59,6 @@ mul-out c =
     let s = l .before .before .before in
     omega (arith, h .more, length-others 0 (l .before .axis-count .result) (s .args .list .now), l .before .axis-count .ensures)
 
--- src/lib.rt:110:9
 array-write-out : tie.Need-array-write-out Inv-loop μ-loop
 array-write-out c =
     let h = here c in
@@ -74,7 +66,6 @@ array-write-out c =
     let s = l .before .before .before in
     omega (arith, h .more, length-others 0 (l .before .axis-count .result) (s .args .list .now), l .before .axis-count .ensures)
 
--- src/lib.rt:111:9
 add-count : tie.Need-add-count Inv-loop μ-loop
 add-count c =
     let h = here c in
@@ -82,11 +73,9 @@ add-count c =
     let s = l .before .before .before in
     omega (arith, h .more, length-others 0 (l .before .axis-count .result) (s .args .list .now), l .before .axis-count .ensures)
 
--- src/lib.rt:104:5
 loop-less-2 : tie.Need-loop-less-2 Inv-loop μ-loop
 loop-less-2 c = search needs
 
--- src/lib.rt:104:5
 loop-again-2 : tie.Need-loop-again-2 Inv-loop μ-loop
 loop-again-2 c =
     let h = here c in
@@ -94,7 +83,6 @@ loop-again-2 c =
     let s = l .before .before .before in
     (omega (arith, c .before .before .loop-test .taken), omega (arith, h .more), one-written 0 (others (l .before .axis-count .result) (s .args .list .now)) (l .loop .out) (l .loop .count) (l .loop .i) (h .more) (omega (arith, length-others 0 (l .before .axis-count .result) (s .args .list .now), l .before .axis-count .ensures)) (l .loop .inv .2) (sym (h .first)), h .next)
 
--- src/lib.rt:97:1
 returns : tie.Need-returns Inv-loop μ-loop
 returns c =
     let l = c .before in

@@ -18,58 +18,47 @@ Inv-loop list entries n out₀ i₀ out i = (i ≤ n) × (out ≡ written 0 (pic
 abbrev μ-loop : tie.MeasureT-loop
 μ-loop list entries n out₀ i₀ out i = n - i
 
--- src/lib.rt:360:9
 axis-count-requires : tie.Need-axis-count-requires Inv-loop μ-loop
 axis-count-requires c κs = search needs
 
--- src/lib.rt:363:5
 loop-holds : tie.Need-loop-holds Inv-loop μ-loop
 loop-holds c = (zero-le, refl)
 
--- src/lib.rt:364:33
 mul-entry-at : tie.Need-mul-entry-at Inv-loop μ-loop
 mul-entry-at c = search needs
 
--- src/lib.rt:364:33
 array-read-entry-at : tie.Need-array-read-entry-at Inv-loop μ-loop
 array-read-entry-at c = search needs
 
--- src/lib.rt:364:18
 entry-at-requires : tie.Need-entry-at-requires Inv-loop μ-loop
 entry-at-requires c κs = search needs
 
--- src/lib.rt:364:9
 mul-out : tie.Need-mul-out Inv-loop μ-loop
 mul-out c = search needs
 
--- src/lib.rt:364:9
 array-write-out : tie.Need-array-write-out Inv-loop μ-loop
 array-write-out c = search needs
 
--- src/lib.rt:365:9
 add-i : tie.Need-add-i Inv-loop μ-loop
 add-i c = search needs
 
--- src/lib.rt:363:5
 loop-less : tie.Need-loop-less Inv-loop μ-loop
 loop-less c = search needs
 
--- src/lib.rt:363:5
 loop-again : tie.Need-loop-again Inv-loop μ-loop
 loop-again c =
     let l = c .before .before in
     let s = l .before .before .before .before in
     let xs = s .args .list .now in
-    let e : length (s .args .axes .entries) ≡ 8 = search needs in
+    let e : length (s .args .axes .entries) ≡ rankLimit = search needs in
     (omega (arith, l .before .axis-count .ensures, c .before .loop-test .taken), one-written 0 (pick 0 (take (l .before .axis-count .result) (s .args .axes .entries)) xs) (l .loop .out) (l .loop .i) _ (omega (arith, length-picked 0 (s .args .axes .entries) xs (l .before .axis-count .result), l .before .axis-count .ensures, c .before .loop-test .taken)) (omega (arith, length-picked 0 (s .args .axes .entries) xs (l .before .axis-count .result), l .before .axis-count .ensures)) (l .loop .inv .1) (c .entry-at .ensures ∙ picked 0 (s .args .axes .entries) xs (l .before .axis-count .result) (l .loop .i) (omega (arith, l .before .axis-count .ensures, c .before .loop-test .taken))))
 
--- src/lib.rt:356:1
 returns : tie.Need-returns Inv-loop μ-loop
 returns c =
     let l = c .before in
     let s = l .before .before .before .before in
     let xs = s .args .list .now in
-    let e : length (s .args .axes .entries) ≡ 8 = search needs in
+    let e : length (s .args .axes .entries) ≡ rankLimit = search needs in
     let t : take (l .before .axis-count .result) (s .args .axes .entries) ≡ numbersOf (s .args .axes) = take-count (l .before .axis-count .result) (s .args .axes .count) (s .args .axes .entries) (omega (arith, l .before .axis-count .ensures)) in
     numbers-are (l .before .axis-count .result) (l .loop .out) (pick 0 (numbersOf (s .args .axes)) xs) (omega (arith, length-picked 0 (s .args .axes .entries) xs (s .args .axes .count), l .before .axis-count .ensures))
     (l .loop .inv .1 ∙ all-written 0 (pick 0 (take (l .before .axis-count .result) (s .args .axes .entries)) xs) (l .loop .i) (omega (arith, length-picked 0 (s .args .axes .entries) xs (l .before .axis-count .result), l .before .axis-count .ensures)) (omega (arith, length-picked 0 (s .args .axes .entries) xs (l .before .axis-count .result), l .before .axis-count .ensures)) ∙ ap (λ (ys : List ℕ). padded rankLimit 0 (pick 0 ys xs)) t)

@@ -1,88 +1,48 @@
-use mathlib.Core.Path.{_≡_, refl, ap, _∙_}
-use Prim.Native.Nat.{_-_, _≤_, zero-le}
+use mathlib.Core.Path.{_≡_, ap, _∙_}
 use native.Mathlib.Omega.{arith}
-use borrow.Author.Needs.{needs}
-use lib.ListN.{length, take, getD, length-take}
+use lib.ListN.{length, length-take}
 use lib.IntN.{pos}
-use mir.Syntax.{w64}
-use mir.Val.{SFits, toZ, ofZ}
-use Rattle.integer.specs.Z.{back}
-use Rattle.layout.specs.Layouts.{rankLimit, padded}
-use Rattle.spans.proofs.Parts.{take-count}
-use Rattle.axis_lists.proofs.Filling.{steps-are, written, one-written, all-written, entry-below}
+use Rattle.layout.specs.Layouts.{rankLimit, padded, stridesOf}
+use Rattle.spans.proofs.Parts.{part-fits, part-read}
+use Rattle.axis_lists.proofs.Filling.{steps-are}
+use borrow.Author.Needs.{needs}
 use Rattle.axis_lists.proofs.strides_of.Statement.{statement}
 use Rattle.axis_lists.proofs.strides_of.Tie as tie
 
-abbrev Inv-loop : tie.InvT-loop
-Inv-loop strides n out₀ i₀ out i = (i ≤ n) × (out ≡ written (pos 0) (take n strides) i)
-
-abbrev μ-loop : tie.MeasureT-loop
-μ-loop strides n out₀ i₀ out i = n - i
-
--- src/lib.rt:65:9
-axis-count-requires : tie.Need-axis-count-requires Inv-loop μ-loop
+axis-count-requires : tie.Need-axis-count-requires
 axis-count-requires c κs = search needs
 
--- src/lib.rt:68:5
-loop-holds : tie.Need-loop-holds Inv-loop μ-loop
-loop-holds c = (zero-le, refl)
+sub-padded-strides : tie.Need-sub-padded-strides
+sub-padded-strides c = search needs
 
--- src/lib.rt:69:18
-mul-out : tie.Need-mul-out Inv-loop μ-loop
-mul-out c = search needs
+part-padded-strides-start : tie.Need-part-padded-strides-start
+part-padded-strides-start c = search needs
 
--- src/lib.rt:69:18
-array-copy-out-out : tie.Need-array-copy-out-out Inv-loop μ-loop
-array-copy-out-out c = search needs
+part-padded-strides-end : tie.Need-part-padded-strides-end
+part-padded-strides-end c =
+    let a = c .before in
+    let l = a .before .before .args .layout in
+    let e : length (l .strides) ≡ rankLimit = search needs in
+    part-fits (a .axis-count .result) (l .rank) rankLimit (l .strides) (a .axis-count .ensures) e
 
--- src/lib.rt:69:9
-mul-out-2 : tie.Need-mul-out-2 Inv-loop μ-loop
-mul-out-2 c = search needs
+padded-strides-requires : tie.Need-padded-strides-requires
+padded-strides-requires c κs = search needs
 
--- src/lib.rt:69:9
-array-set-from-out : tie.Need-array-set-from-out Inv-loop μ-loop
-array-set-from-out c = search needs
-
--- src/lib.rt:70:9
-add-i : tie.Need-add-i Inv-loop μ-loop
-add-i c = search needs
-
--- src/lib.rt:68:5
-loop-less : tie.Need-loop-less Inv-loop μ-loop
-loop-less c = search needs
-
--- src/lib.rt:68:5
-loop-again : tie.Need-loop-again Inv-loop μ-loop
-loop-again c =
-    let l = c .before .before in
-    let s = l .before .before .before in
-    let e : length (s .args .layout .strides) ≡ 8 = search needs in
-    let f : SFits w64 (getD (s .args .layout .strides) (l .loop .i) (pos 0)) = search needs in
-    (omega (arith, l .before .axis-count .ensures), one-written (pos 0) (take (l .before .axis-count .result) (s .args .layout .strides)) (l .loop .out) (l .loop .i) (toZ w64 (ofZ w64 (getD (s .args .layout .strides) (l .loop .i) (pos 0)))) (omega (arith, length-take (l .before .axis-count .result) (s .args .layout .strides), l .before .axis-count .ensures)) (omega (arith, length-take (l .before .axis-count .result) (s .args .layout .strides), l .before .axis-count .ensures)) (l .loop .inv .1) (back f ∙ entry-below (l .before .axis-count .result) (s .args .layout .strides) (l .loop .i) (pos 0) (omega arith)))
-
--- src/lib.rt:61:1
-returns : tie.Need-returns Inv-loop μ-loop
+returns : tie.Need-returns
 returns c =
-    let l = c .before in
-    let s = l .before .before .before in
-    let e : length (s .args .layout .strides) ≡ 8 = search needs in
-    let t : take (l .before .axis-count .result) (s .args .layout .strides) ≡ take (s .args .layout .rank) (s .args .layout .strides) = take-count (l .before .axis-count .result) (s .args .layout .rank) (s .args .layout .strides) (omega (arith, l .before .axis-count .ensures)) in
-    steps-are (l .before .axis-count .result) (l .loop .out) (take (s .args .layout .rank) (s .args .layout .strides)) (omega (arith, length-take (s .args .layout .rank) (s .args .layout .strides), l .before .axis-count .ensures))
-    (l .loop .inv .1 ∙ all-written (pos 0) (take (l .before .axis-count .result) (s .args .layout .strides)) (l .loop .i) (omega (arith, length-take (l .before .axis-count .result) (s .args .layout .strides), l .before .axis-count .ensures)) (omega (arith, length-take (l .before .axis-count .result) (s .args .layout .strides), l .before .axis-count .ensures)) ∙ ap (padded rankLimit (pos 0)) t)
+    let a = c .before .before .before in
+    let l = a .before .before .args .layout in
+    let e : length (l .strides) ≡ rankLimit = search needs in
+    steps-are (a .axis-count .result) (c .padded-strides .result) (stridesOf l) (omega (arith, a .axis-count .ensures, length-take (l .rank) (l .strides)))
+    (c .padded-strides .ensures ∙ ap (padded rankLimit (pos 0)) (part-read (a .axis-count .result) (l .rank) rankLimit (l .strides) (a .axis-count .ensures) e))
 
 pub strides-of-spec : {M : Type 1} → statement M
 strides-of-spec =
     tie.close
     (tie.spec
-    Inv-loop
-    μ-loop
     axis-count-requires
-    loop-holds
-    mul-out
-    array-copy-out-out
-    mul-out-2
-    array-set-from-out
-    add-i
-    loop-less
-    loop-again
+    sub-padded-strides
+    part-padded-strides-start
+    part-padded-strides-end
+    padded-strides-requires
     returns)

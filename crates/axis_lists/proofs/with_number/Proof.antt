@@ -2,34 +2,30 @@ use Prim.Native.Nat.{min}
 use native.Mathlib.Omega.{arith}
 use borrow.Author.Tests.{lt-ltb, le-ltb}
 use borrow.Author.Needs.{needs}
+use Rattle.layout.specs.Layouts.{rankLimit}
 use Rattle.axis_lists.proofs.with_number.Statement.{statement}
 use Rattle.axis_lists.proofs.with_number.Tie as tie
 
--- src/lib.rt:199:9
 axis-count-requires : tie.Need-axis-count-requires
 axis-count-requires c κs = search needs
 
--- src/lib.rt:203:9
 mul-next : tie.Need-mul-next
 mul-next c = search needs
 
--- src/lib.rt:203:9
 array-write-next : tie.Need-array-write-next
 array-write-next c = search needs
 
--- src/lib.rt:204:9
 returns : tie.Need-returns
 returns c =
     let s = c .before .before .before in
     let n = c .before .before .axis-count .ensures in
-    rw (lt-ltb (s .args .place) (min (s .args .list .count) 8) (omega (arith, n, c .before .if1 .taken)))
+    rw (lt-ltb (s .args .place) (min (s .args .list .count) rankLimit) (omega (arith, n, c .before .if1 .taken)))
 
--- src/lib.rt:196:1
 returns-2 : tie.Need-returns-2
 returns-2 c =
     let s = c .before .before in
     let n = c .before .axis-count .ensures in
-    rw (le-ltb (s .args .place) (min (s .args .list .count) 8) (omega (arith, n, c .if1 .left)))
+    rw (le-ltb (s .args .place) (min (s .args .list .count) rankLimit) (omega (arith, n, c .if1 .left)))
 
 pub with-number-spec : {M : Type 1} → statement M
 with-number-spec =

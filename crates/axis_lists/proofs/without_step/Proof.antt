@@ -10,59 +10,51 @@ use mir.Syntax.{w64}
 use mir.Val.{SFits, toZ, ofZ}
 use Rattle.integer.specs.Z.{back}
 use Rattle.indexing.specs.Start.{without}
+use Rattle.layout.specs.Layouts.{rankLimit}
 use Rattle.axis_lists.specs.Held.{stepsOf}
 use Rattle.axis_lists.proofs.Filling.{steps-are, written, one-written, all-written, length-without, getD-without}
 use Rattle.axis_lists.proofs.without_step.Statement.{statement}
 use Rattle.axis_lists.proofs.without_step.Tie as tie
 
 abbrev Inv-loop : tie.InvT-loop
-Inv-loop axis list n out₀ i₀ out i = (i ≤ n) × (n ≡ length (without axis (stepsOf list))) × (n ≤ 8) × (out ≡ written (pos 0) (without axis (stepsOf list)) i)
+Inv-loop axis list n out₀ i₀ out i = (i ≤ n) × (n ≡ length (without axis (stepsOf list))) × (n ≤ rankLimit) × (out ≡ written (pos 0) (without axis (stepsOf list)) i)
 
 abbrev μ-loop : tie.MeasureT-loop
 μ-loop axis list n out₀ i₀ out i = n - i
 
-at-most : (t : Bool) (m n : ℕ) → n ≡ cond t (m - 1) m → m ≤ 8 → n ≤ 8
+at-most : (t : Bool) (m n : ℕ) → n ≡ cond t (m - 1) m → m ≤ rankLimit → n ≤ rankLimit
 at-most true m n e h = omega arith
 at-most false m n e h = omega arith
 
--- src/lib.rt:309:9
 left-over-requires : tie.Need-left-over-requires Inv-loop μ-loop
 left-over-requires c κs = search needs
 
--- src/lib.rt:312:5
 loop-holds : tie.Need-loop-holds Inv-loop μ-loop
 loop-holds c =
     let s = c .before in
-    let e : length (s .args .list .entries) ≡ 8 = search needs in
-    let k : length (stepsOf (s .args .list)) ≡ min (s .args .list .count) 8 = length-take (s .args .list .count) (s .args .list .entries) ∙ ap (λ (m : ℕ). min (s .args .list .count) m) e in
+    let e : length (s .args .list .entries) ≡ rankLimit = search needs in
+    let k : length (stepsOf (s .args .list)) ≡ min (s .args .list .count) rankLimit = length-take (s .args .list .count) (s .args .list .entries) ∙ ap (λ (m : ℕ). min (s .args .list .count) m) e in
     let n : c .left-over .result ≡ length (without (s .args .axis) (stepsOf (s .args .list))) = c .left-over .ensures ∙ sym (length-without (s .args .axis) (stepsOf (s .args .list)) ∙ ap (λ (m : ℕ). cond (ltb (s .args .axis) m) (m - 1) m) k) in
-    (zero-le, n, at-most (ltb (s .args .axis) (min (s .args .list .count) 8)) (min (s .args .list .count) 8) (c .left-over .result) (c .left-over .ensures) (omega arith), refl)
+    (zero-le, n, at-most (ltb (s .args .axis) (min (s .args .list .count) rankLimit)) (min (s .args .list .count) rankLimit) (c .left-over .result) (c .left-over .ensures) (omega arith), refl)
 
--- src/lib.rt:313:32
 put-back-requires : tie.Need-put-back-requires Inv-loop μ-loop
 put-back-requires c κs = omega (arith, c .before .loop .inv .2, c .loop-test .taken)
 
--- src/lib.rt:313:18
 step-at-requires : tie.Need-step-at-requires Inv-loop μ-loop
 step-at-requires c κs = search needs
 
--- src/lib.rt:313:9
 mul-out : tie.Need-mul-out Inv-loop μ-loop
 mul-out c = search needs
 
--- src/lib.rt:313:9
 array-set-from-out : tie.Need-array-set-from-out Inv-loop μ-loop
 array-set-from-out c = search needs
 
--- src/lib.rt:314:9
 add-i : tie.Need-add-i Inv-loop μ-loop
 add-i c = search needs
 
--- src/lib.rt:312:5
 loop-less : tie.Need-loop-less Inv-loop μ-loop
 loop-less c = search needs
 
--- src/lib.rt:312:5
 loop-again : tie.Need-loop-again Inv-loop μ-loop
 loop-again c =
     let l = c .before .before .before in
@@ -70,7 +62,6 @@ loop-again c =
     let f : SFits w64 (c .step-at .result) = search needs in
     (omega (arith, c .before .before .loop-test .taken), l .loop .inv .1, l .loop .inv .2, one-written (pos 0) (without (s .args .axis) (stepsOf (s .args .list))) (l .loop .out) (l .loop .i) (toZ w64 (ofZ w64 (c .step-at .result))) (omega (arith, l .loop .inv .1, c .before .before .loop-test .taken)) (omega (arith, l .loop .inv .1, l .loop .inv .2)) (l .loop .inv .3) (back f ∙ c .step-at .ensures ∙ ap (λ (k : ℕ). getD (stepsOf (s .args .list)) k (pos 0)) (c .before .put-back .ensures) ∙ getD-without (pos 0) (s .args .axis) (stepsOf (s .args .list)) (l .loop .i)))
 
--- src/lib.rt:306:1
 returns : tie.Need-returns Inv-loop μ-loop
 returns c =
     let l = c .before in

@@ -3,15 +3,12 @@ use borrow.Author.Needs.{needs}
 use Rattle.checks.proofs.check_vector_axis.Statement.{statement}
 use Rattle.checks.proofs.check_vector_axis.Tie as tie
 
--- src/lib.rt:83:37
 add-t6 : tie.Need-add-t6
 add-t6 c = search needs
 
--- src/lib.rt:76:1
 returns : tie.Need-returns
 returns c = rw (le-leb _ _ (c .if1 .taken))
 
--- src/lib.rt:76:1
 returns-2 : tie.Need-returns-2
 returns-2 c = rw (lt-leb _ _ (c .if1 .left))
 

@@ -2,7 +2,6 @@ use Rattle.equality.proofs.Compare.{bits-same}
 use Rattle.equality.proofs.same_i64.Statement.{statement}
 use Rattle.equality.proofs.same_i64.Tie as tie
 
--- src/lib.rt:32:1
 returns : tie.Need-returns
 returns c = bits-same (c .args .a) (c .args .b) (c .fits .a) (c .fits .b)
 

@@ -2,23 +2,18 @@ use borrow.Author.Needs.{needs}
 use Rattle.equality.proofs.same_layout.Statement.{statement}
 use Rattle.equality.proofs.same_layout.Tie as tie
 
--- src/lib.rt:58:9
 same-u64s-requires : tie.Need-same-u64s-requires
 same-u64s-requires c κs = search needs
 
--- src/lib.rt:61:9
 same-i64s-requires : tie.Need-same-i64s-requires
 same-i64s-requires c κs = search needs
 
--- src/lib.rt:62:28
 both-requires : tie.Need-both-requires
 both-requires c κs = search needs
 
--- src/lib.rt:62:5
 both-requires-2 : tie.Need-both-requires-2
 both-requires-2 c κs = search needs
 
--- src/lib.rt:53:1
 returns : tie.Need-returns
 returns c = rw (c .both2 .ensures, c .before .both .ensures, c .before .before .before .before .same-i64s .ensures, c .before .before .before .before .before .before .before .same-u64s .ensures)
 

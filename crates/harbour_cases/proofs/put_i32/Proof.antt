@@ -4,15 +4,12 @@ use borrow.Author.Needs.{needs}
 use Rattle.harbour_cases.proofs.put_i32.Statement.{statement}
 use Rattle.harbour_cases.proofs.put_i32.Tie as tie
 
--- src/main.rt:21:13
 cast-put-i64 : tie.Need-cast-put-i64
 cast-put-i64 c = simp znorm (simp zflat (omega (arith, known (c .fits .n))))
 
--- src/main.rt:21:5
 put-i64-requires : tie.Need-put-i64-requires
 put-i64-requires c κs = search needs
 
--- src/main.rt:20:1
 returns : tie.Need-returns
 returns c = search needs
 

@@ -14,39 +14,30 @@ use borrow.Author.Needs.{needs}
 use Rattle.integer.proofs.checked_mul_i64.Statement.{statement}
 use Rattle.integer.proofs.checked_mul_i64.Tie as tie
 
--- src/lib.rt:92:9
 magnitude-i64-requires : tie.Need-magnitude-i64-requires
 magnitude-i64-requires c κs = search needs
 
--- src/lib.rt:93:9
 magnitude-i64-requires-2 : tie.Need-magnitude-i64-requires-2
 magnitude-i64-requires-2 c κs = search needs
 
--- src/lib.rt:94:9
 checked-mul-u64-requires : tie.Need-checked-mul-u64-requires
 checked-mul-u64-requires c κs = search needs
 
--- src/lib.rt:96:24
 enum-known-p : tie.Need-enum-known-p
 enum-known-p c = search needs
 
--- src/lib.rt:99:21
 signed-i64-requires : tie.Need-signed-i64-requires
 signed-i64-requires c κs = search needs
 
--- src/lib.rt:101:21
 signed-i64-requires-2 : tie.Need-signed-i64-requires-2
 signed-i64-requires-2 c κs = search needs
 
--- src/lib.rt:105:21
 signed-i64-requires-3 : tie.Need-signed-i64-requires-3
 signed-i64-requires-3 c κs = search needs
 
--- src/lib.rt:107:21
 signed-i64-requires-4 : tie.Need-signed-i64-requires-4
 signed-i64-requires-4 c κs = search needs
 
--- src/lib.rt:111:31
 enum-told : tie.Need-enum-told
 enum-told c = search needs
 

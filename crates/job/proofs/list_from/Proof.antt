@@ -1,21 +1,20 @@
-use mathlib.Core.Path.{_≡_, refl, ap, _∙_}
+use mathlib.Core.Path.{_≡_, refl, ap}
 use borrow.Author.Tests.{ltb-true, ltb-false}
 use native.Mathlib.Omega.{arith}
-use Prim.Native.Nat.{_≤_, _-_}
-use lib.ListN.{length, take, getD, replicate}
-use mathlib.Core.List.{List, _++_}
-use Prim.Native.Nat.{ℕ, _≤_, _-_}
-use lib.ListN.{length, take, getD, set, replicate}
-use Rattle.layout.proofs.Fill.{fill-one, fill-short, fill-full}
+use Prim.Native.Nat.{_≤_, _-_, ℕ}
+use lib.ListN.{length}
+use mathlib.Core.List.{List}
+use Rattle.job_bytes.specs.Version.{listLimit}
+use Rattle.layout.proofs.Fill.{filled, fill-one, fill-done}
 use borrow.Author.Needs.{needs}
 use Rattle.job.proofs.list_from.Statement.{statement}
 use Rattle.job.proofs.list_from.Tie as tie
 
 abbrev Inv-loop : tie.InvT-loop
-Inv-loop list entries₀ i₀ entries i = (i ≤ length list) × (i ≤ 16) × (entries ≡ take i list ++ replicate (16 - i) 0)
+Inv-loop list entries₀ i₀ entries i = (i ≤ length list) × (i ≤ listLimit) × (entries ≡ filled listLimit 0 list i)
 
 abbrev μ-loop : tie.MeasureT-loop
-μ-loop list entries₀ i₀ entries i = 16 - i
+μ-loop list entries₀ i₀ entries i = listLimit - i
 
 loop-holds : tie.Need-loop-holds Inv-loop μ-loop
 loop-holds c = (search needs, search needs, refl)
@@ -40,15 +39,18 @@ loop-less c = search needs
 
 loop-again : tie.Need-loop-again Inv-loop μ-loop
 loop-again c =
-    let p3 = c .before .before .before in
-    let p4 = p3 .before in
-    (omega (arith, ltb-true), omega (arith, ltb-true), ap (λ (l : List ℕ). set l (p3 .loop .i) (getD (p4 .args .list .now) (p3 .loop .i) 0)) (p3 .loop .inv .2) ∙ fill-one 16 0 0 (p4 .args .list .now) (p3 .loop .i) (omega (arith, ltb-true)) (omega (arith, ltb-true)))
+    let l = c .before .before .before in
+    (omega (arith, ltb-true), omega (arith, ltb-true), fill-one listLimit 0 0 (l .before .args .list .now) (l .loop .entries) (l .loop .i) _ (omega (arith, ltb-true)) (omega (arith, ltb-true)) (l .loop .inv .2) refl)
 
 returns : tie.Need-returns Inv-loop μ-loop
-returns c = ap (λ (l : List ℕ). record { count = length (c .before .before .before .args .list .now); entries = l }) (c .before .before .loop .inv .2 ∙ fill-short 16 0 (c .before .before .before .args .list .now) (c .before .before .loop .i) (omega arith) (omega (arith, ltb-false)) (omega arith))
+returns c =
+    let l = c .before .before in
+    ap (λ (xs : List ℕ). record { count = length (l .before .args .list .now); entries = xs }) (fill-done listLimit 0 (l .before .args .list .now) (l .loop .entries) (l .loop .i) (omega (arith, ltb-false)) (l .loop .inv .2))
 
 returns-2 : tie.Need-returns-2 Inv-loop μ-loop
-returns-2 c = ap (λ (l : List ℕ). record { count = length (c .before .before .args .list .now); entries = l }) (c .before .loop .inv .2 ∙ fill-full 16 0 (c .before .before .args .list .now) (c .before .loop .i) (omega arith) (omega arith) (omega arith))
+returns-2 c =
+    let l = c .before in
+    ap (λ (xs : List ℕ). record { count = length (l .before .args .list .now); entries = xs }) (fill-done listLimit 0 (l .before .args .list .now) (l .loop .entries) (l .loop .i) (omega arith) (l .loop .inv .2))
 
 pub list-from-spec : {M : Type 1} → statement M
 list-from-spec =

@@ -65,10 +65,14 @@ returns-4 c =
     let f1 = number-read _ _ (p12 .read-byte .ensures) (not-false _ (p10 .if1 .left)) in let f2 = words-read _ _ _ _ (p9 .read-words .ensures) (rank-words _ _ _ _ f1) (not-false _ (p7 .if2 .left)) in let f3 = words-read _ _ _ _ (p6 .read-words2 .ensures) (rank-words _ _ _ _ f1) (not-false _ (p4 .if3 .left)) in let f4 = number-fault _ _ (p3 .read-number .ensures) (not-true _ (c .before .if4 .taken)) in c .view-fault4 .ensures ∙ sym (ap heldView (view-4 _ _ _ _ _ _ _ _ _ f1 f2 f3 f4))
 
 extents-from-requires : tie.Need-extents-from-requires
-extents-from-requires c κs = search needs
+extents-from-requires c κs =
+    let p11 = c .before .before .before .before .before .before .before .before .before .before .before in
+    rank-words _ _ _ _ (number-read _ _ (p11 .before .before .read-byte .ensures) (not-false _ (p11 .if1 .left)))
 
 strides-from-requires : tie.Need-strides-from-requires
-strides-from-requires c κs = search needs
+strides-from-requires c κs =
+    let p12 = c .before .before .before .before .before .before .before .before .before .before .before .before in
+    rank-words _ _ _ _ (number-read _ _ (p12 .before .before .read-byte .ensures) (not-false _ (p12 .if1 .left)))
 
 signed-word-requires : tie.Need-signed-word-requires
 signed-word-requires c κs = search needs

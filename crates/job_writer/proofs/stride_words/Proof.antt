@@ -1,22 +1,24 @@
-use mathlib.Core.Path.{_≡_, refl, ap, _∙_}
+use mathlib.Core.Path.{_≡_, refl, sym, ap, _∙_}
+use mathlib.Core.List.{map}
 use native.Mathlib.Omega.{arith}
-use lib.ListN.{length}
 use Prim.Native.Nat.{_≤_, _-_}
-use lib.ListN.{length, getD}
+use lib.ListN.{length, getD, length-map, List·getD-map}
 use lib.IntN.{pos}
 use mir.Syntax.{w64}
 use mir.Val.{SFits, ofZ}
 use Rattle.integer.specs.Z.{back}
-use Rattle.job_writer.proofs.Parts.{worded, word-one, word-all}
+use Rattle.layout.specs.Layouts.{rankLimit}
+use Rattle.layout.proofs.Fill.{filled, fill-one, fill-all}
+use Rattle.job_bytes.specs.Fields.{wordOf}
 use borrow.Author.Needs.{needs}
 use Rattle.job_writer.proofs.stride_words.Statement.{statement}
 use Rattle.job_writer.proofs.stride_words.Tie as tie
 
 abbrev Inv-loop : tie.InvT-loop
-Inv-loop strides out₀ i₀ out i = (i ≤ 8) × (out ≡ worded strides i)
+Inv-loop strides out₀ i₀ out i = (i ≤ rankLimit) × (out ≡ filled rankLimit 0 (map wordOf strides) i)
 
 abbrev μ-loop : tie.MeasureT-loop
-μ-loop strides out₀ i₀ out i = 8 - i
+μ-loop strides out₀ i₀ out i = rankLimit - i
 
 loop-holds : tie.Need-loop-holds Inv-loop μ-loop
 loop-holds c = (search needs, refl)
@@ -44,12 +46,18 @@ loop-less c = search needs
 
 loop-again : tie.Need-loop-again Inv-loop μ-loop
 loop-again c =
-    let p3 = c .before .before .before in
-    let p4 = p3 .before in
-    let s : length (p4 .args .t1) ≡ 8 = search needs in let f : SFits w64 (getD (p4 .args .t1) (p3 .loop .i) (pos 0)) = search needs in (omega arith, word-one (p4 .args .t1) _ _ _ s (omega arith) (p3 .loop .inv .1) (c .word-of .ensures ∙ ap (ofZ w64) (back f)))
+    let l = c .before .before .before in
+    let ss = l .before .args .t1 in
+    let s : length ss ≡ rankLimit = search needs in
+    let f : SFits w64 (getD ss (l .loop .i) (pos 0)) = search needs in
+    (omega arith, fill-one rankLimit 0 (wordOf (pos 0)) (map wordOf ss) (l .loop .out) (l .loop .i) _ (omega arith) (omega (arith, length-map ss wordOf)) (l .loop .inv .1) (c .word-of .ensures ∙ ap (ofZ w64) (back f) ∙ sym (List·getD-map wordOf ss (l .loop .i) (pos 0))))
 
 returns : tie.Need-returns Inv-loop μ-loop
-returns c = let s : length (c .before .before .args .t1) ≡ 8 = search needs in word-all (c .before .before .args .t1) _ (c .before .loop .i) s (omega arith) (omega arith) (c .before .loop .inv .1)
+returns c =
+    let l = c .before in
+    let ss = l .before .args .t1 in
+    let s : length ss ≡ rankLimit = search needs in
+    fill-all rankLimit 0 (map wordOf ss) (l .loop .out) (l .loop .i) (length-map ss wordOf ∙ s) (omega arith) (l .loop .inv .1)
 
 pub stride-words-spec : {M : Type 1} → statement M
 stride-words-spec =

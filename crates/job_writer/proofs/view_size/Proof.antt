@@ -1,13 +1,14 @@
 use mathlib.Core.Path.{_≡_}
 use native.Mathlib.Omega.{arith}
 use lib.ListN.{length}
+use Rattle.layout.specs.Layouts.{rankLimit}
 use Rattle.job_writer.proofs.Parts.{length-view}
 use borrow.Author.Needs.{needs}
 use Rattle.job_writer.proofs.view_size.Statement.{statement}
 use Rattle.job_writer.proofs.view_size.Tie as tie
 
-axis-count-requires : tie.Need-axis-count-requires
-axis-count-requires c κs = search needs
+stored-count-requires : tie.Need-stored-count-requires
+stored-count-requires c κs = search needs
 
 layout-size-requires : tie.Need-layout-size-requires
 layout-size-requires c κs = search needs
@@ -15,7 +16,7 @@ layout-size-requires c κs = search needs
 returns : tie.Need-returns
 returns c =
     let p3 = c .before .before .before in
-    let s : length (p3 .args .view .layout .extents) ≡ 8 = search needs in let t : length (p3 .args .view .layout .strides) ≡ 8 = search needs in record { is = omega (arith, length-view (p3 .args .view) s t, c .layout-size .ensures, c .before .axis-count .ensures); most = omega (arith, c .layout-size .ensures, c .before .axis-count .ensures) }
+    let s : length (p3 .args .view .layout .extents) ≡ rankLimit = search needs in let t : length (p3 .args .view .layout .strides) ≡ rankLimit = search needs in record { is = omega (arith, length-view (p3 .args .view) s t, c .layout-size .ensures, c .before .stored-count .ensures); most = omega (arith, c .layout-size .ensures, c .before .stored-count .ensures) }
 
 pub view-size-spec : {M : Type 1} → statement M
-view-size-spec = tie.close (tie.spec axis-count-requires layout-size-requires returns)
+view-size-spec = tie.close (tie.spec stored-count-requires layout-size-requires returns)

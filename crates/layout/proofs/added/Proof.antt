@@ -5,29 +5,23 @@ use mir.Val.{SFits}
 use borrow.Author.Needs.{needs, sfits-of}
 use Rattle.integer.specs.Z.{back}
 use Rattle.integer.specs.Defs.{checked}
-use borrow.Author.Needs.{needs}
 use Rattle.layout.proofs.added.Statement.{statement}
 use Rattle.layout.proofs.added.Tie as tie
 
--- src/lib.rt:277:23
 enum-known-x : tie.Need-enum-known-x
 enum-known-x c = search needs
 
--- src/lib.rt:277:29
 checked-add-i64-requires : tie.Need-checked-add-i64-requires
 checked-add-i64-requires c κs = search needs
 
--- src/lib.rt:278:30
 enum-told : tie.Need-enum-told
 enum-told c = search needs
 
--- src/lib.rt:273:1
 returns : tie.Need-returns
 returns c =
     let z : SFits w64 (c .before .before .x .given .0 .0) = sfits-of (c .before .known-told .given .0 .1) in
     rw (c .before .before .x .given .1) (c .checked-add-i64 .ensures ∙ ap checked (ap₂ _+ℤ_ (back (c .before .before .before .before .fits .base)) (back z)))
 
--- src/lib.rt:273:1
 returns-2 : tie.Need-returns-2
 returns-2 c = search needs
 

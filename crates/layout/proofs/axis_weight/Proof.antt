@@ -4,23 +4,18 @@ use lib.IntN.{natAbs}
 use borrow.Author.Needs.{needs}
 use Rattle.integer.specs.Z.{back}
 use Rattle.integer.specs.Defs.{checkedU}
-use borrow.Author.Needs.{needs}
 use Rattle.layout.proofs.axis_weight.Statement.{statement}
 use Rattle.layout.proofs.axis_weight.Tie as tie
 
--- src/lib.rt:478:9
 magnitude-i64-requires : tie.Need-magnitude-i64-requires
 magnitude-i64-requires c κs = search needs
 
--- src/lib.rt:479:9
 last-coordinate-requires : tie.Need-last-coordinate-requires
 last-coordinate-requires c κs = search needs
 
--- src/lib.rt:480:5
 checked-mul-u64-requires : tie.Need-checked-mul-u64-requires
 checked-mul-u64-requires c κs = search needs
 
--- src/lib.rt:475:1
 returns : tie.Need-returns
 returns c = c .checked-mul-u64 .ensures ∙ ap checkedU (ap₂ _*_ (c .before .before .magnitude-i64 .ensures ∙ ap natAbs (back (c .before .before .before .fits .stride))) (c .before .last-coordinate .ensures))
 

@@ -5,47 +5,37 @@ use borrow.Author.Needs.{needs}
 use Rattle.layout.proofs.cells_within.Statement.{statement}
 use Rattle.layout.proofs.cells_within.Tie as tie
 
--- src/lib.rt:631:24
 enum-known-down : tie.Need-enum-known-down
 enum-known-down c = search needs
 
--- src/lib.rt:633:17
 returns : tie.Need-returns
 unfolding cellsWithin
 returns c = rw (c .before .before .down .given .1, lt-ltb _ _ (c .if1 .taken))
 
--- src/lib.rt:635:17
 sum-with-requires : tie.Need-sum-with-requires
 sum-with-requires c κs = search needs
 
--- src/lib.rt:637:32
 enum-known-high : tie.Need-enum-known-high
 enum-known-high c = search needs
 
--- src/lib.rt:644:39
 enum-told : tie.Need-enum-told
 enum-told c = search needs
 
--- src/lib.rt:647:31
 enum-told-2 : tie.Need-enum-told-2
 enum-told-2 c = search needs
 
--- src/lib.rt:627:1
 returns-2 : tie.Need-returns-2
 unfolding cellsWithin
 returns-2 c = rw (c .before .before .before .before .before .before .before .down .given .1, le-ltb _ _ (c .before .before .before .before .before .if1 .left), sym (c .before .before .before .before .sum-with .ensures) ∙ c .before .before .high .given .1, lt-ltb _ _ (c .if2 .taken))
 
--- src/lib.rt:627:1
 returns-3 : tie.Need-returns-3
 unfolding cellsWithin
 returns-3 c = rw (c .before .before .before .before .before .before .before .down .given .1, le-ltb _ _ (c .before .before .before .before .before .if1 .left), sym (c .before .before .before .before .sum-with .ensures) ∙ c .before .before .high .given .1, le-ltb _ _ (c .if2 .left))
 
--- src/lib.rt:627:1
 returns-4 : tie.Need-returns-4
 unfolding cellsWithin
 returns-4 c = rw (c .before .before .before .before .before .down .given .1, le-ltb _ _ (c .before .before .before .if1 .left), sym (c .before .before .sum-with .ensures) ∙ c .enum-told .given .1)
 
--- src/lib.rt:627:1
 returns-5 : tie.Need-returns-5
 unfolding cellsWithin
 returns-5 c = rw (c .enum-told2 .given .1)

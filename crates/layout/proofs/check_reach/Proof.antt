@@ -2,27 +2,21 @@ use borrow.Author.Needs.{needs}
 use Rattle.layout.proofs.check_reach.Statement.{statement}
 use Rattle.layout.proofs.check_reach.Tie as tie
 
--- src/lib.rt:680:31
 enum-told : tie.Need-enum-told
 enum-told c = search needs
 
--- src/lib.rt:681:27
 enum-told-2 : tie.Need-enum-told-2
 enum-told-2 c = search needs
 
--- src/lib.rt:682:27
 enum-told-3 : tie.Need-enum-told-3
 enum-told-3 c = search needs
 
--- src/lib.rt:676:1
 returns : tie.Need-returns
 returns c = search needs
 
--- src/lib.rt:676:1
 returns-2 : tie.Need-returns-2
 returns-2 c = search needs
 
--- src/lib.rt:676:1
 returns-3 : tie.Need-returns-3
 returns-3 c = rw (c .enum-told3 .given .1)
 

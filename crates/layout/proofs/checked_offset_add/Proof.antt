@@ -5,23 +5,18 @@ use Rattle.integer.specs.Z.{back}
 use Rattle.integer.specs.Defs.{checked}
 use Rattle.integer.specs.declared.Checked.{Checked}
 use Rattle.layout.specs.Spans.{andThen, offsetAdd}
-use borrow.Author.Needs.{needs}
 use Rattle.layout.proofs.checked_offset_add.Statement.{statement}
 use Rattle.layout.proofs.checked_offset_add.Tie as tie
 
--- src/lib.rt:384:9
 u64-to-i64-requires : tie.Need-u64-to-i64-requires
 u64-to-i64-requires c κs = search needs
 
--- src/lib.rt:385:9
 scaled-requires : tie.Need-scaled-requires
 scaled-requires c κs = search needs
 
--- src/lib.rt:386:5
 added-requires : tie.Need-added-requires
 added-requires c κs = search needs
 
--- src/lib.rt:381:1
 returns : tie.Need-returns
 unfolding offsetAdd
 returns c =

@@ -8,6 +8,7 @@ use mir.Val.{SFits, Fits, toZ}
 use mir.Facts.{fits-ofZ}
 use borrow.Author.Needs.{needs, sfits-of}
 use Rattle.integer.specs.Z.{back}
+use Rattle.layout.specs.Layouts.{rankLimit}
 use Rattle.layout.specs.Spans.{offsetAdd, stridedOffset}
 use Rattle.layout.proofs.Turns.{offset-over, offset-next, offset-done}
 use Rattle.layout.proofs.checked_strided_offset.Statement.{statement}
@@ -28,61 +29,48 @@ axis w =
     let f : SFits w64 (getD (s .args .t2) (l .loop .i) (pos 0)) = search needs in
     w .checked-offset-add .ensures ∙ ap (λ (z : ℤ). offsetAdd (toZ w64 (l .loop .offset)) z (getD (s .args .t3) (l .loop .i) 0)) (back f)
 
--- src/lib.rt:398:9
 axis-count-requires : tie.Need-axis-count-requires Inv-loop μ-loop
 axis-count-requires c κs = search needs
 
--- src/lib.rt:401:5
 loop-holds : tie.Need-loop-holds Inv-loop μ-loop
 loop-holds c = (zero-le, fits-ofZ (c .before .fits .base), refl)
 
--- src/lib.rt:402:44
 mul-checked-offset-add : tie.Need-mul-checked-offset-add Inv-loop μ-loop
 mul-checked-offset-add c = search needs
 
--- src/lib.rt:402:44
 array-copy-out-checked-offset-add : tie.Need-array-copy-out-checked-offset-add Inv-loop μ-loop
 array-copy-out-checked-offset-add c = search needs
 
--- src/lib.rt:402:56
 mul-checked-offset-add-2 : tie.Need-mul-checked-offset-add-2 Inv-loop μ-loop
 mul-checked-offset-add-2 c = search needs
 
--- src/lib.rt:402:56
 array-read-checked-offset-add : tie.Need-array-read-checked-offset-add Inv-loop μ-loop
 array-read-checked-offset-add c = search needs
 
--- src/lib.rt:402:13
 checked-offset-add-requires : tie.Need-checked-offset-add-requires Inv-loop μ-loop
 checked-offset-add-requires c κs = search needs
 
--- src/lib.rt:404:27
 enum-known-s : tie.Need-enum-known-s Inv-loop μ-loop
 enum-known-s c = search needs
 
--- src/lib.rt:408:17
 enum-told : tie.Need-enum-told Inv-loop μ-loop
 enum-told c = search needs
 
--- src/lib.rt:408:17
 returns : tie.Need-returns Inv-loop μ-loop
 returns c =
     let w = c .before .before in
     let l = w .before .before .before in
     let s = l .before .before in
-    let m : length (s .args .t2) ≡ 8 = search needs in
-    let k : length (s .args .t3) ≡ 8 = search needs in
+    let m : length (s .args .t2) ≡ rankLimit = search needs in
+    let k : length (s .args .t3) ≡ rankLimit = search needs in
     offset-over (toZ w64 (l .loop .offset)) (s .args .t2) (s .args .t3) (s .args .rank) (l .loop .i) (omega (arith, l .before .axis-count .ensures, w .before .before .loop-test .taken)) (omega (arith, l .before .axis-count .ensures, w .before .before .loop-test .taken)) (w .checked-offset-add .result) (axis w) (c .enum-told .given .1) ∙ l .loop .inv .2 ∙ ap (λ (z : ℤ). stridedOffset z (take (s .args .rank) (s .args .t2)) (take (s .args .rank) (s .args .t3))) (back (s .fits .base))
 
--- src/lib.rt:411:9
 add-i : tie.Need-add-i Inv-loop μ-loop
 add-i c = search needs
 
--- src/lib.rt:401:5
 loop-less : tie.Need-loop-less Inv-loop μ-loop
 loop-less c = search needs
 
--- src/lib.rt:401:5
 loop-again : tie.Need-loop-again Inv-loop μ-loop
 loop-again c =
     let w = c .before .before .before in
@@ -90,20 +78,19 @@ loop-again c =
     let s = l .before .before in
     let a = c .before .s .given .0 .0 in
     let fa : SFits w64 a = sfits-of (c .known-told .given .0 .1) in
-    let m : length (s .args .t2) ≡ 8 = search needs in
-    let k : length (s .args .t3) ≡ 8 = search needs in (
+    let m : length (s .args .t2) ≡ rankLimit = search needs in
+    let k : length (s .args .t3) ≡ rankLimit = search needs in (
       omega (arith, w .before .before .loop-test .taken),
       fits-ofZ fa,
       ap (λ (z : ℤ). stridedOffset z (drop (l .loop .i + 1) (take (s .args .rank) (s .args .t2))) (drop (l .loop .i + 1) (take (s .args .rank) (s .args .t3)))) (back fa)
           ∙ offset-next (toZ w64 (l .loop .offset)) (s .args .t2) (s .args .t3) (s .args .rank) (l .loop .i) (omega (arith, l .before .axis-count .ensures, w .before .before .loop-test .taken)) (omega (arith, l .before .axis-count .ensures, w .before .before .loop-test .taken)) (w .checked-offset-add .result) (axis w) a (c .before .s .given .1) ∙ l .loop .inv .2,
     )
 
--- src/lib.rt:390:1
 returns-2 : tie.Need-returns-2 Inv-loop μ-loop
 returns-2 c =
     let l = c .before in
     let s = l .before .before in
-    let m : length (s .args .t2) ≡ 8 = search needs in
+    let m : length (s .args .t2) ≡ rankLimit = search needs in
     offset-done (toZ w64 (l .loop .offset)) (s .args .t2) (s .args .t3) (s .args .rank) (l .loop .i) (omega (arith, l .before .axis-count .ensures, c .loop-test .left)) ∙ l .loop .inv .2 ∙ ap (λ (z : ℤ). stridedOffset z (take (s .args .rank) (s .args .t2)) (take (s .args .rank) (s .args .t3))) (back (s .fits .base))
 
 pub checked-strided-offset-spec : {M : Type 1} → statement M

@@ -6,49 +6,38 @@ use borrow.Author.Needs.{needs}
 use Rattle.layout.proofs.make_layout.Statement.{statement}
 use Rattle.layout.proofs.make_layout.Tie as tie
 
--- src/lib.rt:201:9
 check-stride-length-requires : tie.Need-check-stride-length-requires
 check-stride-length-requires c κs = search needs
 
--- src/lib.rt:202:9
 is-done-requires : tie.Need-is-done-requires
 is-done-requires c κs = search needs
 
--- src/lib.rt:203:9
 refused-layout-requires : tie.Need-refused-layout-requires
 refused-layout-requires c κs = search needs
 
--- src/lib.rt:203:9
 returns : tie.Need-returns
 unfolding layoutFrom
 returns c = c .refused-layout .ensures ∙ first-refuses _ _ (c .before .before .before .check-stride-length .ensures) (c .before .before .is-done .ensures) (not-true _ (c .before .if1 .taken))
 
--- src/lib.rt:205:9
 check-rank-requires : tie.Need-check-rank-requires
 check-rank-requires c κs = search needs
 
--- src/lib.rt:206:9
 is-done-requires-2 : tie.Need-is-done-requires-2
 is-done-requires-2 c κs = search needs
 
--- src/lib.rt:207:9
 refused-layout-requires-2 : tie.Need-refused-layout-requires-2
 refused-layout-requires-2 c κs = search needs
 
--- src/lib.rt:207:9
 returns-2 : tie.Need-returns-2
 unfolding layoutFrom
 returns-2 c = c .refused-layout2 .ensures ∙ second-refuses _ (c .before .before .before .before .before .before .check-stride-length .ensures) (c .before .before .before .before .before .is-done .ensures) (not-false _ (c .before .before .before .before .if1 .left)) (c .before .before .before .check-rank .ensures) (c .before .before .is-done2 .ensures) (not-true _ (c .before .if2 .taken))
 
--- src/lib.rt:209:9
 padded-extents-requires : tie.Need-padded-extents-requires
 padded-extents-requires c κs = search needs
 
--- src/lib.rt:210:9
 padded-strides-requires : tie.Need-padded-strides-requires
 padded-strides-requires c κs = search needs
 
--- src/lib.rt:197:1
 returns-3 : tie.Need-returns-3
 unfolding layoutFrom
 returns-3 c = rw (c .before .padded-extents .ensures, c .padded-strides .ensures) (both-pass _ (c .before .before .before .before .before .before .before .check-stride-length .ensures) (c .before .before .before .before .before .before .is-done .ensures) (not-false _ (c .before .before .before .before .before .if1 .left)) (c .before .before .before .before .check-rank .ensures) (c .before .before .before .is-done2 .ensures) (not-false _ (c .before .before .if2 .left)))

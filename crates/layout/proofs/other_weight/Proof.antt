@@ -10,26 +10,21 @@ use borrow.Author.Needs.{needs}
 use Rattle.layout.proofs.other_weight.Statement.{statement}
 use Rattle.layout.proofs.other_weight.Tie as tie
 
--- src/lib.rt:490:13
 magnitude-i64-requires : tie.Need-magnitude-i64-requires
 magnitude-i64-requires c κs = search needs
 
--- src/lib.rt:494:13
 axis-weight-requires : tie.Need-axis-weight-requires
 axis-weight-requires c κs = search needs
 
--- src/lib.rt:484:1
 returns : tie.Need-returns
 returns c = rw (c .if1 .taken) (checkedU-yes 0 (omega arith))
 
--- src/lib.rt:484:1
 returns-2 : tie.Need-returns-2
 returns-2 c =
     let s = c .before .before .before in
     let m : c .before .magnitude-i64 .result ≡ natAbs (s .args .stride) = c .before .magnitude-i64 .ensures ∙ ap natAbs (back (s .fits .stride)) in
     rw (c .before .before .if1 .left, lt-leb (natAbs (s .args .stride)) (s .args .limit) (omega (arith, c .if2 .taken, m))) (checkedU-yes 0 (omega arith))
 
--- src/lib.rt:484:1
 returns-3 : tie.Need-returns-3
 returns-3 c =
     let s = c .before .before .before .before in

@@ -3,20 +3,20 @@ use mir.Facts.{toZ-ofZ}
 use borrow.Author.Tests.{ltb-true, ltb-false}
 use borrow.Author.Needs.{needs}
 use Prim.Native.Nat.{_≤_, _-_}
-use mathlib.Core.Path.{_≡_, refl, _∙_}
-use mathlib.Core.List.{_++_}
+use mathlib.Core.Path.{_≡_, refl}
 use native.Mathlib.Omega.{arith}
-use lib.ListN.{length, take, replicate}
+use lib.ListN.{length}
 use lib.IntN.{pos}
-use Rattle.layout.proofs.Fill.{fill-one, fill-short, fill-full}
+use Rattle.layout.specs.Layouts.{rankLimit}
+use Rattle.layout.proofs.Fill.{filled, fill-one, fill-done}
 use Rattle.layout.proofs.padded_strides.Statement.{statement}
 use Rattle.layout.proofs.padded_strides.Tie as tie
 
 abbrev Inv-loop : tie.InvT-loop
-Inv-loop strides out₀ i₀ out i = (i ≤ length strides) × (i ≤ 8) × (out ≡ take i strides ++ replicate (8 - i) (pos 0))
+Inv-loop strides out₀ i₀ out i = (i ≤ length strides) × (i ≤ rankLimit) × (out ≡ filled rankLimit (pos 0) strides i)
 
 abbrev μ-loop : tie.MeasureT-loop
-μ-loop strides out₀ i₀ out i = 8 - i
+μ-loop strides out₀ i₀ out i = rankLimit - i
 
 loop-holds : tie.Need-loop-holds Inv-loop μ-loop
 loop-holds c = (search needs, search needs, refl)
@@ -41,13 +41,18 @@ loop-less c = search needs
 
 loop-again : tie.Need-loop-again Inv-loop μ-loop
 loop-again c =
-    (omega (arith, ltb-true), omega (arith, ltb-true), rw (c .before .before .before .loop .inv .2, toZ-ofZ {w = w64} (record { sfits = c .out .given })) (fill-one 8 (pos 0) (pos 0) (c .before .before .before .before .args .strides .now) (c .before .before .before .loop .i) (omega (arith, ltb-true)) (omega (arith, ltb-true))))
+    let l = c .before .before .before in
+    (omega (arith, ltb-true), omega (arith, ltb-true), fill-one rankLimit (pos 0) (pos 0) (l .before .args .strides .now) (l .loop .out) (l .loop .i) _ (omega (arith, ltb-true)) (omega (arith, ltb-true)) (l .loop .inv .2) (toZ-ofZ {w = w64} (record { sfits = c .out .given })))
 
 returns : tie.Need-returns Inv-loop μ-loop
-returns c = c .before .before .loop .inv .2 ∙ fill-short 8 (pos 0) (c .before .before .before .args .strides .now) (c .before .before .loop .i) (omega arith) (omega (arith, ltb-false)) (omega arith)
+returns c =
+    let l = c .before .before in
+    fill-done rankLimit (pos 0) (l .before .args .strides .now) (l .loop .out) (l .loop .i) (omega (arith, ltb-false)) (l .loop .inv .2)
 
 returns-2 : tie.Need-returns-2 Inv-loop μ-loop
-returns-2 c = c .before .loop .inv .2 ∙ fill-full 8 (pos 0) (c .before .before .args .strides .now) (c .before .loop .i) (omega arith) (omega arith) (omega arith)
+returns-2 c =
+    let l = c .before in
+    fill-done rankLimit (pos 0) (l .before .args .strides .now) (l .loop .out) (l .loop .i) (omega arith) (l .loop .inv .2)
 
 pub padded-strides-spec : {M : Type 1} → statement M
 padded-strides-spec =

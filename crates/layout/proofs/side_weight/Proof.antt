@@ -10,33 +10,27 @@ use borrow.Author.Needs.{needs}
 use Rattle.layout.proofs.side_weight.Statement.{statement}
 use Rattle.layout.proofs.side_weight.Tie as tie
 
--- src/lib.rt:592:20
 axis-weight-requires : tie.Need-axis-weight-requires
 axis-weight-requires c κs = search needs
 
--- src/lib.rt:594:47
 axis-weight-requires-2 : tie.Need-axis-weight-requires-2
 axis-weight-requires-2 c κs = search needs
 
--- src/lib.rt:588:1
 returns : tie.Need-returns
 returns c =
     let s = c .before .before .before in
     rw (c .before .if2 .taken, isNeg-yes (s .args .stride) (less (s .fits .stride) (sfits-lit {z = pos 0} tt) (c .before .before .if1 .taken))) (c .axis-weight .ensures ∙ ap (λ (z : ℤ). checkedU (natAbs z * (s .args .extent - 1))) (back (s .fits .stride)))
 
--- src/lib.rt:588:1
 returns-2 : tie.Need-returns-2
 returns-2 c =
     let s = c .before .before in
     rw (c .if2 .left, isNeg-yes (s .args .stride) (less (s .fits .stride) (sfits-lit {z = pos 0} tt) (c .before .if1 .taken))) (checkedU-yes 0 (omega arith))
 
--- src/lib.rt:588:1
 returns-3 : tie.Need-returns-3
 returns-3 c =
     let s = c .before .before in
     rw (c .if3 .taken, isNeg-no (s .args .stride) (not-less (s .fits .stride) (sfits-lit {z = pos 0} tt) (c .before .if1 .left))) (checkedU-yes 0 (omega arith))
 
--- src/lib.rt:588:1
 returns-4 : tie.Need-returns-4
 returns-4 c =
     let s = c .before .before .before in

@@ -5,7 +5,7 @@ use lib.IntN.{ℤ, pos, _+ℤ_}
 use mir.Syntax.{w64}
 use mir.Val.{SFits, Fits}
 use mir.Facts.{sfits-lit}
-use borrow.Author.Needs.{sfits-of}
+use borrow.Author.Needs.{sfits-of, needs}
 use Rattle.integer.specs.Z.{back, less, not-less}
 use Rattle.integer.specs.Defs.{checked, isNeg}
 use Rattle.integer.specs.Machine.{isNeg-yes, isNeg-no}
@@ -13,7 +13,6 @@ use Rattle.integer.specs.declared.Checked.{Checked}
 use Rattle.integer.specs.declared.Checked.the-variants as C
 use Rattle.layout.specs.declared.OffsetSpan.the-variants as S
 use Rattle.layout.specs.Spans.{spanOf, reachOf, widened}
-use borrow.Author.Needs.{needs}
 use Rattle.layout.proofs.widen.Statement.{statement}
 use Rattle.layout.proofs.widen.Tie as tie
 

@@ -1,10 +1,9 @@
 use mathlib.Core.Path.{ap₂}
 use mir.Syntax.{w64}
 use mir.Val.{SFits, Fits}
-use borrow.Author.Needs.{sfits-of}
+use borrow.Author.Needs.{sfits-of, needs}
 use Rattle.integer.specs.Z.{back}
 use Rattle.layout.specs.declared.OffsetSpan.the-variants as S
-use borrow.Author.Needs.{needs}
 use Rattle.layout.proofs.with_high.Statement.{statement}
 use Rattle.layout.proofs.with_high.Tie as tie
 

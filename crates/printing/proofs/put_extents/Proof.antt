@@ -3,12 +3,6 @@ use borrow.Author.Needs.{needs}
 use lib.ListN.{length}
 use Rattle.printing.proofs.put_extents.Statement.{statement}
 use Rattle.printing.proofs.put_extents.Tie as tie
-use Rattle.printing.proofs.put_extents.Reads as reads
-use Rattle.printing.proofs.put_extents.Lts as lts
-use Rattle.printing.proofs.close_list.Reads as close-list-reads
-use Rattle.printing.proofs.open_list.Reads as open-list-reads
-use Rattle.printing.proofs.put_u64.Reads as put-u64-reads
-use Rattle.printing.proofs.separate.Reads as separate-reads
 
 abbrev Inv-loop : tie.InvT-loop
 Inv-loop extents i₀ i = i ≤ length extents

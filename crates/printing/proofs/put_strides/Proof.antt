@@ -3,12 +3,6 @@ use borrow.Author.Needs.{needs}
 use lib.ListN.{length}
 use Rattle.printing.proofs.put_strides.Statement.{statement}
 use Rattle.printing.proofs.put_strides.Tie as tie
-use Rattle.printing.proofs.put_strides.Reads as reads
-use Rattle.printing.proofs.put_strides.Lts as lts
-use Rattle.printing.proofs.close_list.Reads as close-list-reads
-use Rattle.printing.proofs.open_list.Reads as open-list-reads
-use Rattle.printing.proofs.put_i64.Reads as put-i64-reads
-use Rattle.printing.proofs.separate.Reads as separate-reads
 
 abbrev Inv-loop : tie.InvT-loop
 Inv-loop strides i₀ i = i ≤ length strides

@@ -4,10 +4,6 @@ use Rattle.replay.specs.Replays.{axisOf, asApart}
 use borrow.Author.Needs.{needs}
 use Rattle.replay.proofs.apart.Statement.{statement}
 use Rattle.replay.proofs.apart.Tie as tie
-use Rattle.replay.proofs.apart.Reads as reads
-use Rattle.replay.proofs.apart.Lts as lts
-use Rattle.replay.proofs.as_apart.Reads as as-apart-reads
-use Rattle.replay.proofs.make_axis.Reads as make-axis-reads
 
 make-axis-requires : tie.Need-make-axis-requires
 make-axis-requires c κs = search needs

@@ -1,8 +1,6 @@
 use borrow.Author.Needs.{needs}
 use Rattle.replay.proofs.as_apart.Statement.{statement}
 use Rattle.replay.proofs.as_apart.Tie as tie
-use Rattle.replay.proofs.as_apart.Reads as reads
-use Rattle.replay.proofs.as_apart.Lts as lts
 
 enum-known-a : tie.Need-enum-known-a
 enum-known-a c = search needs

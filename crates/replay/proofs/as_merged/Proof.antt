@@ -1,8 +1,6 @@
 use borrow.Author.Needs.{needs}
 use Rattle.replay.proofs.as_merged.Statement.{statement}
 use Rattle.replay.proofs.as_merged.Tie as tie
-use Rattle.replay.proofs.as_merged.Reads as reads
-use Rattle.replay.proofs.as_merged.Lts as lts
 
 enum-known-a : tie.Need-enum-known-a
 enum-known-a c = search needs

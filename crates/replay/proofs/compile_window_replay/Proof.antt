@@ -5,20 +5,14 @@ use lib.ListN.{take}
 use lib.IntN.{ℤ}
 use mir.Syntax.{w64}
 use mir.Val.{SFits}
-use borrow.Author.Needs.{sfits-of}
+use borrow.Author.Needs.{sfits-of, needs}
 use Rattle.integer.specs.Z.{back}
 use Rattle.layout.specs.declared.OffsetSpan.{OffsetSpan}
 use Rattle.layout.specs.declared.OffsetSpan.the-variants as S
 use Rattle.layout.specs.Spans.{spanned}
 use Rattle.replay.specs.Replays.{fused, theSpans, refusedReplay, compiledBy, compiledReplay}
-use borrow.Author.Needs.{needs}
 use Rattle.replay.proofs.compile_window_replay.Statement.{statement}
 use Rattle.replay.proofs.compile_window_replay.Tie as tie
-use Rattle.replay.proofs.compile_window_replay.Reads as reads
-use Rattle.replay.proofs.compile_window_replay.Lts as lts
-use Rattle.spans.proofs.validate_layout_span.Reads as validate-layout-span-reads
-use Rattle.replay.proofs.fuse.Reads as fuse-reads
-use Rattle.replay.proofs.refused_replay.Reads as refused-replay-reads
 
 module _ (ds : List ℕ) (ss ts : List ℤ) (x y : OffsetSpan) (ex : x ≡ spanned ds ss) (ey : y ≡ spanned ds ts) where
   passes : (a b c d : ℤ) → x ≡ S.Fits a b → y ≡ S.Fits c d → compiledBy (fused ds ss ts) (theSpans a b c d) ≡ compiledReplay ds ss ts

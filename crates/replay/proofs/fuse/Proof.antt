@@ -13,13 +13,6 @@ use Rattle.replay.proofs.Turns.{fuse-none, first-over, first-fits}
 use borrow.Author.Needs.{needs}
 use Rattle.replay.proofs.fuse.Statement.{statement}
 use Rattle.replay.proofs.fuse.Tie as tie
-use Rattle.replay.proofs.fuse.Reads as reads
-use Rattle.replay.proofs.fuse.Lts as lts
-use Rattle.replay.proofs.done_replay.Reads as done-replay-reads
-use Rattle.replay.proofs.fuse_rest.Reads as fuse-rest-reads
-use Rattle.replay.proofs.make_axis.Reads as make-axis-reads
-use Rattle.replay.proofs.no_axis.Reads as no-axis-reads
-use Rattle.replay.proofs.refused_replay.Reads as refused-replay-reads
 
 full : (s : tie.Start) → (length (s .args .t1) ≡ rankLimit) × (length (s .args .t2) ≡ rankLimit) × (length (s .args .t3) ≡ rankLimit)
 full s =

@@ -13,13 +13,6 @@ use Rattle.replay.specs.Replays.{Merged, joinOf, compiledBy}
 use Rattle.replay.proofs.Turns.{Fusing, fusing-first, fusing-over, fusing-merged, fusing-apart, fusing-done}
 use Rattle.replay.proofs.fuse_rest.Statement.{statement}
 use Rattle.replay.proofs.fuse_rest.Tie as tie
-use Rattle.replay.proofs.fuse_rest.Reads as reads
-use Rattle.replay.proofs.fuse_rest.Lts as lts
-use Rattle.layout.proofs.axis_count.Reads as axis-count-reads
-use Rattle.replay.proofs.done_replay.Reads as done-replay-reads
-use Rattle.replay.proofs.join.Reads as join-reads
-use Rattle.replay.proofs.no_axis.Reads as no-axis-reads
-use Rattle.replay.proofs.refused_replay.Reads as refused-replay-reads
 
 abbrev Inv-loop : tie.InvT-loop
 Inv-loop rank spans shape source-strides dest-strides count axes₀ last₀ n₀ i₀ axes last n i = Fusing shape source-strides dest-strides rank last₀ axes last n i

@@ -3,21 +3,14 @@ use Prim.Native.Nat.{_*_}
 use lib.IntN.{ℤ}
 use mir.Syntax.{w64}
 use mir.Val.{SFits}
-use borrow.Author.Needs.{sfits-of}
+use borrow.Author.Needs.{sfits-of, needs}
 use borrow.Author.Tests.{not-true, not-false}
 use Rattle.integer.specs.Z.{back}
 use Rattle.integer.specs.Defs.{checkedU, eqZ}
 use Rattle.replay.specs.Replays.{axisOf, joinAfterU, asMerged, asApart, past}
 use Rattle.replay.proofs.Joins.{join-over, join-over2, join-merge, join-apart, join-apart2}
-use borrow.Author.Needs.{needs}
 use Rattle.replay.proofs.join.Statement.{statement}
 use Rattle.replay.proofs.join.Tie as tie
-use Rattle.replay.proofs.join.Reads as reads
-use Rattle.replay.proofs.join.Lts as lts
-use Rattle.replay.proofs.apart.Reads as apart-reads
-use Rattle.replay.proofs.merge.Reads as merge-reads
-use Rattle.replay.proofs.past_last.Reads as past-last-reads
-use Rattle.replay.proofs.same.Reads as same-reads
 
 source-fits : (c : tie.Start) → SFits w64 (c .args .before .«source_step»)
 source-fits c = search needs

@@ -3,19 +3,15 @@ use Prim.Native.Nat.{ℕ}
 use lib.IntN.{ℤ}
 use mir.Syntax.{w64}
 use mir.Val.{SFits}
-use borrow.Author.Needs.{sfits-of}
+use borrow.Author.Needs.{sfits-of, needs}
 use Rattle.integer.specs.Z.{back}
 use Rattle.integer.specs.declared.Checked.{Checked}
 use Rattle.integer.specs.declared.Checked.the-variants as C
 use Rattle.layout.specs.Spans.{resetOf}
 use Rattle.replay.specs.declared.CheckedAxis.the-variants as A
 use Rattle.replay.specs.Replays.{theAxis, axisOf}
-use borrow.Author.Needs.{needs}
 use Rattle.replay.proofs.make_axis.Statement.{statement}
 use Rattle.replay.proofs.make_axis.Tie as tie
-use Rattle.replay.proofs.make_axis.Reads as reads
-use Rattle.replay.proofs.make_axis.Lts as lts
-use Rattle.layout.proofs.checked_replay_reset.Reads as checked-replay-reset-reads
 
 makes : (d : ℕ) (s t : ℤ) (x y : Checked) (a b : ℤ) → x ≡ resetOf d s → y ≡ resetOf d t → x ≡ C.Fits a → y ≡ C.Fits b → A.Fits (theAxis d s a t b) ≡ axisOf d s t
 unfolding axisOf

@@ -5,11 +5,6 @@ use Rattle.replay.specs.Replays.{axisOf, joinAfterU, asMerged}
 use borrow.Author.Needs.{needs}
 use Rattle.replay.proofs.merge.Statement.{statement}
 use Rattle.replay.proofs.merge.Tie as tie
-use Rattle.replay.proofs.merge.Reads as reads
-use Rattle.replay.proofs.merge.Lts as lts
-use Rattle.integer.proofs.checked_mul_u64.Reads as checked-mul-u64-reads
-use Rattle.replay.proofs.as_merged.Reads as as-merged-reads
-use Rattle.replay.proofs.make_axis.Reads as make-axis-reads
 
 checked-mul-u64-requires : tie.Need-checked-mul-u64-requires
 checked-mul-u64-requires c κs = search needs

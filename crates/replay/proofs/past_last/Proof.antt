@@ -8,10 +8,6 @@ use Rattle.replay.specs.Replays.{past}
 use borrow.Author.Needs.{needs}
 use Rattle.replay.proofs.past_last.Statement.{statement}
 use Rattle.replay.proofs.past_last.Tie as tie
-use Rattle.replay.proofs.past_last.Reads as reads
-use Rattle.replay.proofs.past_last.Lts as lts
-use Rattle.integer.proofs.u64_to_i64.Reads as u64-to-i64-reads
-use Rattle.layout.proofs.scaled.Reads as scaled-reads
 
 u64-to-i64-requires : tie.Need-u64-to-i64-requires
 u64-to-i64-requires c κs = search needs

@@ -6,9 +6,6 @@ use Rattle.replay.specs.Replays.{theSpans}
 use borrow.Author.Needs.{needs}
 use Rattle.replay.proofs.refused_replay.Statement.{statement}
 use Rattle.replay.proofs.refused_replay.Tie as tie
-use Rattle.replay.proofs.refused_replay.Reads as reads
-use Rattle.replay.proofs.refused_replay.Lts as lts
-use Rattle.replay.proofs.no_axis.Reads as no-axis-reads
 
 no-axis-requires : tie.Need-no-axis-requires
 no-axis-requires c κs = search needs

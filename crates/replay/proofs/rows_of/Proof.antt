@@ -1,24 +1,21 @@
-use mathlib.Core.Path.{_≡_, refl, sym, ap₂, _∙_}
-use mathlib.Core.List.{List, [], _∷_, _++_}
+use mathlib.Core.Path.{_≡_, refl, sym, _∙_}
+use mathlib.Core.List.{[], _∷_}
 use Prim.Native.Nat.{_-_, _≤_, zero-le}
 use native.Mathlib.Omega.{arith}
-use lib.ListN.{length, take, getD, set, replicate, length-map, List·getD-map}
-use lib.IntN.{ℤ, pos}
+use lib.ListN.{length, getD, replicate, length-map, List·getD-map}
+use lib.IntN.{pos}
 use mir.Syntax.{w64}
 use mir.Val.{SFits}
 use Rattle.integer.specs.Z.{back}
 use Rattle.layout.specs.Layouts.{rankLimit}
-use Rattle.layout.proofs.Fill.{fill-one}
+use Rattle.layout.proofs.Fill.{filled, fill-one, fill-all}
 use Rattle.replay.specs.Replays.{theAxis, rowOf, rowsOf}
-use Rattle.replay.proofs.Fill.{fill-done}
 use borrow.Author.Needs.{needs}
 use Rattle.replay.proofs.rows_of.Statement.{statement}
 use Rattle.replay.proofs.rows_of.Tie as tie
-use Rattle.replay.proofs.rows_of.Reads as reads
-use Rattle.replay.proofs.rows_of.Lts as lts
 
 abbrev Inv-loop : tie.InvT-loop
-Inv-loop axes out₀ i₀ out i = (i ≤ rankLimit) × (out ≡ take i (rowsOf axes) ++ replicate (rankLimit - i) (replicate 4 (pos 0)))
+Inv-loop axes out₀ i₀ out i = (i ≤ rankLimit) × (out ≡ filled rankLimit (replicate 4 (pos 0)) (rowsOf axes) i)
 
 abbrev μ-loop : tie.MeasureT-loop
 μ-loop axes out₀ i₀ out i = rankLimit - i
@@ -59,14 +56,14 @@ loop-again c =
     let e3 = back f3 in
     let e4 = back f4 in (
       search needs,
-      ap₂ (λ (o : List (List ℤ)) (x : List ℤ). set o (l .loop .i) x) (l .loop .inv .1) ((λ ι. e1 ι ∷ e2 ι ∷ e3 ι ∷ e4 ι ∷ []) ∙ sym (List·getD-map rowOf (s .args .t1) (l .loop .i) (theAxis 0 (pos 0) (pos 0) (pos 0) (pos 0))))
-          ∙ fill-one rankLimit (replicate 4 (pos 0)) (replicate 4 (pos 0)) (rowsOf (s .args .t1)) (l .loop .i) (omega arith) (rw length-map (omega arith)),
+      fill-one rankLimit (replicate 4 (pos 0)) (replicate 4 (pos 0)) (rowsOf (s .args .t1)) (l .loop .out) (l .loop .i) _ (omega arith) (rw length-map (omega arith)) (l .loop .inv .1)
+          ((λ ι. e1 ι ∷ e2 ι ∷ e3 ι ∷ e4 ι ∷ []) ∙ sym (List·getD-map rowOf (s .args .t1) (l .loop .i) (theAxis 0 (pos 0) (pos 0) (pos 0) (pos 0)))),
     )
 
 returns : tie.Need-returns Inv-loop μ-loop
 returns c =
     let h : length (c .before .before .args .t1) ≡ rankLimit = search needs in
-    c .before .loop .inv .1 ∙ fill-done rankLimit (replicate 4 (pos 0)) (rowsOf (c .before .before .args .t1)) (c .before .loop .i) (rw length-map h) (omega arith) (omega arith)
+    fill-all rankLimit (replicate 4 (pos 0)) (rowsOf (c .before .before .args .t1)) (c .before .loop .out) (c .before .loop .i) (rw length-map h) (omega arith) (c .before .loop .inv .1)
 
 pub rows-of-spec : {M : Type 1} → statement M
 rows-of-spec =

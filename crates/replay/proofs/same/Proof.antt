@@ -1,8 +1,6 @@
 use Rattle.replay.proofs.Joins.{same-bits-is}
 use Rattle.replay.proofs.same.Statement.{statement}
 use Rattle.replay.proofs.same.Tie as tie
-use Rattle.replay.proofs.same.Reads as reads
-use Rattle.replay.proofs.same.Lts as lts
 
 returns : tie.Need-returns
 returns c = same-bits-is (c .args .a) (c .args .b) (c .fits .a) (c .fits .b)

@@ -1,22 +1,18 @@
-use mathlib.Core.Path.{_≡_, refl, sym, ap₂, _∙_}
-use mathlib.Core.List.{List, _++_}
-use Prim.Native.Nat.{ℕ, _-_, _≤_, zero-le}
+use mathlib.Core.Path.{_≡_, refl, sym}
+use Prim.Native.Nat.{_-_, _≤_, zero-le}
 use native.Mathlib.Omega.{arith}
-use lib.ListN.{length, take, set, replicate, length-map, List·getD-map}
+use lib.ListN.{length, length-map, List·getD-map}
 use lib.IntN.{pos}
 use Rattle.layout.specs.Layouts.{rankLimit}
-use Rattle.layout.proofs.Fill.{fill-one}
+use Rattle.layout.proofs.Fill.{filled, fill-one, fill-all}
 use Rattle.replay.specs.declared.WindowReplayAxis.{WindowReplayAxis}
 use Rattle.replay.specs.Replays.{theAxis, extents}
-use Rattle.replay.proofs.Fill.{fill-done}
 use borrow.Author.Needs.{needs}
 use Rattle.replay.proofs.shape_of.Statement.{statement}
 use Rattle.replay.proofs.shape_of.Tie as tie
-use Rattle.replay.proofs.shape_of.Reads as reads
-use Rattle.replay.proofs.shape_of.Lts as lts
 
 abbrev Inv-loop : tie.InvT-loop
-Inv-loop axes out₀ i₀ out i = (i ≤ rankLimit) × (out ≡ take i (extents axes) ++ replicate (rankLimit - i) 0)
+Inv-loop axes out₀ i₀ out i = (i ≤ rankLimit) × (out ≡ filled rankLimit 0 (extents axes) i)
 
 abbrev μ-loop : tie.MeasureT-loop
 μ-loop axes out₀ i₀ out i = rankLimit - i
@@ -48,14 +44,13 @@ loop-again c =
     let s = l .before in
     let h : length (s .args .t1) ≡ rankLimit = search needs in (
       search needs,
-      ap₂ (λ (o : List ℕ) (x : ℕ). set o (l .loop .i) x) (l .loop .inv .1) (sym (List·getD-map (λ (a : WindowReplayAxis). a .extent) (s .args .t1) (l .loop .i) (theAxis 0 (pos 0) (pos 0) (pos 0) (pos 0))))
-          ∙ fill-one rankLimit 0 0 (extents (s .args .t1)) (l .loop .i) (omega arith) (rw length-map (omega arith)),
+      fill-one rankLimit 0 0 (extents (s .args .t1)) (l .loop .out) (l .loop .i) _ (omega arith) (rw length-map (omega arith)) (l .loop .inv .1) (sym (List·getD-map (λ (a : WindowReplayAxis). a .extent) (s .args .t1) (l .loop .i) (theAxis 0 (pos 0) (pos 0) (pos 0) (pos 0)))),
     )
 
 returns : tie.Need-returns Inv-loop μ-loop
 returns c =
     let h : length (c .before .before .args .t1) ≡ rankLimit = search needs in
-    c .before .loop .inv .1 ∙ fill-done rankLimit 0 (extents (c .before .before .args .t1)) (c .before .loop .i) (rw length-map h) (omega arith) (omega arith)
+    fill-all rankLimit 0 (extents (c .before .before .args .t1)) (c .before .loop .out) (c .before .loop .i) (rw length-map h) (omega arith) (c .before .loop .inv .1)
 
 pub shape-of-spec : {M : Type 1} → statement M
 shape-of-spec =

@@ -1,4 +1,5 @@
 use mathlib.Core.Path.{ap, _∙_}
+use Rattle.layout.specs.Layouts.{rankLimit}
 use Rattle.layout.specs.Spans.{totalOf}
 use Rattle.spans.proofs.Parts.{part-read}
 use borrow.Author.Needs.{needs}
@@ -21,7 +22,7 @@ total-of-requires : tie.Need-total-of-requires
 total-of-requires c κs = search needs
 
 returns : tie.Need-returns
-returns c = c .total-of .ensures ∙ ap totalOf (part-read _ _ 8 _ (c .before .before .before .axis-count .ensures) (search needs))
+returns c = c .total-of .ensures ∙ ap totalOf (part-read _ _ rankLimit _ (c .before .before .before .axis-count .ensures) (search needs))
 
 pub checked-total-len-spec : {M : Type 1} → statement M
 checked-total-len-spec =

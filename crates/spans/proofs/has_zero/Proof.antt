@@ -1,4 +1,5 @@
 use mathlib.Core.Path.{ap, _∙_}
+use Rattle.layout.specs.Layouts.{rankLimit}
 use Rattle.layout.specs.Nested.{hasZero}
 use Rattle.spans.proofs.Parts.{part-read}
 use borrow.Author.Needs.{needs}
@@ -21,7 +22,7 @@ zero-in-requires : tie.Need-zero-in-requires
 zero-in-requires c κs = search needs
 
 returns : tie.Need-returns
-returns c = c .zero-in .ensures ∙ ap hasZero (part-read _ _ 8 _ (c .before .before .before .axis-count .ensures) (search needs))
+returns c = c .zero-in .ensures ∙ ap hasZero (part-read _ _ rankLimit _ (c .before .before .before .axis-count .ensures) (search needs))
 
 pub has-zero-spec : {M : Type 1} → statement M
 has-zero-spec =

@@ -1,4 +1,5 @@
 use mathlib.Core.Path.{ap₂, _∙_}
+use Rattle.layout.specs.Layouts.{rankLimit}
 use Rattle.layout.specs.Nested.{nested}
 use Rattle.spans.proofs.Parts.{part-read}
 use borrow.Author.Needs.{needs}
@@ -32,7 +33,7 @@ nested-in-requires c κs = search needs
 returns : tie.Need-returns
 returns c =
     let a = c .before .before .before .before .before in
-    c .nested-in .ensures ∙ ap₂ nested (part-read _ _ 8 _ (a .axis-count .ensures) (search needs)) (part-read _ _ 8 _ (a .axis-count .ensures) (search needs))
+    c .nested-in .ensures ∙ ap₂ nested (part-read _ _ rankLimit _ (a .axis-count .ensures) (search needs)) (part-read _ _ rankLimit _ (a .axis-count .ensures) (search needs))
 
 pub is-nested-spec : {M : Type 1} → statement M
 is-nested-spec =

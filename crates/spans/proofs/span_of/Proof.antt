@@ -6,10 +6,9 @@ use lib.IntN.{ℤ, pos}
 use mir.Syntax.{w64}
 use mir.Val.{SFits, Fits, toZ}
 use mir.Facts.{fits-ofZ, sfits-lit}
-use borrow.Author.Needs.{sfits-of}
+use borrow.Author.Needs.{sfits-of, needs}
 use Rattle.integer.specs.Z.{back}
 use Rattle.layout.specs.Spans.{widened, spanFrom, spanned}
-use borrow.Author.Needs.{needs}
 use Rattle.spans.proofs.Turns.{span-over, span-next, span-done}
 use Rattle.spans.proofs.span_of.Statement.{statement}
 use Rattle.spans.proofs.span_of.Tie as tie

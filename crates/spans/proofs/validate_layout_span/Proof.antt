@@ -1,4 +1,5 @@
 use mathlib.Core.Path.{ap₂, _∙_}
+use Rattle.layout.specs.Layouts.{rankLimit}
 use Rattle.layout.specs.Spans.{spanned}
 use Rattle.spans.proofs.Parts.{part-read}
 use borrow.Author.Needs.{needs}
@@ -32,7 +33,7 @@ span-of-requires c κs = search needs
 returns : tie.Need-returns
 returns c =
     let a = c .before .before .before .before .before in
-    c .span-of .ensures ∙ ap₂ spanned (part-read _ _ 8 _ (a .axis-count .ensures) (search needs)) (part-read _ _ 8 _ (a .axis-count .ensures) (search needs))
+    c .span-of .ensures ∙ ap₂ spanned (part-read _ _ rankLimit _ (a .axis-count .ensures) (search needs)) (part-read _ _ rankLimit _ (a .axis-count .ensures) (search needs))
 
 pub validate-layout-span-spec : {M : Type 1} → statement M
 validate-layout-span-spec =

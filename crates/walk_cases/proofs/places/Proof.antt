@@ -11,12 +11,6 @@ use Rattle.walk.specs.Walks.{Walk, stateAt}
 use Rattle.walk.specs.Walking.{begins}
 use Rattle.walk_cases.proofs.places.Statement.{statement}
 use Rattle.walk_cases.proofs.places.Tie as tie
-use Rattle.walk_cases.proofs.places.Reads as reads
-use Rattle.walk_cases.proofs.places.Lts as lts
-use Rattle.walk.proofs.start.Reads as start-reads
-use Rattle.walk.proofs.step.Reads as step-reads
-use Rattle.printing.proofs.put.Reads as put-reads
-use Rattle.walk_cases.proofs.put_place.Reads as put-place-reads
 
 abbrev Inv-loop : tie.InvT-loop
 Inv-loop shape rows rank source-base dest-base total state₀ k₀ t9 state k = (k ≤ total) × (state ≡ stateAt (toZ w64 source-base) (toZ w64 dest-base) shape rows rank k)

@@ -6,11 +6,6 @@ use Rattle.integer.specs.Z.{back}
 use Rattle.walk.specs.Walks.{Walk}
 use Rattle.walk_cases.proofs.places_back.Statement.{statement}
 use Rattle.walk_cases.proofs.places_back.Tie as tie
-use Rattle.walk_cases.proofs.places_back.Reads as reads
-use Rattle.walk_cases.proofs.places_back.Lts as lts
-use Rattle.walk.proofs.decode.Reads as decode-reads
-use Rattle.printing.proofs.end_line.Reads as end-line-reads
-use Rattle.walk_cases.proofs.put_place.Reads as put-place-reads
 
 abbrev Inv-loop : tie.InvT-loop
 Inv-loop shape rows rank source-base dest-base total k₀ k = k ≤ total

@@ -2,11 +2,6 @@ use Prim.Native.Nat.{_≤_, _-_}
 use borrow.Author.Needs.{needs}
 use Rattle.walk_cases.proofs.put_axes.Statement.{statement}
 use Rattle.walk_cases.proofs.put_axes.Tie as tie
-use Rattle.walk_cases.proofs.put_axes.Reads as reads
-use Rattle.walk_cases.proofs.put_axes.Lts as lts
-use Rattle.layout.proofs.axis_count.Reads as axis-count-reads
-use Rattle.printing.proofs.end_line.Reads as end-line-reads
-use Rattle.walk_cases.proofs.put_axis.Reads as put-axis-reads
 
 abbrev Inv-loop : tie.InvT-loop
 Inv-loop rank axes count i₀ i = i ≤ count

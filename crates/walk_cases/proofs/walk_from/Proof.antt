@@ -19,18 +19,6 @@ use Rattle.walk.specs.Walking.{Ready, Walking, walking, spans-cover}
 use borrow.Author.Needs.{needs}
 use Rattle.walk_cases.proofs.walk_from.Statement.{statement}
 use Rattle.walk_cases.proofs.walk_from.Tie as tie
-use Rattle.walk_cases.proofs.walk_from.Reads as reads
-use Rattle.walk_cases.proofs.walk_from.Lts as lts
-use Rattle.spans.proofs.has_zero.Reads as has-zero-reads
-use Rattle.layout.proofs.is_done.Reads as is-done-reads
-use Rattle.replay.proofs.compile_window_replay.Reads as compile-window-replay-reads
-use Rattle.replay.proofs.rows_of.Reads as rows-of-reads
-use Rattle.replay.proofs.shape_of.Reads as shape-of-reads
-use Rattle.walk.proofs.covers.Reads as covers-reads
-use Rattle.walk_cases.proofs.places.Reads as places-reads
-use Rattle.walk_cases.proofs.places_back.Reads as places-back-reads
-use Rattle.printing.proofs.put.Reads as put-reads
-use Rattle.walk_cases.proofs.put_refused.Reads as put-refused-reads
 
 compile-window-replay-requires : tie.Need-compile-window-replay-requires
 compile-window-replay-requires c κs = tt
