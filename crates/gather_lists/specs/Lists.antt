@@ -9,6 +9,8 @@ use Rattle.layout.specs.declared.Answer.{Answer}
 use Rattle.layout.specs.Answers.{orElse}
 use Rattle.calls.specs.Calls.{viewWith, sameViews, planRefusal, boundsRefusal, GatherCall}
 use Rattle.gather_checks.specs.Refusals.{compileRefusal}
+use Rattle.gather_move.specs.Prepared.{Prepares}
+use Rattle.gather_move.specs.declared.PreparedGather.{PreparedGather}
 
 -- the gather of a call: the spec on the call's operand, index and destination
 abbrev pub onViews : Gather → View → View → View → Gather
@@ -24,6 +26,13 @@ listsAnswer g h on sn dn =
     orElse (compileRefusal g) (orElse (planRefusal (sameViews (h .operand) (h .indices) (h .result) (g .operand) (g .indices) (g .result)))
     (boundsRefusal (h .operand) (h .indices) (h .result) on sn dn))
 
--- A GATHER CALLED BY LISTS: compiled as g, and called as h
-abbrev pub byLists : Gather → Gather → List ℤ → GatherCall
-byLists g h starts = record { answer = λ on dn. listsAnswer g h on (length starts) dn; gather = h; starts = starts }
+-- A GATHER CALLED BY LISTS: compiled as g, and called on these views
+abbrev pub byLists : Gather → View → View → View → List ℤ → GatherCall
+byLists g x y z starts = record { answer = λ on dn. listsAnswer g (onViews g x y z) on (length starts) dn; gather = onViews g x y z; starts = starts }
+
+-- what is prepared for such a call: on any views, and on views that begin at a, b and c
+abbrev pub ListedOn : PreparedGather → Gather → View → View → View → ℕ → ℕ → ℕ → Type 0
+ListedOn r g x y z on sn dn = Prepares r (listsAnswer g (onViews g x y z) on sn dn) (onViews g x y z) on sn dn
+
+abbrev pub ListedAt : PreparedGather → Gather → ℤ → ℤ → ℤ → ℕ → ℕ → ℕ → Type 0
+ListedAt r g a b c on sn dn = Prepares r (listsAnswer g (placed g a b c) on sn dn) (placed g a b c) on sn dn

@@ -3,8 +3,8 @@ ghost use mathlib.Core.Path.{_≡_};
 ghost use Rattle.calls.specs.Calls.{viewWith};
 ghost use Rattle.gather_checks.specs.Refusals.{gatherFrom};
 ghost use Rattle.gather_checks.specs.Given.{Found};
-ghost use Rattle.gather_move.specs.Prepared.{gatherNumbers, Prepares};
-ghost use Rattle.gather_lists.specs.Lists.{onViews, placed, listsAnswer};
+ghost use Rattle.gather_move.specs.Prepared.{gatherNumbers};
+ghost use Rattle.gather_lists.specs.Lists.{ListedOn, ListedAt};
 use gather_move::GatherNumbers;
 use gather_move::PreparedGather;
 use layout::Answer;
@@ -70,7 +70,7 @@ pub fn prepare(
     starts_len: usize,
     dest_len: usize,
 ) -> PreparedGather
-    ensures { λ r. ⌜ Prepares r (listsAnswer (gatherFrom (now («operand_extents» .entry)) (now («operand_strides» .entry)) (now («index_extents» .entry)) (now («index_strides» .entry)) (now («dest_extents» .entry)) (now («dest_strides» .entry)) (now («offset_dims» .entry)) (now («collapsed_slice_dims» .entry)) (now («start_index_map» .entry)) «index_vector_dim» (now («slice_sizes» .entry))) (placed (gatherFrom (now («operand_extents» .entry)) (now («operand_strides» .entry)) (now («index_extents» .entry)) (now («index_strides» .entry)) (now («dest_extents» .entry)) (now («dest_strides» .entry)) (now («offset_dims» .entry)) (now («collapsed_slice_dims» .entry)) (now («start_index_map» .entry)) «index_vector_dim» (now («slice_sizes» .entry))) «operand_offset» «index_offset» «dest_offset») «operand_len» «starts_len» «dest_len») (placed (gatherFrom (now («operand_extents» .entry)) (now («operand_strides» .entry)) (now («index_extents» .entry)) (now («index_strides» .entry)) (now («dest_extents» .entry)) (now («dest_strides» .entry)) (now («offset_dims» .entry)) (now («collapsed_slice_dims» .entry)) (now («start_index_map» .entry)) «index_vector_dim» (now («slice_sizes» .entry))) «operand_offset» «index_offset» «dest_offset») «operand_len» «starts_len» «dest_len» ⌝ }
+    ensures { λ r. ⌜ ListedAt r (gatherFrom (now («operand_extents» .entry)) (now («operand_strides» .entry)) (now («index_extents» .entry)) (now («index_strides» .entry)) (now («dest_extents» .entry)) (now («dest_strides» .entry)) (now («offset_dims» .entry)) (now («collapsed_slice_dims» .entry)) (now («start_index_map» .entry)) «index_vector_dim» (now («slice_sizes» .entry))) «operand_offset» «index_offset» «dest_offset» «operand_len» «starts_len» «dest_len» ⌝ }
 {
     let found = gather_checks::examine(
         operand_extents,
@@ -155,7 +155,7 @@ pub fn prepare_views(
     starts_len: usize,
     dest_len: usize,
 ) -> PreparedGather
-    ensures { λ r. ⌜ Prepares r (listsAnswer (gatherFrom (now («operand_extents» .entry)) (now («operand_strides» .entry)) (now («index_extents» .entry)) (now («index_strides» .entry)) (now («dest_extents» .entry)) (now («dest_strides» .entry)) (now («offset_dims» .entry)) (now («collapsed_slice_dims» .entry)) (now («start_index_map» .entry)) «index_vector_dim» (now («slice_sizes» .entry))) (onViews (gatherFrom (now («operand_extents» .entry)) (now («operand_strides» .entry)) (now («index_extents» .entry)) (now («index_strides» .entry)) (now («dest_extents» .entry)) (now («dest_strides» .entry)) (now («offset_dims» .entry)) (now («collapsed_slice_dims» .entry)) (now («start_index_map» .entry)) «index_vector_dim» (now («slice_sizes» .entry))) (viewWith (now («operand_view_extents» .entry)) (now («operand_view_strides» .entry)) «operand_offset») (viewWith (now («index_view_extents» .entry)) (now («index_view_strides» .entry)) «index_offset») (viewWith (now («dest_view_extents» .entry)) (now («dest_view_strides» .entry)) «dest_offset»)) «operand_len» «starts_len» «dest_len») (onViews (gatherFrom (now («operand_extents» .entry)) (now («operand_strides» .entry)) (now («index_extents» .entry)) (now («index_strides» .entry)) (now («dest_extents» .entry)) (now («dest_strides» .entry)) (now («offset_dims» .entry)) (now («collapsed_slice_dims» .entry)) (now («start_index_map» .entry)) «index_vector_dim» (now («slice_sizes» .entry))) (viewWith (now («operand_view_extents» .entry)) (now («operand_view_strides» .entry)) «operand_offset») (viewWith (now («index_view_extents» .entry)) (now («index_view_strides» .entry)) «index_offset») (viewWith (now («dest_view_extents» .entry)) (now («dest_view_strides» .entry)) «dest_offset»)) «operand_len» «starts_len» «dest_len» ⌝ }
+    ensures { λ r. ⌜ ListedOn r (gatherFrom (now («operand_extents» .entry)) (now («operand_strides» .entry)) (now («index_extents» .entry)) (now («index_strides» .entry)) (now («dest_extents» .entry)) (now («dest_strides» .entry)) (now («offset_dims» .entry)) (now («collapsed_slice_dims» .entry)) (now («start_index_map» .entry)) «index_vector_dim» (now («slice_sizes» .entry))) (viewWith (now («operand_view_extents» .entry)) (now («operand_view_strides» .entry)) «operand_offset») (viewWith (now («index_view_extents» .entry)) (now («index_view_strides» .entry)) «index_offset») (viewWith (now («dest_view_extents» .entry)) (now («dest_view_strides» .entry)) «dest_offset») «operand_len» «starts_len» «dest_len» ⌝ }
 {
     let first = calls::same_view(
         operand_view_extents,

@@ -1,2 +1,1 @@
-pub mod Ships
 pub mod Linked

@@ -1,117 +1,99 @@
--- What the runs of two ships leave, by what each call does. Assumes nothing.
-use mathlib.Core.Path.{_≡_, refl, sym, ap, ap₂, subst, _∙_}
+-- What the runs leave, by what each call does: of any calls, however their answers are put. Assumes nothing.
+use mathlib.Core.Path.{_≡_, refl, sym, ap, ap₂, _∙_}
 use mathlib.Core.Bool.{Bool, true, false, cond, true≢false}
-use mathlib.Core.List.{List, [], _++_}
+use mathlib.Core.List.{List, []}
 use Prim.Native.Nat.{ℕ, _<_}
 use lib.ListN.{length, getD}
 use lib.IntN.{ℤ, pos, _+ℤ_}
-use mir.Syntax.{w32}
-use mir.Val.{SFits}
 use Rattle.integer.specs.Defs.{wrap32}
-use Rattle.indexing.specs.Gather.{Gather, cells, readAt, gathered}
-use Rattle.indexing.specs.Scatter.{Scatter, Cut, cuts, combined, landing, addI32, scatteredI32}
+use Rattle.indexing.specs.Gather.{gathered}
+use Rattle.indexing.specs.Scatter.{Scatter, Cut, cuts, combined, landing, addI32, scattered, scatteredI32}
 use Rattle.indexing.specs.Cuts.{length-combined}
-use Rattle.indexing.specs.Cells.{length-gathered}
-use Rattle.indexing.specs.Sums.{total, added}
+use Rattle.indexing.specs.Sums.{total}
 use Rattle.indexing.specs.Demand3.{cuts-either-order, cuts-two, cuts-two-i32, Unseen, unseen}
 use Rattle.layout.specs.declared.Answer.{Answer}
-use Rattle.layout.specs.declared.View.{View}
 use Rattle.layout.specs.Answers.{isDone}
-use Rattle.gather_plan.specs.declared.GatherPlan.{GatherPlan}
-use Rattle.gather.specs.Calls.{gatherOf}
-use Rattle.gather.specs.Calls as G
-use Rattle.scatter.specs.Calls as S
-use Rattle.order.specs.Ships.{Ship, shipScatter, shipAnswer, shipCuts, cutInto, EitherOrder, SeesNothing}
-use Rattle.order.specs.declared.Orders.{Orders}
-use Rattle.order.specs.declared.Sights.{Sights}
+use Rattle.calls.specs.Calls.{GatherCall, ScatterCall, Gathers, Scatters}
+use Rattle.order.specs.Orders.{updatesOf, putBy, putOn, EitherOrder, GatherBeside}
 
--- a ship's call on a grid
-abbrev pub Works : Ship → List ℤ → List ℤ → Answer → Type 0
-Works s grid after answer = S.Called scatteredI32 (s .work .plan) (s .batch-rows) (s .window-rows) (s .work .index) (s .work .updates) (s .work .dest) (s .starts) (s .updates) grid after answer
+-- a call puts its updates on the grid
+as-updates : (t : Bool) (s : Scatter) (starts updates grid : List ℤ) → cond t (scatteredI32 s starts updates grid) grid ≡ combined addI32 (pos 0) (cond t (cuts (pos 0) s starts updates) []) grid
+unfolding scattered combined
+as-updates true s starts updates grid = refl
+as-updates false s starts updates grid = refl
 
--- is to put its cuts on the grid
-pub as-cuts : (t : Bool) (s : Scatter) (starts updates grid : List ℤ) → cond t (scatteredI32 s starts updates grid) grid ≡ combined addI32 (pos 0) (cond t (cuts (pos 0) s starts updates) []) grid
-unfolding scatteredI32 combined
-as-cuts true s starts updates grid = refl
-as-cuts false s starts updates grid = refl
+done-updates : (t : Bool) (us : List (Cut ℤ)) → t ≡ true → cond t us [] ≡ us
+done-updates true us e = refl
+done-updates false us e = absurd (true≢false (sym e))
 
-works-cuts : (s : Ship) (grid after : List ℤ) (answer : Answer) → Works s grid after answer → after ≡ cutInto (shipCuts s (length grid)) grid
-works-cuts s grid after answer w = w .left ∙ as-cuts (isDone (shipAnswer s (length grid))) (shipScatter s) (s .starts) (s .updates) grid
+module _ {B : Type 0} (says : Answer → B) where
+  abbrev Does : ScatterCall ℤ → List ℤ → List ℤ → B → Type 0
+  Does c grid after handed = Scatters (pos 0) addI32 says c grid after handed
 
-length-cut : (cs : List (Cut ℤ)) (grid : List ℤ) → length (cutInto cs grid) ≡ length grid
-length-cut cs grid = length-combined addI32 (pos 0) cs grid
+  does-put : (c : ScatterCall ℤ) (grid after : List ℤ) (handed : B) → Does c grid after handed → after ≡ putOn (putBy c (length grid)) grid
+  does-put c grid after handed w = w .left ∙ as-updates (isDone (c .answer (length grid))) (c .scatter) (c .starts) (c .updates) grid
 
--- two ships, one after the other
-module _ (first second : Ship) (grid middle after : List ℤ) (a b : Answer) (w : Works first grid middle a) (v : Works second middle after b) where
-  same-length : length middle ≡ length grid
-  same-length = ap length (works-cuts first grid middle a w) ∙ length-cut (shipCuts first (length grid)) grid
+  same-length : (c : ScatterCall ℤ) (grid after : List ℤ) (handed : B) → Does c grid after handed → length after ≡ length grid
+  same-length c grid after handed w = ap length (does-put c grid after handed w) ∙ length-combined addI32 (pos 0) (putBy c (length grid)) grid
 
-  second-answer : b ≡ shipAnswer second (length grid)
-  second-answer = v .answered ∙ ap (shipAnswer second) same-length
+  -- one call after the other
+  module _ (first second : ScatterCall ℤ) (grid middle after : List ℤ) (a b : B) (w : Does first grid middle a) (v : Does second middle after b) where
+    second-answer : b ≡ says (second .answer (length grid))
+    second-answer = v .answered ∙ ap (λ (n : ℕ). says (second .answer n)) (same-length first grid middle a w)
 
-  both-left : after ≡ cutInto (shipCuts second (length grid)) (cutInto (shipCuts first (length grid)) grid)
-  both-left = works-cuts second middle after b v ∙ ap₂ (λ (n : ℕ) (g : List ℤ). cutInto (shipCuts second n) g) same-length (works-cuts first grid middle a w)
+    both-left : after ≡ putOn (putBy second (length grid)) (putOn (putBy first (length grid)) grid)
+    both-left = does-put second middle after b v ∙ ap₂ (λ (n : ℕ) (g : List ℤ). putOn (putBy second n) g) (same-length first grid middle a w) (does-put first grid middle a w)
 
-done-cuts : (t : Bool) (cs : List (Cut ℤ)) → t ≡ true → cond t cs [] ≡ cs
-done-cuts true cs e = refl
-done-cuts false cs e = absurd (true≢false (sym e))
-
-pub ordered : (north south : Ship) (grid grid′ m m′ one other : List ℤ) (r : Orders)
-    → Works north grid m (r .«north_first») → Works south m one (r .«south_second») → Works south grid′ m′ (r .«south_first») → Works north m′ other (r .«north_second») → EitherOrder north south grid grid′ one other r
-ordered north south grid grid′ m m′ one other r a b c d =
-    let one-left = both-left north south grid m one _ _ a b in
-    let other-left = both-left south north grid′ m′ other _ _ c d in
-    let sb = second-answer north south grid m one _ _ a b in
-    let nd = second-answer south north grid′ m′ other _ _ c d in
-    let n : ℕ = length grid in
-    record {
-      north-first = a .answered;
-      south-second = sb;
-      south-first = c .answered;
-      north-second = nd;
-      one-left = one-left;
-      other-left = other-left;
-      same-answers = λ e. (a .answered ∙ ap (λ (g : List ℤ). shipAnswer north (length g)) e ∙ sym nd, c .answered ∙ ap (λ (g : List ℤ). shipAnswer south (length g)) (sym e) ∙ sym sb);
-      same-grids = λ e.
-          one-left ∙ cuts-either-order (shipCuts north n) (shipCuts south n) grid
-          ∙ ap (λ (g : List ℤ). cutInto (shipCuts north (length g)) (cutInto (shipCuts south (length g)) g)) e ∙ sym other-left;
-      each-cell = λ i h. ap (λ (g : List ℤ). getD g i (pos 0)) one-left ∙ cuts-two (shipCuts north n) (shipCuts south n) grid i h;
-      each-sum = λ p q i h f.
-          ap (λ (g : List ℤ). getD g i (pos 0)) one-left ∙ cuts-two-i32 (shipCuts north n) (shipCuts south n) grid i h f
-          ∙ ap₂ (λ (x y : List (Cut ℤ)). wrap32 (getD grid i (pos 0) +ℤ (total (landing (pos i) x) +ℤ total (landing (pos i) y))))
-          (done-cuts (isDone (shipAnswer north n)) (cuts (pos 0) (shipScatter north) (north .starts) (north .updates)) p) (done-cuts (isDone (shipAnswer south n)) (cuts (pos 0) (shipScatter south) (south .starts) (south .updates)) q);
-    }
-
--- ---- a gather before and after South's work
-module _ (p : GatherPlan) (o i d : View) (starts : List ℤ) (south : Ship) (grid : List ℤ) where
-  abbrev g : Gather
-  g = gatherOf p o i d
+  -- TWO SCATTERS IN EITHER ORDER
+  pub in-either-order : (north south : ScatterCall ℤ) (grid grid′ m m′ one other : List ℤ) (a b c d : B) → Does north grid m a → Does south m one b → Does south grid′ m′ c → Does north m′ other d → EitherOrder says north south grid grid′ one other a b c d
+  in-either-order north south grid grid′ m m′ one other a b c d p q r s =
+      let one-left = both-left north south grid m one a b p q in
+      let other-left = both-left south north grid′ m′ other c d r s in
+      let sb = second-answer north south grid m one a b p q in
+      let nd = second-answer south north grid′ m′ other c d r s in
+      let n : ℕ = length grid in
+      record {
+        north-first = p .answered;
+        south-second = sb;
+        south-first = r .answered;
+        north-second = nd;
+        one-left = one-left;
+        other-left = other-left;
+        same-answers = λ e. (p .answered ∙ ap (λ (g : List ℤ). says (north .answer (length g))) e ∙ sym nd, r .answered ∙ ap (λ (g : List ℤ). says (south .answer (length g))) (sym e) ∙ sym sb);
+        same-grids = λ e.
+            one-left ∙ cuts-either-order (putBy north n) (putBy south n) grid
+            ∙ ap (λ (g : List ℤ). putOn (putBy north (length g)) (putOn (putBy south (length g)) g)) e ∙ sym other-left;
+        each-cell = λ i h. ap (λ (g : List ℤ). getD g i (pos 0)) one-left ∙ cuts-two (putBy north n) (putBy south n) grid i h;
+        each-sum = λ x y i h f.
+            ap (λ (g : List ℤ). getD g i (pos 0)) one-left ∙ cuts-two-i32 (putBy north n) (putBy south n) grid i h f
+            ∙ ap₂ (λ (u v : List (Cut ℤ)). wrap32 (getD grid i (pos 0) +ℤ (total (landing (pos i) u) +ℤ total (landing (pos i) v))))
+            (done-updates (isDone (north .answer n)) (updatesOf north) x) (done-updates (isDone (south .answer n)) (updatesOf south) y);
+      }
 
   -- where South lands on nothing that is read, the gather leaves the same
-  unseen-cuts : (t : Bool) → isDone (shipAnswer south (length grid)) ≡ t → (into : List ℤ) → (t ≡ true → Unseen g starts (shipScatter south) (south .starts))
-      → gathered (pos 0) g starts (cutInto (cond t (cuts (pos 0) (shipScatter south) (south .starts) (south .updates)) []) grid) into ≡ gathered (pos 0) g starts grid into
-  unfolding scatteredI32 combined
-  unseen-cuts true e into u = unseen g starts (shipScatter south) (south .starts) (south .updates) grid into (u refl)
-  unseen-cuts false e into u = refl
+  unseen-updates : (t : Bool) (g : GatherCall) (south : ScatterCall ℤ) (grid into : List ℤ) → (t ≡ true → Unseen (g .gather) (g .starts) (south .scatter) (south .starts))
+      → gathered (pos 0) (g .gather) (g .starts) (putOn (cond t (updatesOf south) []) grid) into ≡ gathered (pos 0) (g .gather) (g .starts) grid into
+  unfolding scattered combined
+  unseen-updates true g south grid into u = unseen (g .gather) (g .starts) (south .scatter) (south .starts) (south .updates) grid into (u refl)
+  unseen-updates false g south grid into u = refl
 
-  pub seen : (after into into′ one other : List ℤ) (r : Sights) → G.Called (pos 0) p o i d grid starts into one (r .before) → Works south grid after (r .work) → G.Called (pos 0) p o i d after starts into′ other (r .after)
-      → SeesNothing p o i d starts south grid after into into′ one other r
-  seen after into into′ one other r a b c =
-      let gl = works-cuts south grid after _ b in
-      let ln : length after ≡ length grid = ap length gl ∙ length-cut (shipCuts south (length grid)) grid in
-      let aa : r .after ≡ G.callAnswer p o i d (length grid) (length starts) (length into′) = c .answered ∙ ap (λ (n : ℕ). G.callAnswer p o i d n (length starts) (length into′)) ln in
-      let ol : one ≡ cond (isDone (r .before)) (gathered (pos 0) g starts grid into) into = a .left ∙ ap (λ (x : Answer). cond (isDone x) (gathered (pos 0) g starts grid into) into) (sym (a .answered)) in
-      let tl : other ≡ cond (isDone (r .after)) (gathered (pos 0) g starts after into′) into′ = c .left ∙ ap (λ (x : Answer). cond (isDone x) (gathered (pos 0) g starts after into′) into′) (sym (c .answered)) in
+  -- A GATHER BESIDE A SCATTER
+  pub beside : (g : GatherCall) (south : ScatterCall ℤ) (grid after into into′ one other : List ℤ) (a b c : B) → Gathers (pos 0) says g grid into one a → Does south grid after b → Gathers (pos 0) says g after into′ other c → GatherBeside says g south grid after into into′ one other a b c
+  beside g south grid after into into′ one other a b c p w q =
+      let gl = does-put south grid after b w in
+      let ln : length after ≡ length grid = same-length south grid after b w in
+      let aa : c ≡ says (g .answer (length grid) (length into′)) = q .answered ∙ ap (λ (n : ℕ). says (g .answer n (length into′))) ln in
+      let tl : other ≡ cond (isDone (g .answer (length grid) (length into′))) (gathered (pos 0) (g .gather) (g .starts) after into′) into′ = q .left ∙ ap (λ (n : ℕ). cond (isDone (g .answer n (length into′))) (gathered (pos 0) (g .gather) (g .starts) after into′) into′) ln in
       record {
-        before-answer = a .answered;
-        work-answer = b .answered;
+        before-answer = p .answered;
+        south-answer = w .answered;
         after-answer = aa;
-        one-left = ol;
+        one-left = p .left;
         grid-left = gl;
         other-left = tl;
         same = λ e u.
-            let sa : r .before ≡ r .after = a .answered ∙ ap (λ (l : List ℤ). G.callAnswer p o i d (length grid) (length starts) (length l)) e ∙ sym aa in
-            let sg : gathered (pos 0) g starts grid into ≡ gathered (pos 0) g starts after into′ =
-            sym (unseen-cuts (isDone (shipAnswer south (length grid))) refl into u) ∙ ap₂ (λ (x l : List ℤ). gathered (pos 0) g starts x l) (sym gl) e in
-            (sa, ol ∙ (λ j. cond (isDone (sa j)) (sg j) (e j)) ∙ sym tl);
+            let sa : g .answer (length grid) (length into) ≡ g .answer (length grid) (length into′) = ap (λ (l : List ℤ). g .answer (length grid) (length l)) e in
+            let sg : gathered (pos 0) (g .gather) (g .starts) grid into ≡ gathered (pos 0) (g .gather) (g .starts) after into′ =
+            sym (unseen-updates (isDone (south .answer (length grid))) g south grid into u) ∙ ap₂ (λ (x l : List ℤ). gathered (pos 0) (g .gather) (g .starts) x l) (sym gl) e in
+            (p .answered ∙ ap says sa ∙ sym aa, p .left ∙ (λ j. cond (isDone (sa j)) (sg j) (e j)) ∙ sym tl);
       }

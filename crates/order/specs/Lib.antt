@@ -1,1 +1,2 @@
-pub mod Ships
+-- what a reader must believe: demand 3
+pub mod Orders

@@ -1,23 +1,27 @@
-// Two ships on one grid: the runs of demand 3. What they leave is stated of the whole lent slice, for every plan, view and slice.
+// Two scatters on one grid, and a gather beside a scatter: the runs of demand 3. What they leave is stated of the whole lent slice, for
+// every plan, view and slice.
 ghost use mathlib.Core.Path.{_≡_};
-ghost use Rattle.indexing.specs.Scatter.{scatteredI32};
-ghost use Rattle.scatter.specs.Calls.{Called};
-ghost use Rattle.order.specs.Ships.{EitherOrder, SeesNothing};
+ghost use lib.IntN.{pos};
+ghost use Rattle.indexing.specs.Scatter.{addI32};
+ghost use Rattle.calls.specs.Calls.{asIs, Scatters};
+ghost use Rattle.gather.specs.Calls as gathers;
+ghost use Rattle.scatter.specs.Calls.{byPlan};
+ghost use Rattle.order.specs.Orders.{EitherOrder, GatherBeside};
 use gather_plan::GatherPlan;
 use layout::Answer;
 use layout::RAW_FUSED_RANK_LIMIT;
 use layout::View;
 use scatter_plan::ScatterPlan;
 
-// What a ship's scatter goes by, besides the rows of the plan's walks and the lent slices.
-pub struct Work {
+// What a scatter goes by, besides the rows of the plan's walks and the lent slices.
+pub struct PlannedScatter {
     pub plan: ScatterPlan,
     pub index: View,
     pub updates: View,
     pub dest: View,
 }
 
-// What the ships were answered: North and then South on one grid, South and then North on the other.
+// What was answered: North and then South on one grid, South and then North on the other.
 pub struct Orders {
     pub north_first: Answer,
     pub south_second: Answer,
@@ -25,23 +29,23 @@ pub struct Orders {
     pub north_second: Answer,
 }
 
-// What a gather was answered before and after the other ship's work, and that ship.
-pub struct Sights {
+// What a gather was answered before and after South's scatter, and that scatter.
+pub struct Around {
     pub before: Answer,
-    pub work: Answer,
+    pub south: Answer,
     pub after: Answer,
 }
 
-// A ship's scatter on a grid.
+// A scatter on a grid.
 pub fn scatter_by(
-    work: Work,
+    work: PlannedScatter,
     batch: [[i64; 4]; RAW_FUSED_RANK_LIMIT],
     window: [[i64; 4]; RAW_FUSED_RANK_LIMIT],
     starts: &[i64],
     updates: &[i32],
     grid: &mut [i32],
 ) -> Answer
-    ensures { λ r. ⌜ Called scatteredI32 (work .plan) batch window (work .index) (work .updates) (work .dest) (now (starts .entry)) (now (updates .entry)) (now (grid .entry)) (now (grid .exit)) r ⌝ }
+    ensures { λ r. ⌜ Scatters (pos 0) addI32 asIs (byPlan (work .plan) batch window (work .index) (work .updates) (work .dest) (now (starts .entry)) (now (updates .entry))) (now (grid .entry)) (now (grid .exit)) r ⌝ }
 {
     let plan = work.plan;
     let a = work.index;
@@ -52,12 +56,12 @@ pub fn scatter_by(
 
 // North and then South on the grid `one`; South and then North on the grid `other`.
 pub fn either_order(
-    north: Work,
+    north: PlannedScatter,
     batch_n: [[i64; 4]; RAW_FUSED_RANK_LIMIT],
     window_n: [[i64; 4]; RAW_FUSED_RANK_LIMIT],
     starts_n: &[i64],
     updates_n: &[i32],
-    south: Work,
+    south: PlannedScatter,
     batch_s: [[i64; 4]; RAW_FUSED_RANK_LIMIT],
     window_s: [[i64; 4]; RAW_FUSED_RANK_LIMIT],
     starts_s: &[i64],
@@ -65,7 +69,7 @@ pub fn either_order(
     one: &mut [i32],
     other: &mut [i32],
 ) -> Orders
-    ensures { λ r. ⌜ EitherOrder (record { work = north; batch-rows = «batch_n»; window-rows = «window_n»; starts = now («starts_n» .entry); updates = now («updates_n» .entry) }) (record { work = south; batch-rows = «batch_s»; window-rows = «window_s»; starts = now («starts_s» .entry); updates = now («updates_s» .entry) }) (now (one .entry)) (now (other .entry)) (now (one .exit)) (now (other .exit)) r ⌝ }
+    ensures { λ r. ⌜ EitherOrder asIs (byPlan (north .plan) «batch_n» «window_n» (north .index) (north .updates) (north .dest) (now («starts_n» .entry)) (now («updates_n» .entry))) (byPlan (south .plan) «batch_s» «window_s» (south .index) (south .updates) (south .dest) (now («starts_s» .entry)) (now («updates_s» .entry))) (now (one .entry)) (now (other .entry)) (now (one .exit)) (now (other .exit)) (r .«north_first») (r .«south_second») (r .«south_first») (r .«north_second») ⌝ }
 {
     let north_first = scatter_by(north, batch_n, window_n, starts_n, updates_n, one);
     let south_second = scatter_by(south, batch_s, window_s, starts_s, updates_s, one);
@@ -79,14 +83,14 @@ pub fn either_order(
     }
 }
 
-// A gather from the grid into `one`, South's work on the grid, and the same gather into `other`.
-pub fn unseen(
+// A gather from the grid into `one`, South's scatter on the grid, and the same gather into `other`.
+pub fn gather_beside(
     plan: GatherPlan,
     operand: View,
     index: View,
     dest: View,
     starts: &[i64],
-    south: Work,
+    south: PlannedScatter,
     batch_s: [[i64; 4]; RAW_FUSED_RANK_LIMIT],
     window_s: [[i64; 4]; RAW_FUSED_RANK_LIMIT],
     starts_s: &[i64],
@@ -94,15 +98,15 @@ pub fn unseen(
     grid: &mut [i32],
     one: &mut [i32],
     other: &mut [i32],
-) -> Sights
-    ensures { λ r. ⌜ SeesNothing plan operand index dest (now (starts .entry)) (record { work = south; batch-rows = «batch_s»; window-rows = «window_s»; starts = now («starts_s» .entry); updates = now («updates_s» .entry) }) (now (grid .entry)) (now (grid .exit)) (now (one .entry)) (now (other .entry)) (now (one .exit)) (now (other .exit)) r ⌝ }
+) -> Around
+    ensures { λ r. ⌜ GatherBeside asIs (gathers.byPlan plan operand index dest (now (starts .entry))) (byPlan (south .plan) «batch_s» «window_s» (south .index) (south .updates) (south .dest) (now («starts_s» .entry)) (now («updates_s» .entry))) (now (grid .entry)) (now (grid .exit)) (now (one .entry)) (now (other .entry)) (now (one .exit)) (now (other .exit)) (r .before) (r .south) (r .after) ⌝ }
 {
     let before = gather::gather_i32(plan, operand, index, dest, grid, starts, one);
-    let work = scatter_by(south, batch_s, window_s, starts_s, updates_s, grid);
+    let scattered = scatter_by(south, batch_s, window_s, starts_s, updates_s, grid);
     let after = gather::gather_i32(plan, operand, index, dest, grid, starts, other);
-    Sights {
+    Around {
         before,
-        work,
+        south: scattered,
         after,
     }
 }

@@ -9,6 +9,8 @@ use Rattle.layout.specs.declared.Answer.{Answer}
 use Rattle.layout.specs.Answers.{orElse}
 use Rattle.calls.specs.Calls.{viewWith, sameViews, planRefusal, boundsRefusal, ScatterCall}
 use Rattle.scatter_checks.specs.Refusals.{compileRefusal}
+use Rattle.scatter_move.specs.Prepared.{Prepares}
+use Rattle.scatter_move.specs.declared.PreparedScatter.{PreparedScatter}
 
 -- the scatter of a call: the spec on the call's index, updates and destination
 abbrev pub onViews : Scatter → View → View → View → Scatter
@@ -24,6 +26,13 @@ listsAnswer s h sn un dn =
     orElse (compileRefusal s) (orElse (planRefusal (sameViews (h .indices) (h .updates) (h .result) (s .indices) (s .updates) (s .result)))
     (boundsRefusal (h .indices) (h .updates) (h .result) sn un dn))
 
--- A SCATTER CALLED BY LISTS: compiled as s, and called as h
-abbrev pub byLists : {A : Type 0} → Scatter → Scatter → List ℤ → List A → ScatterCall A
-byLists s h starts updates = record { answer = λ n. listsAnswer s h (length starts) (length updates) n; scatter = h; starts = starts; updates = updates }
+-- A SCATTER CALLED BY LISTS: compiled as s, and called on these views
+abbrev pub byLists : {A : Type 0} → Scatter → View → View → View → List ℤ → List A → ScatterCall A
+byLists s x y z starts updates = record { answer = λ n. listsAnswer s (onViews s x y z) (length starts) (length updates) n; scatter = onViews s x y z; starts = starts; updates = updates }
+
+-- what is prepared for such a call: on any views, and on views that begin at a, b and c
+abbrev pub ListedOn : PreparedScatter → Scatter → View → View → View → ℕ → ℕ → ℕ → Type 0
+ListedOn r s x y z sn un dn = Prepares r (listsAnswer s (onViews s x y z) sn un dn) (onViews s x y z) sn un dn
+
+abbrev pub ListedAt : PreparedScatter → Scatter → ℤ → ℤ → ℤ → ℕ → ℕ → ℕ → Type 0
+ListedAt r s a b c sn un dn = Prepares r (listsAnswer s (placed s a b c) sn un dn) (placed s a b c) sn un dn

@@ -9,8 +9,8 @@ ghost use Rattle.components.specs.Components.{limitAt};
 ghost use Rattle.calls.specs.Calls.{viewWith};
 ghost use Rattle.scatter_checks.specs.Refusals.{scatterFrom};
 ghost use Rattle.scatter_checks.specs.Examine.{Found};
-ghost use Rattle.scatter_move.specs.Prepared.{scatterNumbers, Prepares};
-ghost use Rattle.scatter_lists.specs.Lists.{onViews, placed, listsAnswer};
+ghost use Rattle.scatter_move.specs.Prepared.{scatterNumbers};
+ghost use Rattle.scatter_lists.specs.Lists.{ListedOn, ListedAt};
 use layout::Answer;
 use layout::RAW_FUSED_RANK_LIMIT;
 use replay::WindowReplay;
@@ -114,7 +114,7 @@ pub fn prepare(
     updates_len: usize,
     dest_len: usize,
 ) -> PreparedScatter
-    ensures { λ r. ⌜ Prepares r (listsAnswer (scatterFrom (now («index_extents» .entry)) (now («index_strides» .entry)) (now («updates_extents» .entry)) (now («updates_strides» .entry)) (now («dest_extents» .entry)) (now («dest_strides» .entry)) (now («update_window_dims» .entry)) (now («inserted_window_dims» .entry)) (now («scatter_dims_to_operand_dims» .entry)) «index_vector_dim») (placed (scatterFrom (now («index_extents» .entry)) (now («index_strides» .entry)) (now («updates_extents» .entry)) (now («updates_strides» .entry)) (now («dest_extents» .entry)) (now («dest_strides» .entry)) (now («update_window_dims» .entry)) (now («inserted_window_dims» .entry)) (now («scatter_dims_to_operand_dims» .entry)) «index_vector_dim») «index_offset» «updates_offset» «dest_offset») «starts_len» «updates_len» «dest_len») (placed (scatterFrom (now («index_extents» .entry)) (now («index_strides» .entry)) (now («updates_extents» .entry)) (now («updates_strides» .entry)) (now («dest_extents» .entry)) (now («dest_strides» .entry)) (now («update_window_dims» .entry)) (now («inserted_window_dims» .entry)) (now («scatter_dims_to_operand_dims» .entry)) «index_vector_dim») «index_offset» «updates_offset» «dest_offset») «starts_len» «updates_len» «dest_len» ⌝ }
+    ensures { λ r. ⌜ ListedAt r (scatterFrom (now («index_extents» .entry)) (now («index_strides» .entry)) (now («updates_extents» .entry)) (now («updates_strides» .entry)) (now («dest_extents» .entry)) (now («dest_strides» .entry)) (now («update_window_dims» .entry)) (now («inserted_window_dims» .entry)) (now («scatter_dims_to_operand_dims» .entry)) «index_vector_dim») «index_offset» «updates_offset» «dest_offset» «starts_len» «updates_len» «dest_len» ⌝ }
 {
     let found = scatter_checks::examine(
         index_extents,
@@ -197,7 +197,7 @@ pub fn prepare_views(
     updates_len: usize,
     dest_len: usize,
 ) -> PreparedScatter
-    ensures { λ r. ⌜ Prepares r (listsAnswer (scatterFrom (now («index_extents» .entry)) (now («index_strides» .entry)) (now («updates_extents» .entry)) (now («updates_strides» .entry)) (now («dest_extents» .entry)) (now («dest_strides» .entry)) (now («update_window_dims» .entry)) (now («inserted_window_dims» .entry)) (now («scatter_dims_to_operand_dims» .entry)) «index_vector_dim») (onViews (scatterFrom (now («index_extents» .entry)) (now («index_strides» .entry)) (now («updates_extents» .entry)) (now («updates_strides» .entry)) (now («dest_extents» .entry)) (now («dest_strides» .entry)) (now («update_window_dims» .entry)) (now («inserted_window_dims» .entry)) (now («scatter_dims_to_operand_dims» .entry)) «index_vector_dim») (viewWith (now («index_view_extents» .entry)) (now («index_view_strides» .entry)) «index_offset») (viewWith (now («updates_view_extents» .entry)) (now («updates_view_strides» .entry)) «updates_offset») (viewWith (now («dest_view_extents» .entry)) (now («dest_view_strides» .entry)) «dest_offset»)) «starts_len» «updates_len» «dest_len») (onViews (scatterFrom (now («index_extents» .entry)) (now («index_strides» .entry)) (now («updates_extents» .entry)) (now («updates_strides» .entry)) (now («dest_extents» .entry)) (now («dest_strides» .entry)) (now («update_window_dims» .entry)) (now («inserted_window_dims» .entry)) (now («scatter_dims_to_operand_dims» .entry)) «index_vector_dim») (viewWith (now («index_view_extents» .entry)) (now («index_view_strides» .entry)) «index_offset») (viewWith (now («updates_view_extents» .entry)) (now («updates_view_strides» .entry)) «updates_offset») (viewWith (now («dest_view_extents» .entry)) (now («dest_view_strides» .entry)) «dest_offset»)) «starts_len» «updates_len» «dest_len» ⌝ }
+    ensures { λ r. ⌜ ListedOn r (scatterFrom (now («index_extents» .entry)) (now («index_strides» .entry)) (now («updates_extents» .entry)) (now («updates_strides» .entry)) (now («dest_extents» .entry)) (now («dest_strides» .entry)) (now («update_window_dims» .entry)) (now («inserted_window_dims» .entry)) (now («scatter_dims_to_operand_dims» .entry)) «index_vector_dim») (viewWith (now («index_view_extents» .entry)) (now («index_view_strides» .entry)) «index_offset») (viewWith (now («updates_view_extents» .entry)) (now («updates_view_strides» .entry)) «updates_offset») (viewWith (now («dest_view_extents» .entry)) (now («dest_view_strides» .entry)) «dest_offset») «starts_len» «updates_len» «dest_len» ⌝ }
 {
     let first = calls::same_view(
         index_view_extents,

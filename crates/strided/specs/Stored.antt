@@ -11,14 +11,7 @@ use Rattle.layout.specs.Answers.{isDone, orElse}
 use Rattle.job.specs.declared.MadeJob.{MadeJob}
 use Rattle.job.specs.Jobs.{noJob}
 use Rattle.job.specs.Format.{encoded}
-use Rattle.job_runs.specs.declared.RunAnswer.{RunAnswer}
 use Rattle.strided.specs.Words.{words}
-
--- WHAT A STORED JOB'S RUN HANDS BACK: a run that is as `Does` says, and the three words of its answer
-pub record Handed (Does : RunAnswer → Type 0) (answer : List ℕ) : Type 0 where
-  pub ran : RunAnswer
-  pub does : Does ran
-  pub answered : answer ≡ words (ran .answer)
 
 -- "element byte 1 i32 or 2 f64": a job of any other element is refused by 10, at that byte, before all else
 abbrev pub elementListed : ℕ → MadeJob → MadeJob

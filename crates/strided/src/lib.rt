@@ -1,29 +1,27 @@
 // What the static library exports. A list is lent as a slice: to C and Rust a pointer, then a count. Every argument list
 // gets an answer: lists of extents and strides of unequal length, ranks above 8, lists of any length.
 ghost use mathlib.Core.Path.{_≡_};
-ghost use mathlib.Core.Bool.{true};
+ghost use mathlib.Core.List.{[]};
 ghost use lib.Ieee.{nan};
 ghost use lib.IntN.{pos};
-ghost use Rattle.gather_checks.specs.Refusals as gathers;
-ghost use Rattle.gather_plan.specs.Plan.{compiledGather};
-ghost use Rattle.indexing.specs.Scatter.{scatteredI32, scatteredF64};
-ghost use Rattle.scatter_checks.specs.Refusals as scatters;
-ghost use Rattle.scatter_plan.specs.Plan.{compiledScatter};
-ghost use Rattle.strided.specs.Words.{words};
-ghost use Rattle.raw_calls.specs.Calls.{viewsFrom};
-ghost use Rattle.strided.specs.Calls.{HandedBack};
-ghost use Rattle.strided.specs.Scatters.{ScatterHandedBack};
-ghost use mathlib.Core.List.{[]};
+ghost use Rattle.indexing.specs.Scatter.{addI32, addF64};
+ghost use Rattle.calls.specs.Calls.{viewWith, Gathers, Scatters};
+ghost use Rattle.gather_checks.specs.Refusals.{gatherFrom, compileRefusal as compileGather};
+ghost use Rattle.scatter_checks.specs.Refusals.{scatterFrom, compileRefusal as compileScatter};
+ghost use Rattle.gather_lists.specs.Lists as gathers;
+ghost use Rattle.scatter_lists.specs.Lists as scatters;
 ghost use Rattle.job.specs.declared.Kind.the-variants as K;
 ghost use Rattle.job.specs.declared.Element.the-variants as E;
 ghost use Rattle.job.specs.Jobs.{jobFrom};
 ghost use Rattle.job.specs.Format.{elementOf, jobAt};
 ghost use Rattle.job_reader.specs.Held.{readJob};
-ghost use Rattle.job_runs.specs.Runs.{openedGather, openedScatter, GatherRun, ScatterRun};
-ghost use Rattle.strided.specs.Stored.{elementListed, Handed, Stored, StoredAs};
+ghost use Rattle.job_calls.specs.Jobs.{gatherByJob, scatterByJob};
+ghost use Rattle.strided.specs.Words.{words};
+ghost use Rattle.strided.specs.Stored.{elementListed, Stored, StoredAs};
 use job::Element;
 use job::MadeJob;
 use layout::Answer;
+use runs::Rule;
 
 // The number, a and b of an answer.
 fn words_of(answer: Answer) -> [u64; 3]
@@ -51,7 +49,7 @@ pub extern "C" fn strided_gather_refusal(
     slice_sizes: &[u64],
     answer: &mut [u64; 3],
 )
-    ensures { λ _. ⌜ now (answer .exit) ≡ words (gathers.refusalOf true (gathers.gatherFrom (now («operand_extents» .entry)) (now («operand_strides» .entry)) (now («index_extents» .entry)) (now («index_strides» .entry)) (now («dest_extents» .entry)) (now («dest_strides» .entry)) (now («offset_dims» .entry)) (now («collapsed_slice_dims» .entry)) (now («start_index_map» .entry)) «index_vector_dim» (now («slice_sizes» .entry)))) ⌝ }
+    ensures { λ _. ⌜ now (answer .exit) ≡ words (compileGather (gatherFrom (now («operand_extents» .entry)) (now («operand_strides» .entry)) (now («index_extents» .entry)) (now («index_strides» .entry)) (now («dest_extents» .entry)) (now («dest_strides» .entry)) (now («offset_dims» .entry)) (now («collapsed_slice_dims» .entry)) (now («start_index_map» .entry)) «index_vector_dim» (now («slice_sizes» .entry)))) ⌝ }
 {
     let r = gather_checks::gather_refusal(
         operand_extents,
@@ -65,7 +63,6 @@ pub extern "C" fn strided_gather_refusal(
         start_index_map,
         index_vector_dim,
         slice_sizes,
-        true,
     );
     *answer = words_of(r);
 }
@@ -85,7 +82,7 @@ pub extern "C" fn strided_scatter_refusal(
     index_vector_dim: u64,
     answer: &mut [u64; 3],
 )
-    ensures { λ _. ⌜ now (answer .exit) ≡ words (scatters.refusalOf true (scatters.scatterFrom (now («index_extents» .entry)) (now («index_strides» .entry)) (now («updates_extents» .entry)) (now («updates_strides» .entry)) (now («dest_extents» .entry)) (now («dest_strides» .entry)) (now («update_window_dims» .entry)) (now («inserted_window_dims» .entry)) (now («scatter_dims_to_operand_dims» .entry)) «index_vector_dim»)) ⌝ }
+    ensures { λ _. ⌜ now (answer .exit) ≡ words (compileScatter (scatterFrom (now («index_extents» .entry)) (now («index_strides» .entry)) (now («updates_extents» .entry)) (now («updates_strides» .entry)) (now («dest_extents» .entry)) (now («dest_strides» .entry)) (now («update_window_dims» .entry)) (now («inserted_window_dims» .entry)) (now («scatter_dims_to_operand_dims» .entry)) «index_vector_dim»)) ⌝ }
 {
     let r = scatter_checks::scatter_refusal(
         index_extents,
@@ -98,7 +95,6 @@ pub extern "C" fn strided_scatter_refusal(
         inserted_window_dims,
         scatter_dims_to_operand_dims,
         index_vector_dim,
-        true,
     );
     *answer = words_of(r);
 }
@@ -131,9 +127,9 @@ pub extern "C" fn strided_raw_gather_i32(
     dest: &mut [i32],
     answer: &mut [u64; 3],
 )
-    ensures { λ _. ⌜ HandedBack (pos 0) (compiledGather true (gathers.gatherFrom (now («operand_extents» .entry)) (now («operand_strides» .entry)) (now («index_extents» .entry)) (now («index_strides» .entry)) (now («dest_extents» .entry)) (now («dest_strides» .entry)) (now («offset_dims» .entry)) (now («collapsed_slice_dims» .entry)) (now («start_index_map» .entry)) «index_vector_dim» (now («slice_sizes» .entry)))) (viewsFrom (now («operand_view_extents» .entry)) (now («operand_view_strides» .entry)) «operand_offset» (now («index_view_extents» .entry)) (now («index_view_strides» .entry)) «index_offset» (now («dest_view_extents» .entry)) (now («dest_view_strides» .entry)) «dest_offset») (now (operand .entry)) (now (starts .entry)) (now (dest .entry)) (now (dest .exit)) (now (answer .exit)) ⌝ }
+    ensures { λ _. ⌜ Gathers (pos 0) words (gathers.byLists (gatherFrom (now («operand_extents» .entry)) (now («operand_strides» .entry)) (now («index_extents» .entry)) (now («index_strides» .entry)) (now («dest_extents» .entry)) (now («dest_strides» .entry)) (now («offset_dims» .entry)) (now («collapsed_slice_dims» .entry)) (now («start_index_map» .entry)) «index_vector_dim» (now («slice_sizes» .entry))) (viewWith (now («operand_view_extents» .entry)) (now («operand_view_strides» .entry)) «operand_offset») (viewWith (now («index_view_extents» .entry)) (now («index_view_strides» .entry)) «index_offset») (viewWith (now («dest_view_extents» .entry)) (now («dest_view_strides» .entry)) «dest_offset») (now (starts .entry))) (now (operand .entry)) (now (dest .entry)) (now (dest .exit)) (now (answer .exit)) ⌝ }
 {
-    let r = raw_calls::gather_i32(
+    let p = gather_lists::prepare_views(
         operand_extents,
         operand_strides,
         index_extents,
@@ -154,10 +150,11 @@ pub extern "C" fn strided_raw_gather_i32(
         dest_view_extents,
         dest_view_strides,
         dest_offset,
-        operand,
-        starts,
-        dest,
+        operand.len(),
+        starts.len(),
+        dest.len(),
     );
+    let r = gather_move::move_i32(p, operand, starts, dest);
     *answer = words_of(r);
 }
 
@@ -189,9 +186,9 @@ pub extern "C" fn strided_raw_gather_f64(
     dest: &mut [f64],
     answer: &mut [u64; 3],
 )
-    ensures { λ _. ⌜ HandedBack nan (compiledGather true (gathers.gatherFrom (now («operand_extents» .entry)) (now («operand_strides» .entry)) (now («index_extents» .entry)) (now («index_strides» .entry)) (now («dest_extents» .entry)) (now («dest_strides» .entry)) (now («offset_dims» .entry)) (now («collapsed_slice_dims» .entry)) (now («start_index_map» .entry)) «index_vector_dim» (now («slice_sizes» .entry)))) (viewsFrom (now («operand_view_extents» .entry)) (now («operand_view_strides» .entry)) «operand_offset» (now («index_view_extents» .entry)) (now («index_view_strides» .entry)) «index_offset» (now («dest_view_extents» .entry)) (now («dest_view_strides» .entry)) «dest_offset») (now (operand .entry)) (now (starts .entry)) (now (dest .entry)) (now (dest .exit)) (now (answer .exit)) ⌝ }
+    ensures { λ _. ⌜ Gathers nan words (gathers.byLists (gatherFrom (now («operand_extents» .entry)) (now («operand_strides» .entry)) (now («index_extents» .entry)) (now («index_strides» .entry)) (now («dest_extents» .entry)) (now («dest_strides» .entry)) (now («offset_dims» .entry)) (now («collapsed_slice_dims» .entry)) (now («start_index_map» .entry)) «index_vector_dim» (now («slice_sizes» .entry))) (viewWith (now («operand_view_extents» .entry)) (now («operand_view_strides» .entry)) «operand_offset») (viewWith (now («index_view_extents» .entry)) (now («index_view_strides» .entry)) «index_offset») (viewWith (now («dest_view_extents» .entry)) (now («dest_view_strides» .entry)) «dest_offset») (now (starts .entry))) (now (operand .entry)) (now (dest .entry)) (now (dest .exit)) (now (answer .exit)) ⌝ }
 {
-    let r = raw_calls::gather_f64(
+    let p = gather_lists::prepare_views(
         operand_extents,
         operand_strides,
         index_extents,
@@ -212,10 +209,11 @@ pub extern "C" fn strided_raw_gather_f64(
         dest_view_extents,
         dest_view_strides,
         dest_offset,
-        operand,
-        starts,
-        dest,
+        operand.len(),
+        starts.len(),
+        dest.len(),
     );
+    let r = gather_move::move_f64(p, operand, starts, dest);
     *answer = words_of(r);
 }
 
@@ -246,9 +244,9 @@ pub extern "C" fn strided_raw_scatter_i32(
     dest: &mut [i32],
     answer: &mut [u64; 3],
 )
-    ensures { λ _. ⌜ ScatterHandedBack scatteredI32 (compiledScatter true (scatters.scatterFrom (now («index_extents» .entry)) (now («index_strides» .entry)) (now («updates_extents» .entry)) (now («updates_strides» .entry)) (now («dest_extents» .entry)) (now («dest_strides» .entry)) (now («update_window_dims» .entry)) (now («inserted_window_dims» .entry)) (now («scatter_dims_to_operand_dims» .entry)) «index_vector_dim»)) (viewsFrom (now («index_view_extents» .entry)) (now («index_view_strides» .entry)) «index_offset» (now («updates_view_extents» .entry)) (now («updates_view_strides» .entry)) «updates_offset» (now («dest_view_extents» .entry)) (now («dest_view_strides» .entry)) «dest_offset») (now (starts .entry)) (now (updates .entry)) (now (dest .entry)) (now (dest .exit)) (now (answer .exit)) ⌝ }
+    ensures { λ _. ⌜ Scatters (pos 0) addI32 words (scatters.byLists (scatterFrom (now («index_extents» .entry)) (now («index_strides» .entry)) (now («updates_extents» .entry)) (now («updates_strides» .entry)) (now («dest_extents» .entry)) (now («dest_strides» .entry)) (now («update_window_dims» .entry)) (now («inserted_window_dims» .entry)) (now («scatter_dims_to_operand_dims» .entry)) «index_vector_dim») (viewWith (now («index_view_extents» .entry)) (now («index_view_strides» .entry)) «index_offset») (viewWith (now («updates_view_extents» .entry)) (now («updates_view_strides» .entry)) «updates_offset») (viewWith (now («dest_view_extents» .entry)) (now («dest_view_strides» .entry)) «dest_offset») (now (starts .entry)) (now (updates .entry))) (now (dest .entry)) (now (dest .exit)) (now (answer .exit)) ⌝ }
 {
-    let r = raw_calls::scatter_i32(
+    let p = scatter_lists::prepare_views(
         index_extents,
         index_strides,
         updates_extents,
@@ -268,10 +266,11 @@ pub extern "C" fn strided_raw_scatter_i32(
         dest_view_extents,
         dest_view_strides,
         dest_offset,
-        starts,
-        updates,
-        dest,
+        starts.len(),
+        updates.len(),
+        dest.len(),
     );
+    let r = scatter_move::move_i32(Rule::Add, p, starts, updates, dest);
     *answer = words_of(r);
 }
 
@@ -302,9 +301,9 @@ pub extern "C" fn strided_raw_scatter_f64(
     dest: &mut [f64],
     answer: &mut [u64; 3],
 )
-    ensures { λ _. ⌜ ScatterHandedBack scatteredF64 (compiledScatter true (scatters.scatterFrom (now («index_extents» .entry)) (now («index_strides» .entry)) (now («updates_extents» .entry)) (now («updates_strides» .entry)) (now («dest_extents» .entry)) (now («dest_strides» .entry)) (now («update_window_dims» .entry)) (now («inserted_window_dims» .entry)) (now («scatter_dims_to_operand_dims» .entry)) «index_vector_dim»)) (viewsFrom (now («index_view_extents» .entry)) (now («index_view_strides» .entry)) «index_offset» (now («updates_view_extents» .entry)) (now («updates_view_strides» .entry)) «updates_offset» (now («dest_view_extents» .entry)) (now («dest_view_strides» .entry)) «dest_offset») (now (starts .entry)) (now (updates .entry)) (now (dest .entry)) (now (dest .exit)) (now (answer .exit)) ⌝ }
+    ensures { λ _. ⌜ Scatters nan addF64 words (scatters.byLists (scatterFrom (now («index_extents» .entry)) (now («index_strides» .entry)) (now («updates_extents» .entry)) (now («updates_strides» .entry)) (now («dest_extents» .entry)) (now («dest_strides» .entry)) (now («update_window_dims» .entry)) (now («inserted_window_dims» .entry)) (now («scatter_dims_to_operand_dims» .entry)) «index_vector_dim») (viewWith (now («index_view_extents» .entry)) (now («index_view_strides» .entry)) «index_offset») (viewWith (now («updates_view_extents» .entry)) (now («updates_view_strides» .entry)) «updates_offset») (viewWith (now («dest_view_extents» .entry)) (now («dest_view_strides» .entry)) «dest_offset») (now (starts .entry)) (now (updates .entry))) (now (dest .entry)) (now (dest .exit)) (now (answer .exit)) ⌝ }
 {
-    let r = raw_calls::scatter_f64(
+    let p = scatter_lists::prepare_views(
         index_extents,
         index_strides,
         updates_extents,
@@ -324,10 +323,11 @@ pub extern "C" fn strided_raw_scatter_f64(
         dest_view_extents,
         dest_view_strides,
         dest_offset,
-        starts,
-        updates,
-        dest,
+        starts.len(),
+        updates.len(),
+        dest.len(),
     );
+    let r = scatter_move::move_f64(Rule::Add, p, starts, updates, dest);
     *answer = words_of(r);
 }
 
@@ -482,11 +482,17 @@ pub extern "C" fn strided_gather_i32(
     destination: &mut [i32],
     answer: &mut [u64; 3],
 )
-    ensures { λ _. ⌜ Handed (GatherRun (pos 0) (openedGather E.I32 (now (job .entry))) (now (operand .entry)) (now (starts .entry)) (now (destination .entry)) (now (destination .exit))) (now (answer .exit)) ⌝ }
+    ensures { λ _. ⌜ Gathers (pos 0) words (gatherByJob E.I32 (now (job .entry)) (now (starts .entry))) (now (operand .entry)) (now (dest .entry)) (now (dest .exit)) (now (answer .exit)) ⌝ }
 {
-    let r = job_runs::run_gather_i32(job, operand, starts, destination);
-    let x = r.answer;
-    *answer = words_of(x);
+    let p = job_calls::prepare_gather(
+        job,
+        Element::I32,
+        operand.len(),
+        starts.len(),
+        dest.len(),
+    );
+    let r = gather_move::move_i32(p, operand, starts, dest);
+    *answer = words_of(r);
 }
 
 // A stored gather of f64, read, compiled and called. The answer as number, a, b: 10 5 0 and 10 6 0 also for a job that is no gather or
@@ -499,11 +505,17 @@ pub extern "C" fn strided_gather_f64(
     destination: &mut [f64],
     answer: &mut [u64; 3],
 )
-    ensures { λ _. ⌜ Handed (GatherRun nan (openedGather E.F64 (now (job .entry))) (now (operand .entry)) (now (starts .entry)) (now (destination .entry)) (now (destination .exit))) (now (answer .exit)) ⌝ }
+    ensures { λ _. ⌜ Gathers nan words (gatherByJob E.F64 (now (job .entry)) (now (starts .entry))) (now (operand .entry)) (now (dest .entry)) (now (dest .exit)) (now (answer .exit)) ⌝ }
 {
-    let r = job_runs::run_gather_f64(job, operand, starts, destination);
-    let x = r.answer;
-    *answer = words_of(x);
+    let p = job_calls::prepare_gather(
+        job,
+        Element::F64,
+        operand.len(),
+        starts.len(),
+        dest.len(),
+    );
+    let r = gather_move::move_f64(p, operand, starts, dest);
+    *answer = words_of(r);
 }
 
 // A stored scatter of i32, read, compiled and called. The answer as number, a, b: 10 5 0 and 10 6 0 also for a job that is no scatter or
@@ -516,11 +528,17 @@ pub extern "C" fn strided_scatter_i32(
     destination: &mut [i32],
     answer: &mut [u64; 3],
 )
-    ensures { λ _. ⌜ Handed (ScatterRun scatteredI32 (openedScatter E.I32 (now (job .entry))) (now (starts .entry)) (now (updates .entry)) (now (destination .entry)) (now (destination .exit))) (now (answer .exit)) ⌝ }
+    ensures { λ _. ⌜ Scatters (pos 0) addI32 words (scatterByJob E.I32 (now (job .entry)) (now (starts .entry)) (now (updates .entry))) (now (dest .entry)) (now (dest .exit)) (now (answer .exit)) ⌝ }
 {
-    let r = job_runs::run_scatter_i32(job, starts, updates, destination);
-    let x = r.answer;
-    *answer = words_of(x);
+    let p = job_calls::prepare_scatter(
+        job,
+        Element::I32,
+        starts.len(),
+        updates.len(),
+        dest.len(),
+    );
+    let r = scatter_move::move_i32(Rule::Add, p, starts, updates, dest);
+    *answer = words_of(r);
 }
 
 // A stored scatter of f64, read, compiled and called. The answer as number, a, b: 10 5 0 and 10 6 0 also for a job that is no scatter or
@@ -533,9 +551,15 @@ pub extern "C" fn strided_scatter_f64(
     destination: &mut [f64],
     answer: &mut [u64; 3],
 )
-    ensures { λ _. ⌜ Handed (ScatterRun scatteredF64 (openedScatter E.F64 (now (job .entry))) (now (starts .entry)) (now (updates .entry)) (now (destination .entry)) (now (destination .exit))) (now (answer .exit)) ⌝ }
+    ensures { λ _. ⌜ Scatters nan addF64 words (scatterByJob E.F64 (now (job .entry)) (now (starts .entry)) (now (updates .entry))) (now (dest .entry)) (now (dest .exit)) (now (answer .exit)) ⌝ }
 {
-    let r = job_runs::run_scatter_f64(job, starts, updates, destination);
-    let x = r.answer;
-    *answer = words_of(x);
+    let p = job_calls::prepare_scatter(
+        job,
+        Element::F64,
+        starts.len(),
+        updates.len(),
+        dest.len(),
+    );
+    let r = scatter_move::move_f64(Rule::Add, p, starts, updates, dest);
+    *answer = words_of(r);
 }

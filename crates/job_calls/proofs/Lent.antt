@@ -1,0 +1,71 @@
+-- What a call by a stored job decides. Assumes nothing.
+use mathlib.Core.Path.{_≡_, refl, sym, ap, subst, _∙_}
+use mathlib.Core.Bool.{Bool, true, false, cond, true≢false}
+use mathlib.Core.List.{List}
+use Prim.Native.Nat.{ℕ, _-_, _≤_, min}
+use native.Mathlib.Omega.{arith}
+use lib.ListN.{length, take, drop}
+use lib.IntN.{ℤ}
+use Rattle.indexing.specs.Gather.{Gather}
+use Rattle.indexing.specs.Scatter.{Scatter}
+use Rattle.layout.specs.declared.Answer.{Answer}
+use Rattle.layout.specs.declared.Answer.the-variants as A
+use Rattle.layout.specs.Answers.{isDone, orElse}
+use Rattle.layout.specs.Layouts.{rankLimit}
+use Rattle.spans.proofs.Parts as P
+use Rattle.checks.proofs.Held.{never}
+use Rattle.job.specs.declared.Element.{Element}
+use Rattle.job.specs.declared.Kind.the-variants as K
+use Rattle.job_bytes.specs.Version.{listLimit}
+use Rattle.job_reader.specs.declared.ReadJob.{ReadJob}
+use Rattle.gather_lists.specs.Lists as gathers
+use Rattle.gather_move.specs.Prepared as gather-prepared
+use Rattle.gather_move.specs.declared.PreparedGather.{PreparedGather}
+use Rattle.scatter_lists.specs.Lists as scatters
+use Rattle.scatter_move.specs.Prepared as scatter-prepared
+use Rattle.scatter_move.specs.declared.PreparedScatter.{PreparedScatter}
+use Rattle.job_calls.specs.Jobs.{readRefusal, heldGather, heldScatter, jobGather, jobScatter, gatherAnswer, scatterAnswer}
+
+-- ---- parts of arrays
+pub axes-fit : {A : Type 0} (n k : ℕ) (xs : List A) → n ≡ min k rankLimit → length xs ≡ rankLimit → n ≤ length xs
+axes-fit n k xs e f = P.part-fits n k rankLimit xs e f
+
+pub axes-read : {A : Type 0} (n k : ℕ) (xs : List A) → n ≡ min k rankLimit → length xs ≡ rankLimit → take (n - 0) (drop 0 xs) ≡ take k xs
+axes-read n k xs e f = P.part-read n k rankLimit xs e f
+
+pub list-fits : {A : Type 0} (n k : ℕ) (xs : List A) → n ≡ min k listLimit → length xs ≡ listLimit → n ≤ length xs
+list-fits n k xs e f = P.part-fits n k listLimit xs e f
+
+pub list-read : {A : Type 0} (n k : ℕ) (xs : List A) → n ≡ min k listLimit → length xs ≡ listLimit → take (n - 0) (drop 0 xs) ≡ take k xs
+list-read n k xs e f = P.part-read n k listLimit xs e f
+
+-- ---- the same lists
+pub gather-listed : {g h : Gather} (r : PreparedGather) (a b c : ℤ) (on sn dn : ℕ) → g ≡ h → gathers.ListedAt r g a b c on sn dn → gathers.ListedAt r h a b c on sn dn
+gather-listed r a b c on sn dn e p = subst (λ (x : Gather). gathers.ListedAt r x a b c on sn dn) e p
+
+pub scatter-listed : {s h : Scatter} (r : PreparedScatter) (a b c : ℤ) (sn un dn : ℕ) → s ≡ h → scatters.ListedAt r s a b c sn un dn → scatters.ListedAt r h a b c sn un dn
+scatter-listed r a b c sn un dn e p = subst (λ (x : Scatter). scatters.ListedAt r x a b c sn un dn) e p
+
+-- ---- the reader's refusal first
+module _ (e : Element) (j : ReadJob) (on sn dn : ℕ) where
+  pub gather-refused : {x : Answer} (r : PreparedGather) → x ≡ readRefusal K.Gather e j → isDone x ≡ false → r .answer ≡ x → gather-prepared.Prepares r (gatherAnswer e j on sn dn) (jobGather (j .job)) on sn dn
+  gather-refused r f n k =
+      let s : isDone (readRefusal K.Gather e j) ≡ false = ap isDone (sym f) ∙ n in
+      let l : gatherAnswer e j on sn dn ≡ readRefusal K.Gather e j = ap (λ (t : Bool). cond t (gathers.listsAnswer (heldGather (j .job)) (jobGather (j .job)) on sn dn) (readRefusal K.Gather e j)) s in
+      record { answered = k ∙ f ∙ sym l; ready = λ d. never (sym d ∙ ap isDone l ∙ s) }
+
+  pub gather-read : {x : Answer} (r : PreparedGather) → x ≡ readRefusal K.Gather e j → isDone x ≡ true → gather-prepared.Prepares r (gathers.listsAnswer (heldGather (j .job)) (jobGather (j .job)) on sn dn) (jobGather (j .job)) on sn dn → gather-prepared.Prepares r (gatherAnswer e j on sn dn) (jobGather (j .job)) on sn dn
+  gather-read r f n p =
+      let l : gatherAnswer e j on sn dn ≡ gathers.listsAnswer (heldGather (j .job)) (jobGather (j .job)) on sn dn = ap (λ (t : Bool). cond t (gathers.listsAnswer (heldGather (j .job)) (jobGather (j .job)) on sn dn) (readRefusal K.Gather e j)) (ap isDone (sym f) ∙ n) in
+      record { answered = p .answered ∙ sym l; ready = λ d. p .ready (ap isDone (sym l) ∙ d) }
+
+  pub scatter-refused : {x : Answer} (r : PreparedScatter) → x ≡ readRefusal K.Scatter e j → isDone x ≡ false → r .answer ≡ x → scatter-prepared.Prepares r (scatterAnswer e j on sn dn) (jobScatter (j .job)) on sn dn
+  scatter-refused r f n k =
+      let s : isDone (readRefusal K.Scatter e j) ≡ false = ap isDone (sym f) ∙ n in
+      let l : scatterAnswer e j on sn dn ≡ readRefusal K.Scatter e j = ap (λ (t : Bool). cond t (scatters.listsAnswer (heldScatter (j .job)) (jobScatter (j .job)) on sn dn) (readRefusal K.Scatter e j)) s in
+      record { answered = k ∙ f ∙ sym l; ready = λ d. never (sym d ∙ ap isDone l ∙ s) }
+
+  pub scatter-read : {x : Answer} (r : PreparedScatter) → x ≡ readRefusal K.Scatter e j → isDone x ≡ true → scatter-prepared.Prepares r (scatters.listsAnswer (heldScatter (j .job)) (jobScatter (j .job)) on sn dn) (jobScatter (j .job)) on sn dn → scatter-prepared.Prepares r (scatterAnswer e j on sn dn) (jobScatter (j .job)) on sn dn
+  scatter-read r f n p =
+      let l : scatterAnswer e j on sn dn ≡ scatters.listsAnswer (heldScatter (j .job)) (jobScatter (j .job)) on sn dn = ap (λ (t : Bool). cond t (scatters.listsAnswer (heldScatter (j .job)) (jobScatter (j .job)) on sn dn) (readRefusal K.Scatter e j)) (ap isDone (sym f) ∙ n) in
+      record { answered = p .answered ∙ sym l; ready = λ d. p .ready (ap isDone (sym l) ∙ d) }

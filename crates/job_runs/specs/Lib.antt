@@ -1,2 +1,0 @@
--- A stored job read, compiled and called.
-pub mod Runs

@@ -1,0 +1,63 @@
+-- Demand 3: two scatters on one grid, and a gather beside a scatter, as claims about runs from beginning to end. The grid is a whole lent slice of i32,
+-- and each ship's scatter, document 01's North and South, is a scatter call. What is handed back is the answer as `says` puts it. Definitions only.
+use mathlib.Core.Path.{_≡_}
+use mathlib.Core.Bool.{true, cond}
+use mathlib.Core.List.{List, [], _++_}
+use Prim.Native.Nat.{ℕ, _<_}
+use lib.ListN.{length, getD}
+use lib.IntN.{ℤ, pos, _+ℤ_}
+use mir.Syntax.{w32}
+use mir.Val.{SFits}
+use Rattle.integer.specs.Defs.{wrap32}
+use Rattle.indexing.specs.Gather.{gathered}
+use Rattle.indexing.specs.Scatter.{Cut, cuts, combined, landing, addI32}
+use Rattle.indexing.specs.Sums.{total, added}
+use Rattle.indexing.specs.Demand3.{Unseen}
+use Rattle.layout.specs.declared.Answer.{Answer}
+use Rattle.layout.specs.Answers.{isDone}
+use Rattle.calls.specs.Calls.{GatherCall, ScatterCall}
+
+-- the updates of a call with the places that they land on
+abbrev pub updatesOf : ScatterCall ℤ → List (Cut ℤ)
+updatesOf c = cuts (pos 0) (c .scatter) (c .starts) (c .updates)
+
+-- what it puts on a grid of n elements: "Accepted means that the call meets no refusal, so it is done"; a refused call puts nothing. Its answer looks at
+-- plan, layouts, offsets and lengths, and at no element
+abbrev pub putBy : ScatterCall ℤ → ℕ → List (Cut ℤ)
+putBy c n = cond (isDone (c .answer n)) (updatesOf c) []
+
+-- a grid with these put on it, in order
+abbrev pub putOn : List (Cut ℤ) → List ℤ → List ℤ
+putOn us grid = combined addI32 (pos 0) us grid
+
+-- TWO SHIPS, ONE GRID: North and then South on the grid `one`, South and then North on the grid `other`, which held `grid` and `grid′` before
+pub record EitherOrder {B : Type 0} (says : Answer → B) (north south : ScatterCall ℤ) (grid grid′ one other : List ℤ) (a b c d : B) : Type 0 where
+  -- the four answers, and the two grids, are those of the runs
+  pub north-first : a ≡ says (north .answer (length grid))
+  pub south-second : b ≡ says (south .answer (length grid))
+  pub south-first : c ≡ says (south .answer (length grid′))
+  pub north-second : d ≡ says (north .answer (length grid′))
+  pub one-left : one ≡ putOn (putBy south (length grid)) (putOn (putBy north (length grid)) grid)
+  pub other-left : other ≡ putOn (putBy north (length grid′)) (putOn (putBy south (length grid′)) grid′)
+  -- if the grids are equal at entry, each ship is handed back the same in both orders,
+  pub same-answers : grid ≡ grid′ → (a ≡ d) × (c ≡ b)
+  -- and the grids are equal at the end
+  pub same-grids : grid ≡ grid′ → one ≡ other
+  -- every cell is its old value plus, modulo 2^32, every update of either that lands on it; a cell that nothing lands on keeps its value
+  pub each-cell : (i : ℕ) → i < length grid → getD one i (pos 0) ≡ added (getD grid i (pos 0)) (landing (pos i) (putBy north (length grid)) ++ landing (pos i) (putBy south (length grid)))
+  -- both accepted, and the cell an i32: the sum written out
+  pub each-sum : isDone (north .answer (length grid)) ≡ true → isDone (south .answer (length grid)) ≡ true → (i : ℕ) → i < length grid → SFits w32 (getD grid i (pos 0))
+      → getD one i (pos 0) ≡ wrap32 (getD grid i (pos 0) +ℤ (total (landing (pos i) (updatesOf north)) +ℤ total (landing (pos i) (updatesOf south))))
+
+-- A GATHER BESIDE A SCATTER: one gather from the grid as it stands, South's scatter on that grid, and the same gather again, into `into` and `into′`,
+-- which then hold `one` and `other`; the grid, `grid` before, is `after`
+pub record GatherBeside {B : Type 0} (says : Answer → B) (g : GatherCall) (south : ScatterCall ℤ) (grid after into into′ one other : List ℤ) (a b c : B) : Type 0 where
+  -- the three runs
+  pub before-answer : a ≡ says (g .answer (length grid) (length into))
+  pub south-answer : b ≡ says (south .answer (length grid))
+  pub after-answer : c ≡ says (g .answer (length grid) (length into′))
+  pub one-left : one ≡ cond (isDone (g .answer (length grid) (length into))) (gathered (pos 0) (g .gather) (g .starts) grid into) into
+  pub grid-left : after ≡ putOn (putBy south (length grid)) grid
+  pub other-left : other ≡ cond (isDone (g .answer (length grid) (length into′))) (gathered (pos 0) (g .gather) (g .starts) after into′) into′
+  -- if South, where it is accepted, lands on no element that the gather reads, the gather hands back the same and the destinations are equal, as whole slices
+  pub same : into ≡ into′ → (isDone (south .answer (length grid)) ≡ true → Unseen (g .gather) (g .starts) (south .scatter) (south .starts)) → (a ≡ c) × (one ≡ other)

@@ -1,3 +1,0 @@
-pub mod Others
-pub mod Lent
-pub mod LentScatters
