@@ -15,6 +15,7 @@ use Rattle.layout.specs.Layouts.{rankLimit}
 use Rattle.spans.proofs.Parts as P
 use Rattle.checks.proofs.Held.{never}
 use Rattle.job.specs.declared.Element.{Element}
+use Rattle.job.specs.declared.Kind.{Kind}
 use Rattle.job.specs.declared.Kind.the-variants as K
 use Rattle.job_bytes.specs.Version.{listLimit}
 use Rattle.job_reader.specs.declared.ReadJob.{ReadJob}
@@ -24,7 +25,7 @@ use Rattle.gather_move.specs.declared.PreparedGather.{PreparedGather}
 use Rattle.scatter_lists.specs.Lists as scatters
 use Rattle.scatter_move.specs.Prepared as scatter-prepared
 use Rattle.scatter_move.specs.declared.PreparedScatter.{PreparedScatter}
-use Rattle.job_calls.specs.Jobs.{readRefusal, heldGather, heldScatter, jobGather, jobScatter, gatherAnswer, scatterAnswer}
+use Rattle.job_calls.specs.Jobs.{kindAnswer, elementAnswer, readRefusal, heldGather, heldScatter, jobGather, jobScatter, gatherAnswer, scatterAnswer}
 
 -- ---- parts of arrays
 pub axes-fit : {A : Type 0} (n k : ℕ) (xs : List A) → n ≡ min k rankLimit → length xs ≡ rankLimit → n ≤ length xs
@@ -47,25 +48,39 @@ pub scatter-listed : {s h : Scatter} (r : PreparedScatter) (a b c : ℤ) (sn un 
 scatter-listed r a b c sn un dn e p = subst (λ (x : Scatter). scatters.ListedAt r x a b c sn un dn) e p
 
 -- ---- the reader's refusal first
-module _ (e : Element) (j : ReadJob) (on sn dn : ℕ) where
-  pub gather-refused : {x : Answer} (r : PreparedGather) → x ≡ readRefusal K.Gather e j → isDone x ≡ false → r .answer ≡ x → gather-prepared.Prepares r (gatherAnswer e j on sn dn) (jobGather (j .job)) on sn dn
-  gather-refused r f n k =
+pub first-refusals : (k : Kind) (e : Element) (j : ReadJob) {a b x y : Answer} → x ≡ orElse (j .answer) y → y ≡ orElse a b → a ≡ kindAnswer (j .job .kind) k → b ≡ elementAnswer (j .job .element) e → x ≡ readRefusal k e j
+first-refusals k e j f g h l = f ∙ ap (orElse (j .answer)) (g ∙ (λ i. orElse (h i) (l i)))
+
+-- an answer after a refusal, and one after none
+halts : (x y : Answer) → isDone x ≡ false → orElse x y ≡ x
+halts x y n = ap (λ (t : Bool). cond t y x) n
+
+goes-on : (x y : Answer) → isDone x ≡ true → orElse x y ≡ y
+goes-on x y n = ap (λ (t : Bool). cond t y x) n
+
+module _ (e : Element) {j k : ReadJob} (same : j ≡ k) (on sn dn : ℕ) where
+  pub gather-refused : {x : Answer} (r : PreparedGather) → x ≡ readRefusal K.Gather e j → isDone x ≡ false → r .answer ≡ x → gather-prepared.Prepares r (gatherAnswer e k on sn dn) (jobGather (k .job)) on sn dn
+  gather-refused r f n a =
       let s : isDone (readRefusal K.Gather e j) ≡ false = ap isDone (sym f) ∙ n in
-      let l : gatherAnswer e j on sn dn ≡ readRefusal K.Gather e j = ap (λ (t : Bool). cond t (gathers.listsAnswer (heldGather (j .job)) (jobGather (j .job)) on sn dn) (readRefusal K.Gather e j)) s in
-      record { answered = k ∙ f ∙ sym l; ready = λ d. never (sym d ∙ ap isDone l ∙ s) }
+      let l = halts (readRefusal K.Gather e j) (gathers.listsAnswer (heldGather (j .job)) (jobGather (j .job)) on sn dn) s in
+      subst (λ (q : ReadJob). gather-prepared.Prepares r (gatherAnswer e q on sn dn) (jobGather (q .job)) on sn dn) same
+      (record { answered = a ∙ f ∙ sym l; ready = λ d. never (sym d ∙ ap isDone l ∙ s) })
 
-  pub gather-read : {x : Answer} (r : PreparedGather) → x ≡ readRefusal K.Gather e j → isDone x ≡ true → gather-prepared.Prepares r (gathers.listsAnswer (heldGather (j .job)) (jobGather (j .job)) on sn dn) (jobGather (j .job)) on sn dn → gather-prepared.Prepares r (gatherAnswer e j on sn dn) (jobGather (j .job)) on sn dn
+  pub gather-read : {x : Answer} (r : PreparedGather) → x ≡ readRefusal K.Gather e j → isDone x ≡ true → gather-prepared.Prepares r (gathers.listsAnswer (heldGather (j .job)) (jobGather (j .job)) on sn dn) (jobGather (j .job)) on sn dn → gather-prepared.Prepares r (gatherAnswer e k on sn dn) (jobGather (k .job)) on sn dn
   gather-read r f n p =
-      let l : gatherAnswer e j on sn dn ≡ gathers.listsAnswer (heldGather (j .job)) (jobGather (j .job)) on sn dn = ap (λ (t : Bool). cond t (gathers.listsAnswer (heldGather (j .job)) (jobGather (j .job)) on sn dn) (readRefusal K.Gather e j)) (ap isDone (sym f) ∙ n) in
-      record { answered = p .answered ∙ sym l; ready = λ d. p .ready (ap isDone (sym l) ∙ d) }
+      let l = goes-on (readRefusal K.Gather e j) (gathers.listsAnswer (heldGather (j .job)) (jobGather (j .job)) on sn dn) (ap isDone (sym f) ∙ n) in
+      subst (λ (q : ReadJob). gather-prepared.Prepares r (gatherAnswer e q on sn dn) (jobGather (q .job)) on sn dn) same
+      (record { answered = p .answered ∙ sym l; ready = λ d. p .ready (ap isDone (sym l) ∙ d) })
 
-  pub scatter-refused : {x : Answer} (r : PreparedScatter) → x ≡ readRefusal K.Scatter e j → isDone x ≡ false → r .answer ≡ x → scatter-prepared.Prepares r (scatterAnswer e j on sn dn) (jobScatter (j .job)) on sn dn
-  scatter-refused r f n k =
+  pub scatter-refused : {x : Answer} (r : PreparedScatter) → x ≡ readRefusal K.Scatter e j → isDone x ≡ false → r .answer ≡ x → scatter-prepared.Prepares r (scatterAnswer e k on sn dn) (jobScatter (k .job)) on sn dn
+  scatter-refused r f n a =
       let s : isDone (readRefusal K.Scatter e j) ≡ false = ap isDone (sym f) ∙ n in
-      let l : scatterAnswer e j on sn dn ≡ readRefusal K.Scatter e j = ap (λ (t : Bool). cond t (scatters.listsAnswer (heldScatter (j .job)) (jobScatter (j .job)) on sn dn) (readRefusal K.Scatter e j)) s in
-      record { answered = k ∙ f ∙ sym l; ready = λ d. never (sym d ∙ ap isDone l ∙ s) }
+      let l = halts (readRefusal K.Scatter e j) (scatters.listsAnswer (heldScatter (j .job)) (jobScatter (j .job)) on sn dn) s in
+      subst (λ (q : ReadJob). scatter-prepared.Prepares r (scatterAnswer e q on sn dn) (jobScatter (q .job)) on sn dn) same
+      (record { answered = a ∙ f ∙ sym l; ready = λ d. never (sym d ∙ ap isDone l ∙ s) })
 
-  pub scatter-read : {x : Answer} (r : PreparedScatter) → x ≡ readRefusal K.Scatter e j → isDone x ≡ true → scatter-prepared.Prepares r (scatters.listsAnswer (heldScatter (j .job)) (jobScatter (j .job)) on sn dn) (jobScatter (j .job)) on sn dn → scatter-prepared.Prepares r (scatterAnswer e j on sn dn) (jobScatter (j .job)) on sn dn
+  pub scatter-read : {x : Answer} (r : PreparedScatter) → x ≡ readRefusal K.Scatter e j → isDone x ≡ true → scatter-prepared.Prepares r (scatters.listsAnswer (heldScatter (j .job)) (jobScatter (j .job)) on sn dn) (jobScatter (j .job)) on sn dn → scatter-prepared.Prepares r (scatterAnswer e k on sn dn) (jobScatter (k .job)) on sn dn
   scatter-read r f n p =
-      let l : scatterAnswer e j on sn dn ≡ scatters.listsAnswer (heldScatter (j .job)) (jobScatter (j .job)) on sn dn = ap (λ (t : Bool). cond t (scatters.listsAnswer (heldScatter (j .job)) (jobScatter (j .job)) on sn dn) (readRefusal K.Scatter e j)) (ap isDone (sym f) ∙ n) in
-      record { answered = p .answered ∙ sym l; ready = λ d. p .ready (ap isDone (sym l) ∙ d) }
+      let l = goes-on (readRefusal K.Scatter e j) (scatters.listsAnswer (heldScatter (j .job)) (jobScatter (j .job)) on sn dn) (ap isDone (sym f) ∙ n) in
+      subst (λ (q : ReadJob). scatter-prepared.Prepares r (scatterAnswer e q on sn dn) (jobScatter (q .job)) on sn dn) same
+      (record { answered = p .answered ∙ sym l; ready = λ d. p .ready (ap isDone (sym l) ∙ d) })

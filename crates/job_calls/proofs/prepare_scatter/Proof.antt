@@ -1,55 +1,51 @@
+use mathlib.Core.Path.{sym, _∙_}
+use mir.Syntax.{w64}
+use mir.Val.{SFits}
+use borrow.Author.Tests.{not-true, not-false}
 use borrow.Author.Needs.{needs}
+use Rattle.integer.specs.Z.{back}
+use Rattle.job.specs.declared.Kind.the-variants as K
+use Rattle.job_calls.proofs.Lent.{first-refusals, scatter-refused, scatter-read}
 use Rattle.job_calls.proofs.prepare_scatter.Statement.{statement}
 use Rattle.job_calls.proofs.prepare_scatter.Tie as tie
-use Rattle.job_calls.proofs.prepare_scatter.Reads as reads
-use Rattle.job_calls.proofs.prepare_scatter.Lts as lts
-use Rattle.checks.proofs.or_else.Reads as or-else-reads
-use Rattle.job_calls.proofs.element_answer.Reads as element-answer-reads
-use Rattle.job_calls.proofs.kind_answer.Reads as kind-answer-reads
-use Rattle.job_calls.proofs.scatter_of.Reads as scatter-of-reads
-use Rattle.job_reader.proofs.read_job.Reads as read-job-reads
-use Rattle.layout.proofs.is_done.Reads as is-done-reads
-use Rattle.scatter_move.proofs.refused.Reads as refused-reads
 
--- src/lib.rt:227:9
 read-job-requires : tie.Need-read-job-requires
 read-job-requires c κs = search needs
 
--- src/lib.rt:234:9
 kind-answer-requires : tie.Need-kind-answer-requires
 kind-answer-requires c κs = search needs
 
--- src/lib.rt:235:9
 element-answer-requires : tie.Need-element-answer-requires
 element-answer-requires c κs = search needs
 
--- src/lib.rt:236:41
 or-else-requires : tie.Need-or-else-requires
 or-else-requires c κs = search needs
 
--- src/lib.rt:236:9
 or-else-requires-2 : tie.Need-or-else-requires-2
 or-else-requires-2 c κs = search needs
 
--- src/lib.rt:237:9
 is-done-requires : tie.Need-is-done-requires
 is-done-requires c κs = search needs
 
--- src/lib.rt:238:9
 refused-requires : tie.Need-refused-requires
 refused-requires c κs = search needs
 
--- src/lib.rt:238:9
 returns : tie.Need-returns
-returns c = ?
+returns c =
+    let s = c .before .before .before .before .before .before .before .before .before .before .before .before in
+    scatter-refused (s .args .element) (c .before .before .before .before .before .before .before .before .before .before .read-job .ensures) (s .args .starts-len) (s .args .updates-len) (s .args .dest-len) _ (first-refusals K.Scatter (s .args .element) (c .before .before .before .before .before .before .before .before .before .before .read-job .result) (c .before .before .before .or-else2 .ensures) (c .before .before .before .before .or-else .ensures) (c .before .before .before .before .before .before .kind-answer .ensures) (c .before .before .before .before .before .element-answer .ensures)) (sym (c .before .before .is-done .ensures) ∙ not-true _ (c .before .if1 .taken)) (c .refused .ensures)
 
--- src/lib.rt:246:5
 scatter-of-requires : tie.Need-scatter-of-requires
 scatter-of-requires c κs = search needs
 
--- src/lib.rt:218:1
 returns-2 : tie.Need-returns-2
-returns-2 c = ?
+returns-2 c =
+    let s = c .before .before .before .before .before .before .before .before .before .before .before .before .before .before .before .before .before .before .before .before .before in
+    let j = c .before .before .before .before .before .before .before .before .before .before .before .before .before .before .before .before .before .before .before .read-job .result .job .views in
+    let x : SFits w64 (j .first .offset) = search needs in
+    let y : SFits w64 (j .second .offset) = search needs in
+    let z : SFits w64 (j .third .offset) = search needs in
+    scatter-read (s .args .element) (c .before .before .before .before .before .before .before .before .before .before .before .before .before .before .before .before .before .before .before .read-job .ensures) (s .args .starts-len) (s .args .updates-len) (s .args .dest-len) _ (first-refusals K.Scatter (s .args .element) (c .before .before .before .before .before .before .before .before .before .before .before .before .before .before .before .before .before .before .before .read-job .result) (c .before .before .before .before .before .before .before .before .before .before .before .before .or-else2 .ensures) (c .before .before .before .before .before .before .before .before .before .before .before .before .before .or-else .ensures) (c .before .before .before .before .before .before .before .before .before .before .before .before .before .before .before .kind-answer .ensures) (c .before .before .before .before .before .before .before .before .before .before .before .before .before .before .element-answer .ensures)) (sym (c .before .before .before .before .before .before .before .before .before .before .before .is-done .ensures) ∙ not-false _ (c .before .before .before .before .before .before .before .before .before .before .if1 .left)) (simp (back x, back y, back z) at (c .scatter-of .ensures))
 
 pub prepare-scatter-spec : {M : Type 1} → statement M
 prepare-scatter-spec =
