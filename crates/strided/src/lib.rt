@@ -479,7 +479,7 @@ pub extern "C" fn strided_gather_i32(
     job: &[u8],
     operand: &[i32],
     starts: &[i64],
-    destination: &mut [i32],
+    dest: &mut [i32],
     answer: &mut [u64; 3],
 )
     ensures { λ _. ⌜ Gathers (pos 0) words (gatherByJob E.I32 (now (job .entry)) (now (starts .entry))) (now (operand .entry)) (now (dest .entry)) (now (dest .exit)) (now (answer .exit)) ⌝ }
@@ -502,7 +502,7 @@ pub extern "C" fn strided_gather_f64(
     job: &[u8],
     operand: &[f64],
     starts: &[i64],
-    destination: &mut [f64],
+    dest: &mut [f64],
     answer: &mut [u64; 3],
 )
     ensures { λ _. ⌜ Gathers nan words (gatherByJob E.F64 (now (job .entry)) (now (starts .entry))) (now (operand .entry)) (now (dest .entry)) (now (dest .exit)) (now (answer .exit)) ⌝ }
@@ -525,7 +525,7 @@ pub extern "C" fn strided_scatter_i32(
     job: &[u8],
     starts: &[i64],
     updates: &[i32],
-    destination: &mut [i32],
+    dest: &mut [i32],
     answer: &mut [u64; 3],
 )
     ensures { λ _. ⌜ Scatters (pos 0) addI32 words (scatterByJob E.I32 (now (job .entry)) (now (starts .entry)) (now (updates .entry))) (now (dest .entry)) (now (dest .exit)) (now (answer .exit)) ⌝ }
@@ -548,7 +548,7 @@ pub extern "C" fn strided_scatter_f64(
     job: &[u8],
     starts: &[i64],
     updates: &[f64],
-    destination: &mut [f64],
+    dest: &mut [f64],
     answer: &mut [u64; 3],
 )
     ensures { λ _. ⌜ Scatters nan addF64 words (scatterByJob E.F64 (now (job .entry)) (now (starts .entry)) (now (updates .entry))) (now (dest .entry)) (now (dest .exit)) (now (answer .exit)) ⌝ }
