@@ -22,7 +22,6 @@ fn compile(head: &[u8], words: &[u64], numbers: &[i64]) -> CompiledGather {
         list(words, head, 8),
         packed::word_at(words, packed::VECTOR_AXIS),
         list(words, head, 9),
-        true,
     )
 }
 

@@ -21,7 +21,6 @@ fn compile(head: &[u8], words: &[u64], numbers: &[i64]) -> CompiledScatter {
         list(words, head, 7),
         list(words, head, 8),
         packed::word_at(words, packed::VECTOR_AXIS),
-        true,
     )
 }
 

@@ -3,10 +3,10 @@ use lib.IntN.{negsuc}
 use lib.Signed.{_<ℤ_, ltZ-yes}
 use Rattle.integer.specs.Z.{znorm, zflat, known, back, holds}
 use borrow.Author.Needs.{needs}
-use Rattle.plan_forging.proofs.one_less.Statement.{statement}
-use Rattle.plan_forging.proofs.one_less.Tie as tie
-use Rattle.plan_forging.proofs.one_less.Reads as reads
-use Rattle.plan_forging.proofs.one_less.Lts as lts
+use Rattle.changed_plans.proofs.one_less.Statement.{statement}
+use Rattle.changed_plans.proofs.one_less.Tie as tie
+use Rattle.changed_plans.proofs.one_less.Reads as reads
+use Rattle.changed_plans.proofs.one_less.Lts as lts
 
 above : (c : tie.Then1) → negsuc 9223372036854775807 <ℤ (c .before .args .n)
 above c = ltZ-yes (holds (rw (back (c .before .fits .n)) at (c .if1 .taken)))

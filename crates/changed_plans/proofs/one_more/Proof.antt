@@ -3,10 +3,10 @@ use lib.IntN.{pos}
 use lib.Signed.{_<ℤ_, ltZ-yes}
 use Rattle.integer.specs.Z.{znorm, zflat, known, back, holds}
 use borrow.Author.Needs.{needs}
-use Rattle.plan_forging.proofs.one_more.Statement.{statement}
-use Rattle.plan_forging.proofs.one_more.Tie as tie
-use Rattle.plan_forging.proofs.one_more.Reads as reads
-use Rattle.plan_forging.proofs.one_more.Lts as lts
+use Rattle.changed_plans.proofs.one_more.Statement.{statement}
+use Rattle.changed_plans.proofs.one_more.Tie as tie
+use Rattle.changed_plans.proofs.one_more.Reads as reads
+use Rattle.changed_plans.proofs.one_more.Lts as lts
 
 below : (c : tie.Then1) → (c .before .args .n) <ℤ pos 9223372036854775807
 below c = ltZ-yes (holds (rw (back (c .before .fits .n)) at (c .if1 .taken)))

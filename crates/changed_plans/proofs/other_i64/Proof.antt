@@ -1,12 +1,12 @@
 use native.Mathlib.Omega.{arith}
 use Rattle.integer.specs.Z.{znorm, zflat, known, back}
 use borrow.Author.Needs.{needs}
-use Rattle.plan_forging.proofs.other_i64.Statement.{statement}
-use Rattle.plan_forging.proofs.other_i64.Tie as tie
-use Rattle.plan_forging.proofs.other_i64.Reads as reads
-use Rattle.plan_forging.proofs.other_i64.Lts as lts
-use Rattle.plan_forging.proofs.one_less.Reads as one-less-reads
-use Rattle.plan_forging.proofs.one_more.Reads as one-more-reads
+use Rattle.changed_plans.proofs.other_i64.Statement.{statement}
+use Rattle.changed_plans.proofs.other_i64.Tie as tie
+use Rattle.changed_plans.proofs.other_i64.Reads as reads
+use Rattle.changed_plans.proofs.other_i64.Lts as lts
+use Rattle.changed_plans.proofs.one_less.Reads as one-less-reads
+use Rattle.changed_plans.proofs.one_more.Reads as one-more-reads
 
 one-more-requires : tie.Need-one-more-requires
 one-more-requires c κs = search needs
