@@ -6,6 +6,7 @@ use axis_lists::Steps;
 use gather_plan::Axis;
 use gather_plan::GatherPlan;
 use gather_plan::Role;
+use integer::Checked;
 use layout::Layout;
 use layout::RAW_FUSED_RANK_LIMIT;
 
@@ -42,20 +43,21 @@ pub fn other_usize(n: usize, k: u64) -> usize {
     }
 }
 
-fn one_more(n: i64) -> i64 {
-    if n < 9223372036854775807 { n + 1 } else { 0 }
-}
-
-fn one_less(n: i64) -> i64 {
-    if n > -9223372036854775808 { n - 1 } else { 0 }
+// The sum, and 0 where it does not fit.
+fn sum(a: i64, b: i64) -> i64 {
+    let checked = integer::checked_add_i64(a, b);
+    match checked {
+        Checked::Fits(n) => n,
+        Checked::Overflow => 0,
+    }
 }
 
 // One more, one less, or every bit changed.
 pub fn other_i64(n: i64, k: u64) -> i64 {
     if k == 0 {
-        one_more(n)
+        sum(n, 1)
     } else if k == 1 {
-        one_less(n)
+        sum(n, -1)
     } else {
         -1 - n
     }

@@ -5,14 +5,13 @@ use Rattle.changed_plans.proofs.other_i64.Statement.{statement}
 use Rattle.changed_plans.proofs.other_i64.Tie as tie
 use Rattle.changed_plans.proofs.other_i64.Reads as reads
 use Rattle.changed_plans.proofs.other_i64.Lts as lts
-use Rattle.changed_plans.proofs.one_less.Reads as one-less-reads
-use Rattle.changed_plans.proofs.one_more.Reads as one-more-reads
+use Rattle.changed_plans.proofs.sum.Reads as sum-reads
 
-one-more-requires : tie.Need-one-more-requires
-one-more-requires c κs = search needs
+sum-requires : tie.Need-sum-requires
+sum-requires c κs = search needs
 
-one-less-requires : tie.Need-one-less-requires
-one-less-requires c κs = search needs
+sum-requires-2 : tie.Need-sum-requires-2
+sum-requires-2 c κs = search needs
 
 sub-result : tie.Need-sub-result
 sub-result c = rw (back (c .before .before .fits .n)) (simp znorm (simp zflat (omega (arith, known (c .before .before .fits .n)))))
@@ -28,4 +27,4 @@ returns-3 c = search needs
 
 pub other-i64-spec : {M : Type 1} → statement M
 other-i64-spec =
-    tie.close (tie.spec one-more-requires one-less-requires sub-result returns returns-2 returns-3)
+    tie.close (tie.spec sum-requires sum-requires-2 sub-result returns returns-2 returns-3)
