@@ -1,9 +1,9 @@
 // Plans of a scatter with one field changed, and rows of a walk with one number changed.
-use layout::RAW_FUSED_RANK_LIMIT;
 use changed_plans::other_i64;
 use changed_plans::other_if;
 use changed_plans::other_u64;
 use changed_plans::other_usize;
+use layout::RAW_FUSED_RANK_LIMIT;
 use replay::ReplaySpans;
 use replay::WindowReplay;
 use replay::WindowReplayAxis;

@@ -1,13 +1,13 @@
 // Forged plans: each field of a compiled plan changed in turn, arrays past their counts as well. A call with such a plan is
 // refused by 8 and leaves the destination as it was. The gather is document 01's: operand 10 20 30 40 50, windows of 2.
+use changed_plans::Field;
+use changed_plans::counts;
+use changed_plans::counts::Counts;
 use gather_plan::CompiledGather;
 use gather_plan::GatherPlan;
 use layout::Answer;
 use layout::RAW_FUSED_RANK_LIMIT;
 use layout::View;
-use changed_plans::Field;
-use changed_plans::counts;
-use changed_plans::counts::Counts;
 
 fn compile(window: u64) -> CompiledGather {
     gather_plan::compile(

@@ -2,8 +2,8 @@
 // of the rows of its two walks. A call with such a plan or such rows is refused by 8 and leaves the destination as it was.
 // Each plan is tried with the rows of the compiled one and with those of its own walks.
 use changed_plans::counts;
-use layout::RAW_FUSED_RANK_LIMIT;
 use changed_scatters::Field;
+use layout::RAW_FUSED_RANK_LIMIT;
 use scatter_plan::CompiledScatter;
 use scatter_plan::ScatterPlan;
 use scatter_trials::Change;
@@ -28,11 +28,7 @@ fn spans(plan: ScatterPlan, name: &[u8], field: Field) {
 // Each entry of an array.
 fn entries(plan: ScatterPlan, name: &[u8], field: Field) {
     printing::put(name);
-    counts::put(try_places(
-        plan,
-        Change::Field(field),
-        RAW_FUSED_RANK_LIMIT,
-    ));
+    counts::put(try_places(plan, Change::Field(field), RAW_FUSED_RANK_LIMIT));
 }
 
 fn index(plan: ScatterPlan) {
