@@ -29,6 +29,7 @@ fn outcome_of(answer: Answer, left: bool, head: &[u8], words: &[u64]) -> usize {
     }
 }
 
+// The answer to a case of either kind.
 fn call_i32(
     head: &[u8],
     words: &[u64],
