@@ -1,12 +1,13 @@
 // Forged plans: each field of a compiled plan changed in turn, arrays past their counts as well. A call with such a plan is
 // refused by 8 and leaves the destination as it was. The gather is document 01's: operand 10 20 30 40 50, windows of 2.
+use changed_plans::Field;
+use changed_plans::counts;
+use changed_plans::counts::Counts;
 use gather_plan::CompiledGather;
 use gather_plan::GatherPlan;
 use layout::Answer;
+use layout::RAW_FUSED_RANK_LIMIT;
 use layout::View;
-use plan_forging::Field;
-use plan_forging::tally;
-use plan_forging::tally::Tally;
 
 fn compile(window: u64) -> CompiledGather {
     gather_plan::compile(
@@ -21,7 +22,6 @@ fn compile(window: u64) -> CompiledGather {
         &[0],
         1,
         &[window],
-        true,
     )
 }
 
@@ -64,96 +64,97 @@ fn is_before(into: &[i32; 4]) -> bool {
     into[0] == 1 && into[1] == 2 && into[2] == 3 && into[3] == 4
 }
 
-fn try_plan(plan: GatherPlan, t: Tally) -> Tally {
+fn try_plan(plan: GatherPlan, counted: Counts) -> Counts {
     let mut into = [1i32, 2, 3, 4];
     let answer = call(plan, &mut into);
-    tally::with_call(t, answer, is_before(&into))
+    counts::with_call(counted, answer, is_before(&into))
 }
 
 // The three changes of one number or role.
-fn try_place(plan: GatherPlan, field: Field, i: usize, t: Tally) -> Tally {
-    let first = try_plan(plan_forging::forged(plan, field, i, 0), t);
-    let second = try_plan(plan_forging::forged(plan, field, i, 1), first);
-    try_plan(plan_forging::forged(plan, field, i, 2), second)
+fn try_place(plan: GatherPlan, field: Field, i: usize, counted: Counts) -> Counts {
+    let first = try_plan(changed_plans::changed(plan, field, i, 0), counted);
+    let second = try_plan(changed_plans::changed(plan, field, i, 1), first);
+    try_plan(changed_plans::changed(plan, field, i, 2), second)
 }
 
-fn try_places(plan: GatherPlan, field: Field, places: usize) -> Tally {
-    let mut t = tally::none();
+fn try_places(plan: GatherPlan, field: Field, places: usize) -> Counts {
+    let mut counted = counts::none();
     let mut i: usize = 0;
     while i < places {
-        t = try_place(plan, field, i, t);
+        counted = try_place(plan, field, i, counted);
         i += 1;
     }
-    t
+    counted
 }
 
 fn number(plan: GatherPlan, name: &[u8], field: Field) {
     printing::put(name);
-    tally::put(try_places(plan, field, 1));
+    counts::put(try_places(plan, field, 1));
 }
 
-fn eight(plan: GatherPlan, name: &[u8], field: Field) {
+// Each entry of an array.
+fn entries(plan: GatherPlan, name: &[u8], field: Field) {
     printing::put(name);
-    tally::put(try_places(plan, field, 8));
+    counts::put(try_places(plan, field, RAW_FUSED_RANK_LIMIT));
 }
 
 fn operand(plan: GatherPlan) {
     number(plan, b"operand rank", Field::Layout(0, 0));
-    eight(plan, b"operand extents", Field::Layout(0, 1));
-    eight(plan, b"operand strides", Field::Layout(0, 2));
+    entries(plan, b"operand extents", Field::Layout(0, 1));
+    entries(plan, b"operand strides", Field::Layout(0, 2));
 }
 
 fn index(plan: GatherPlan) {
     number(plan, b"index rank", Field::Layout(1, 0));
-    eight(plan, b"index extents", Field::Layout(1, 1));
-    eight(plan, b"index strides", Field::Layout(1, 2));
+    entries(plan, b"index extents", Field::Layout(1, 1));
+    entries(plan, b"index strides", Field::Layout(1, 2));
 }
 
 fn dest(plan: GatherPlan) {
     number(plan, b"destination rank", Field::Layout(2, 0));
-    eight(plan, b"destination extents", Field::Layout(2, 1));
-    eight(plan, b"destination strides", Field::Layout(2, 2));
+    entries(plan, b"destination extents", Field::Layout(2, 1));
+    entries(plan, b"destination strides", Field::Layout(2, 2));
 }
 
 fn window_axes(plan: GatherPlan) {
     number(plan, b"offset_dims count", Field::Numbers(0, 0));
-    eight(plan, b"offset_dims entries", Field::Numbers(0, 1));
+    entries(plan, b"offset_dims entries", Field::Numbers(0, 1));
     number(plan, b"collapsed_slice_dims count", Field::Numbers(1, 0));
-    eight(plan, b"collapsed_slice_dims entries", Field::Numbers(1, 1));
+    entries(plan, b"collapsed_slice_dims entries", Field::Numbers(1, 1));
 }
 
 fn start_axes(plan: GatherPlan) {
     number(plan, b"start_index_map count", Field::Numbers(2, 0));
-    eight(plan, b"start_index_map entries", Field::Numbers(2, 1));
+    entries(plan, b"start_index_map entries", Field::Numbers(2, 1));
     number(plan, b"index_vector_dim", Field::VectorAxis);
 }
 
 fn windows(plan: GatherPlan) {
     number(plan, b"slice_sizes count", Field::Numbers(3, 0));
-    eight(plan, b"slice_sizes entries", Field::Numbers(3, 1));
+    entries(plan, b"slice_sizes entries", Field::Numbers(3, 1));
 }
 
 fn axes_in_dest(plan: GatherPlan) {
-    eight(plan, b"axes, role", Field::Axis(0));
-    eight(plan, b"axes, destination step", Field::Axis(1));
-    eight(plan, b"axes, destination reset", Field::Axis(2));
+    entries(plan, b"axes, role", Field::Axis(0));
+    entries(plan, b"axes, destination step", Field::Axis(1));
+    entries(plan, b"axes, destination reset", Field::Axis(2));
 }
 
 fn axes_in_views(plan: GatherPlan) {
-    eight(plan, b"axes, window step", Field::Axis(3));
-    eight(plan, b"axes, window reset", Field::Axis(4));
-    eight(plan, b"axes, batch step", Field::Axis(5));
-    eight(plan, b"axes, batch reset", Field::Axis(6));
+    entries(plan, b"axes, window step", Field::Axis(3));
+    entries(plan, b"axes, window reset", Field::Axis(4));
+    entries(plan, b"axes, batch step", Field::Axis(5));
+    entries(plan, b"axes, batch reset", Field::Axis(6));
 }
 
 fn component_offsets(plan: GatherPlan) {
     number(plan, b"component offsets count", Field::Steps(0, 0));
-    eight(plan, b"component offsets entries", Field::Steps(0, 1));
+    entries(plan, b"component offsets entries", Field::Steps(0, 1));
 }
 
 fn component_strides(plan: GatherPlan) {
     number(plan, b"component strides count", Field::Steps(1, 0));
-    eight(plan, b"component strides entries", Field::Steps(1, 1));
+    entries(plan, b"component strides entries", Field::Steps(1, 1));
     number(plan, b"total", Field::Total);
 }
 
@@ -179,13 +180,13 @@ fn walk(plan: GatherPlan) {
 fn compiled_plan(plan: GatherPlan) {
     let mut into = [1i32, 2, 3, 4];
     let answer = call(plan, &mut into);
-    tally::put_called(b"the compiled plan", answer, &into);
+    counts::put_called(b"the compiled plan", answer, &into);
 }
 
 // Windows of 6 are refused by 6.
 fn put_refusal(compiled: CompiledGather) {
     let answer = compiled.answer;
-    tally::put_with(
+    counts::put_with(
         b"compile with windows of 6: answer ",
         layout::number(answer),
     );
@@ -195,13 +196,13 @@ fn put_refusal(compiled: CompiledGather) {
 fn refused_plan(plan: GatherPlan) {
     let mut into = [1i32, 2, 3, 4];
     let answer = call(plan, &mut into);
-    tally::put_called(b"the plan that stands there", answer, &into);
+    counts::put_called(b"the plan that stands there", answer, &into);
 }
 
 fn refused_plan_on_scalars(plan: GatherPlan) {
     let mut into = [1i32, 2, 3, 4];
     let answer = call_on_scalars(plan, &mut into);
-    tally::put_called(b"the same on views of its layouts", answer, &into);
+    counts::put_called(b"the same on views of its layouts", answer, &into);
 }
 
 fn refused() {

@@ -1,11 +1,11 @@
 // A scatter called with plans and rows that are changed: destination [3,2] holding 1 to 6, windows [2,1] whose second axis is
 // inserted, starts [9,0] and [0,-1].
+use changed_plans::counts;
+use changed_plans::counts::Counts;
+use changed_scatters::Field;
 use layout::Answer;
 use layout::RAW_FUSED_RANK_LIMIT;
 use layout::View;
-use plan_forging::tally;
-use plan_forging::tally::Tally;
-use scatter_forging::Field;
 use scatter_plan::CompiledScatter;
 use scatter_plan::ScatterPlan;
 
@@ -22,7 +22,6 @@ pub fn compile(window: u64) -> CompiledScatter {
         &[1],
         &[0, 1],
         0,
-        true,
     )
 }
 
@@ -96,80 +95,62 @@ fn try_call(
     plan: ScatterPlan,
     batch: [[i64; 4]; RAW_FUSED_RANK_LIMIT],
     window: [[i64; 4]; RAW_FUSED_RANK_LIMIT],
-    t: Tally,
-) -> Tally {
+    counted: Counts,
+) -> Counts {
     let mut into = [1i32, 2, 3, 4, 5, 6];
     let answer = call(plan, batch, window, &mut into);
-    tally::with_call(t, answer, is_before(&into))
+    counts::with_call(counted, answer, is_before(&into))
 }
 
-// ---- fields
+// ---- changes
 
-// A forged plan with the rows of the compiled one, and with the rows of its own walks.
-fn try_forged(plan: ScatterPlan, forged: ScatterPlan, t: Tally) -> Tally {
-    let first = try_call(forged, batch_rows(plan), window_rows(plan), t);
-    try_call(forged, batch_rows(forged), window_rows(forged), first)
+// What is changed: a field of the plan, or the rows of its batches or of its windows.
+pub enum Change {
+    Field(Field),
+    BatchRows,
+    WindowRows,
+}
+
+// A changed plan with the rows of the compiled one, and with the rows of its own walks.
+fn try_plan(plan: ScatterPlan, changed: ScatterPlan, counted: Counts) -> Counts {
+    let first = try_call(changed, batch_rows(plan), window_rows(plan), counted);
+    try_call(changed, batch_rows(changed), window_rows(changed), first)
+}
+
+fn try_batch_rows(plan: ScatterPlan, i: usize, k: u64, counted: Counts) -> Counts {
+    let rows = changed_scatters::changed_rows(batch_rows(plan), i, k);
+    try_call(plan, rows, window_rows(plan), counted)
+}
+
+fn try_window_rows(plan: ScatterPlan, i: usize, k: u64, counted: Counts) -> Counts {
+    let rows = changed_scatters::changed_rows(window_rows(plan), i, k);
+    try_call(plan, batch_rows(plan), rows, counted)
+}
+
+// Number i of what is changed, in the way k of three.
+fn try_number(plan: ScatterPlan, change: Change, i: usize, k: u64, counted: Counts) -> Counts {
+    match change {
+        Change::Field(field) => {
+            try_plan(plan, changed_scatters::changed(plan, field, i, k), counted)
+        }
+        Change::BatchRows => try_batch_rows(plan, i, k, counted),
+        Change::WindowRows => try_window_rows(plan, i, k, counted),
+    }
 }
 
 // The three changes of one number.
-fn try_place(plan: ScatterPlan, field: Field, i: usize, t: Tally) -> Tally {
-    let first = try_forged(plan, scatter_forging::forged(plan, field, i, 0), t);
-    let second = try_forged(plan, scatter_forging::forged(plan, field, i, 1), first);
-    try_forged(plan, scatter_forging::forged(plan, field, i, 2), second)
+fn try_place(plan: ScatterPlan, change: Change, i: usize, counted: Counts) -> Counts {
+    let first = try_number(plan, change, i, 0, counted);
+    let second = try_number(plan, change, i, 1, first);
+    try_number(plan, change, i, 2, second)
 }
 
-pub fn try_places(plan: ScatterPlan, field: Field, places: usize) -> Tally {
-    let mut t = tally::none();
+pub fn try_places(plan: ScatterPlan, change: Change, places: usize) -> Counts {
+    let mut counted = counts::none();
     let mut i: usize = 0;
     while i < places {
-        t = try_place(plan, field, i, t);
+        counted = try_place(plan, change, i, counted);
         i += 1;
     }
-    t
-}
-
-// ---- rows
-
-// Number i of the batches' rows changed in the way k of three.
-fn try_batch(plan: ScatterPlan, i: usize, k: u64, t: Tally) -> Tally {
-    let rows = scatter_forging::forged_rows(batch_rows(plan), i, k);
-    try_call(plan, rows, window_rows(plan), t)
-}
-
-fn try_batch_place(plan: ScatterPlan, i: usize, t: Tally) -> Tally {
-    let first = try_batch(plan, i, 0, t);
-    let second = try_batch(plan, i, 1, first);
-    try_batch(plan, i, 2, second)
-}
-
-pub fn try_batch_rows(plan: ScatterPlan) -> Tally {
-    let mut t = tally::none();
-    let mut i: usize = 0;
-    while i < 32 {
-        t = try_batch_place(plan, i, t);
-        i += 1;
-    }
-    t
-}
-
-// The same of the windows' rows.
-fn try_window(plan: ScatterPlan, i: usize, k: u64, t: Tally) -> Tally {
-    let rows = scatter_forging::forged_rows(window_rows(plan), i, k);
-    try_call(plan, batch_rows(plan), rows, t)
-}
-
-fn try_window_place(plan: ScatterPlan, i: usize, t: Tally) -> Tally {
-    let first = try_window(plan, i, 0, t);
-    let second = try_window(plan, i, 1, first);
-    try_window(plan, i, 2, second)
-}
-
-pub fn try_window_rows(plan: ScatterPlan) -> Tally {
-    let mut t = tally::none();
-    let mut i: usize = 0;
-    while i < 32 {
-        t = try_window_place(plan, i, t);
-        i += 1;
-    }
-    t
+    counted
 }

@@ -1,18 +1,10 @@
 // Replays the stored cases (data/README.md says what they are and how they were made) through the crates, and prints how
 // many of the stored answers came out again.
+mod outcomes;
 mod report;
 
 use stored_reader::file;
 use stored_reader::packed;
-
-// What comes of a case.
-fn verdict(head: &[u8], words: &[u64], numbers: &[i64]) -> usize {
-    if packed::is_gather(head) {
-        stored_gathers::verdict(head, words, numbers)
-    } else {
-        stored_scatters::verdict(head, words, numbers)
-    }
-}
 
 // Answers the case of this head, these words, and the same as signed numbers.
 fn take_case(index: u64, head: &[u8], words: &[u64], numbers: &[i64], counts: &mut [u64]) -> bool {
@@ -20,8 +12,8 @@ fn take_case(index: u64, head: &[u8], words: &[u64], numbers: &[i64], counts: &m
         report::line(b"a field has no listed value: case ", index);
         return false;
     }
-    let row = verdict(head, words, numbers);
-    report::count(counts, row, head, index);
+    let outcome = outcomes::outcome(head, words, numbers);
+    report::count(counts, outcome, head, index);
     true
 }
 

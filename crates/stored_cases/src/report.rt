@@ -1,9 +1,9 @@
-// What the program prints, and the counts that it prints: for each verdict thirteen, one for each number of an answer, one
+// What the program prints, and the counts that it prints: for each outcome thirteen, one for each number of an answer, one
 // for the gathers and one for the scatters.
+use crate::outcomes::DIFFERENT;
+use crate::outcomes::EQUAL;
+use crate::outcomes::TOO_LARGE;
 use stored_reader::packed;
-use stored_reader::verdicts::DIFFERENT;
-use stored_reader::verdicts::EQUAL;
-use stored_reader::verdicts::TOO_LARGE;
 
 pub fn put(text: &[u8]) {
     io::write_all(1, text);
@@ -24,10 +24,10 @@ const GATHERS: u64 = 11;
 
 const SCATTERS: u64 = 12;
 
-fn place(verdict: usize, column: u64) -> usize {
-    if verdict < 3 {
+fn place(outcome: usize, column: u64) -> usize {
+    if outcome < 3 {
         if column < 13 {
-            return verdict * 13 + column as usize;
+            return outcome * 13 + column as usize;
         }
     }
     0
@@ -39,9 +39,9 @@ fn count_at(counts: &mut [u64], i: usize) {
     }
 }
 
-// Counts the case of this head and index under its verdict.
-pub fn count(counts: &mut [u64], verdict: usize, head: &[u8], index: u64) {
-    if verdict == DIFFERENT {
+// Counts the case of this head and index under its outcome.
+pub fn count(counts: &mut [u64], outcome: usize, head: &[u8], index: u64) {
+    if outcome == DIFFERENT {
         line(b"different: case ", index);
     }
     let kind = if packed::is_gather(head) {
@@ -49,21 +49,21 @@ pub fn count(counts: &mut [u64], verdict: usize, head: &[u8], index: u64) {
     } else {
         SCATTERS
     };
-    count_at(counts, place(verdict, packed::number(head)));
-    count_at(counts, place(verdict, kind));
+    count_at(counts, place(outcome, packed::number(head)));
+    count_at(counts, place(outcome, kind));
 }
 
-fn at(counts: &[u64], verdict: usize, column: u64) -> u64 {
-    let i = place(verdict, column);
+fn at(counts: &[u64], outcome: usize, column: u64) -> u64 {
+    let i = place(outcome, column);
     if i < counts.len() { counts[i] } else { 0 }
 }
 
-// How many cases had this verdict.
-fn total(counts: &[u64], verdict: usize) -> u64 {
+// How many cases had this outcome.
+fn total(counts: &[u64], outcome: usize) -> u64 {
     let mut sum: u64 = 0;
     let mut number: u64 = 0;
     while number < 11 {
-        sum = std::num::wrapping_add_u64(sum, at(counts, verdict, number));
+        sum = std::num::wrapping_add_u64(sum, at(counts, outcome, number));
         number += 1;
     }
     sum

@@ -1,6 +1,5 @@
-// The reader of the stored cases: the file, a case as it is packed, its elements, the views of its call, and the verdicts on it.
+// The reader of the stored cases: the file, a case as it is packed, its elements, and the views of its call.
 pub mod elements;
 pub mod file;
 pub mod packed;
-pub mod verdicts;
 pub mod views;

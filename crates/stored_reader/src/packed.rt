@@ -107,17 +107,22 @@ pub fn number_at(numbers: &[i64], i: usize) -> i64 {
 
 // Places of lists: a gather's operand and starts, a scatter's starts and updates, the destination's contents before and
 // after the call.
-pub const OPERAND: usize = 16;
+const OPERAND: usize = 16;
 
 pub const STARTS: usize = 17;
 
 pub const SCATTER_STARTS: usize = 16;
 
-pub const UPDATES: usize = 17;
+const UPDATES: usize = 17;
 
 pub const DEST: usize = 18;
 
 pub const DEST_AFTER: usize = 19;
+
+// The place of the list whose elements the call reads.
+pub fn source(head: &[u8]) -> usize {
+    if is_gather(head) { OPERAND } else { UPDATES }
+}
 
 fn lists_before(place: usize) -> usize
     ensures { λ r. ⌜ r ≤ 20 ⌝ }
@@ -224,8 +229,7 @@ fn are_elements(head: &[u8], numbers: &[i64]) -> bool {
     if is_f64(head) {
         return true;
     }
-    let source = if is_gather(head) { OPERAND } else { UPDATES };
-    are_i32(signed_list(numbers, head, source))
+    are_i32(signed_list(numbers, head, source(head)))
         && are_i32(signed_list(numbers, head, DEST))
         && are_i32(signed_list(numbers, head, DEST_AFTER))
 }

@@ -2,6 +2,7 @@
 use crate::packed;
 use crate::packed::list;
 use crate::packed::signed_list;
+use layout::Answer;
 use layout::MadeLayout;
 use layout::View;
 
@@ -31,9 +32,20 @@ fn is_layout(head: &[u8], words: &[u64], numbers: &[i64], view: usize) -> bool {
     layout::is_done(answer)
 }
 
-// A call's layout of unequal lengths, or of a rank above 8, is no plan's: 8.
-pub fn are_layouts(head: &[u8], words: &[u64], numbers: &[i64]) -> bool {
+fn are_layouts(head: &[u8], words: &[u64], numbers: &[i64]) -> bool {
     is_layout(head, words, numbers, 0)
         && is_layout(head, words, numbers, 1)
         && is_layout(head, words, numbers, 2)
+}
+
+// The refusal of compile, if any, or 8 where a layout of the call has unequal lengths or too many axes, and so is no plan's.
+pub fn refusal(compiled: Answer, head: &[u8], words: &[u64], numbers: &[i64]) -> Answer {
+    if !layout::is_done(compiled) {
+        return compiled;
+    }
+    if are_layouts(head, words, numbers) {
+        Answer::Done
+    } else {
+        Answer::PlanLayoutMismatch
+    }
 }

@@ -1,31 +1,27 @@
 use borrow.Author.Needs.{needs}
+use Rattle.integer.specs.Z.{back}
+use Rattle.calls.proofs.Does.{by-answer, said}
+use Rattle.scatter_move.proofs.Parts.{movable}
+use Rattle.strided.specs.Words.{words}
 use Rattle.strided.proofs.strided_raw_scatter_f64.Statement.{statement}
 use Rattle.strided.proofs.strided_raw_scatter_f64.Tie as tie
-use Rattle.strided.proofs.strided_raw_scatter_f64.Reads as reads
-use Rattle.strided.proofs.strided_raw_scatter_f64.Lts as lts
-use Rattle.scatter_lists.proofs.prepare_views.Reads as prepare-views-reads
-use Rattle.scatter_move.proofs.move_f64.Reads as move-f64-reads
-use Rattle.strided.proofs.words_of.Reads as words-of-reads
 
--- src/lib.rt:306:9
 prepare-views-requires : tie.Need-prepare-views-requires
 prepare-views-requires c κs = search needs
 
--- src/lib.rt:330:9
 move-f64-requires : tie.Need-move-f64-requires
-move-f64-requires c κs = ?
+move-f64-requires c κs = let s = c .before .before .before .before .before .before .before .before .before .before .before .before .before in movable (simp (back (s .fits .index-offset), back (s .fits .updates-offset), back (s .fits .dest-offset)) at (c .before .prepare-views .ensures))
 
--- src/lib.rt:331:15
 words-of-requires : tie.Need-words-of-requires
 words-of-requires c κs = search needs
 
--- src/lib.rt:278:1
 same-length : tie.Need-same-length
 same-length c = search needs
 
--- src/lib.rt:278:1
 returns : tie.Need-returns
-returns c = ?
+returns c =
+    let s = c .before .before .before .before .before .before .before .before .before .before .before .before .before .before .before .before .before in let q = (simp (back (s .fits .index-offset), back (s .fits .updates-offset), back (s .fits .dest-offset)) at (c .before .before .before .before .before .prepare-views .ensures)) in
+    said words (c .words-of .ensures) (by-answer (q .answered) (c .before .before .before .move-f64 .ensures (movable q)))
 
 pub strided-raw-scatter-f64-spec : {M : Type 1} → statement M
 strided-raw-scatter-f64-spec =

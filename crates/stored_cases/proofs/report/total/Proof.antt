@@ -4,10 +4,10 @@ use Rattle.stored_cases.proofs.report.total.Statement.{statement}
 use Rattle.stored_cases.proofs.report.total.Tie as tie
 
 abbrev Inv-loop : tie.InvT-loop
-Inv-loop counts verdict sum₀ number₀ sum number = Unit {0}
+Inv-loop counts outcome sum₀ number₀ sum number = Unit {0}
 
 abbrev μ-loop : tie.MeasureT-loop
-μ-loop counts verdict sum₀ number₀ sum number = 11 - number
+μ-loop counts outcome sum₀ number₀ sum number = 11 - number
 
 loop-holds : tie.Need-loop-holds Inv-loop μ-loop
 loop-holds c = tt

@@ -1,14 +1,14 @@
 // How many changed plans were tried, how many of them refused by 8, and how many calls changed the destination.
 use layout::Answer;
 
-pub struct Tally {
+pub struct Counts {
     pub tried: u64,
     pub refused: u64,
     pub changed: u64,
 }
 
-pub fn none() -> Tally {
-    Tally {
+pub fn none() -> Counts {
+    Counts {
         tried: 0,
         refused: 0,
         changed: 0,
@@ -19,13 +19,13 @@ fn one_if(holds: bool) -> u64 {
     if holds { 1 } else { 0 }
 }
 
-pub fn with_call(t: Tally, answer: Answer, unchanged: bool) -> Tally {
+pub fn with_call(counted: Counts, answer: Answer, unchanged: bool) -> Counts {
     let eight = one_if(layout::number(answer) == 8);
     let changed = one_if(!unchanged);
-    Tally {
-        tried: std::num::wrapping_add_u64(t.tried, 1),
-        refused: std::num::wrapping_add_u64(t.refused, eight),
-        changed: std::num::wrapping_add_u64(t.changed, changed),
+    Counts {
+        tried: std::num::wrapping_add_u64(counted.tried, 1),
+        refused: std::num::wrapping_add_u64(counted.refused, eight),
+        changed: std::num::wrapping_add_u64(counted.changed, changed),
     }
 }
 
@@ -34,10 +34,10 @@ pub fn put_with(text: &[u8], n: u64) {
     printing::put_u64(n);
 }
 
-pub fn put(t: Tally) {
-    put_with(b": tried ", t.tried);
-    put_with(b", refused by 8 ", t.refused);
-    put_with(b", destination changed ", t.changed);
+pub fn put(counted: Counts) {
+    put_with(b": tried ", counted.tried);
+    put_with(b", refused by 8 ", counted.refused);
+    put_with(b", destination changed ", counted.changed);
     printing::end_line();
 }
 

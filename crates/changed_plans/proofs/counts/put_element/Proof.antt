@@ -1,10 +1,10 @@
 use native.Mathlib.Omega.{arith}
 use Rattle.integer.specs.Z.{znorm, zflat, known}
 use borrow.Author.Needs.{needs}
-use Rattle.plan_forging.proofs.tally.put_element.Statement.{statement}
-use Rattle.plan_forging.proofs.tally.put_element.Tie as tie
-use Rattle.plan_forging.proofs.tally.put_element.Reads as reads
-use Rattle.plan_forging.proofs.tally.put_element.Lts as lts
+use Rattle.changed_plans.proofs.counts.put_element.Statement.{statement}
+use Rattle.changed_plans.proofs.counts.put_element.Tie as tie
+use Rattle.changed_plans.proofs.counts.put_element.Reads as reads
+use Rattle.changed_plans.proofs.counts.put_element.Lts as lts
 use Rattle.printing.proofs.put.Reads as put-reads
 use Rattle.printing.proofs.put_i64.Reads as put-i64-reads
 

@@ -1,11 +1,12 @@
 // Plans of a gather with one field changed, and what the calls with changed plans come to.
-pub mod tally;
+pub mod counts;
 
 use axis_lists::Numbers;
 use axis_lists::Steps;
 use gather_plan::Axis;
 use gather_plan::GatherPlan;
 use gather_plan::Role;
+use integer::Checked;
 use layout::Layout;
 use layout::RAW_FUSED_RANK_LIMIT;
 
@@ -42,20 +43,21 @@ pub fn other_usize(n: usize, k: u64) -> usize {
     }
 }
 
-fn one_more(n: i64) -> i64 {
-    if n < 9223372036854775807 { n + 1 } else { 0 }
-}
-
-fn one_less(n: i64) -> i64 {
-    if n > -9223372036854775808 { n - 1 } else { 0 }
+// The sum, and 0 where it does not fit.
+fn sum(a: i64, b: i64) -> i64 {
+    let checked = integer::checked_add_i64(a, b);
+    match checked {
+        Checked::Fits(n) => n,
+        Checked::Overflow => 0,
+    }
 }
 
 // One more, one less, or every bit changed.
 pub fn other_i64(n: i64, k: u64) -> i64 {
     if k == 0 {
-        one_more(n)
+        sum(n, 1)
     } else if k == 1 {
-        one_less(n)
+        sum(n, -1)
     } else {
         -1 - n
     }
@@ -122,22 +124,22 @@ pub fn other_layout(l: Layout, part: u64, i: usize, k: u64) -> Layout {
     }
 }
 
-fn forged_layout(plan: GatherPlan, which: u64, part: u64, i: usize, k: u64) -> GatherPlan {
-    let mut forged = plan;
+fn changed_layout(plan: GatherPlan, which: u64, part: u64, i: usize, k: u64) -> GatherPlan {
+    let mut changed = plan;
     if which == 0 {
         let l = plan.operand;
         let m = other_layout(l, part, i, k);
-        forged.operand = m;
+        changed.operand = m;
     } else if which == 1 {
         let l = plan.index;
         let m = other_layout(l, part, i, k);
-        forged.index = m;
+        changed.index = m;
     } else {
         let l = plan.dest;
         let m = other_layout(l, part, i, k);
-        forged.dest = m;
+        changed.dest = m;
     }
-    forged
+    changed
 }
 
 // ---- lists
@@ -156,26 +158,26 @@ pub fn other_numbers(list: Numbers, part: u64, i: usize, k: u64) -> Numbers {
     }
 }
 
-fn forged_numbers(plan: GatherPlan, which: u64, part: u64, i: usize, k: u64) -> GatherPlan {
-    let mut forged = plan;
+fn changed_numbers(plan: GatherPlan, which: u64, part: u64, i: usize, k: u64) -> GatherPlan {
+    let mut changed = plan;
     if which == 0 {
         let l = plan.offset_dims;
         let m = other_numbers(l, part, i, k);
-        forged.offset_dims = m;
+        changed.offset_dims = m;
     } else if which == 1 {
         let l = plan.collapsed_slice_dims;
         let m = other_numbers(l, part, i, k);
-        forged.collapsed_slice_dims = m;
+        changed.collapsed_slice_dims = m;
     } else if which == 2 {
         let l = plan.start_index_map;
         let m = other_numbers(l, part, i, k);
-        forged.start_index_map = m;
+        changed.start_index_map = m;
     } else {
         let l = plan.slice_sizes;
         let m = other_numbers(l, part, i, k);
-        forged.slice_sizes = m;
+        changed.slice_sizes = m;
     }
-    forged
+    changed
 }
 
 pub fn other_steps(list: Steps, part: u64, i: usize, k: u64) -> Steps {
@@ -192,18 +194,18 @@ pub fn other_steps(list: Steps, part: u64, i: usize, k: u64) -> Steps {
     }
 }
 
-fn forged_steps(plan: GatherPlan, which: u64, part: u64, i: usize, k: u64) -> GatherPlan {
-    let mut forged = plan;
+fn changed_steps(plan: GatherPlan, which: u64, part: u64, i: usize, k: u64) -> GatherPlan {
+    let mut changed = plan;
     if which == 0 {
         let l = plan.component_offsets;
         let m = other_steps(l, part, i, k);
-        forged.component_offsets = m;
+        changed.component_offsets = m;
     } else {
         let l = plan.component_strides;
         let m = other_steps(l, part, i, k);
-        forged.component_strides = m;
+        changed.component_strides = m;
     }
-    forged
+    changed
 }
 
 // ---- axes
@@ -251,36 +253,36 @@ fn other_axes(
     out
 }
 
-fn forged_axes(plan: GatherPlan, part: u64, i: usize, k: u64) -> GatherPlan {
-    let mut forged = plan;
+fn changed_axes(plan: GatherPlan, part: u64, i: usize, k: u64) -> GatherPlan {
+    let mut changed = plan;
     let axes = plan.axes;
     let other = other_axes(axes, part, i, k);
-    forged.axes = other;
-    forged
+    changed.axes = other;
+    changed
 }
 
 // ---- any field
 
-fn forged_vector_axis(plan: GatherPlan, k: u64) -> GatherPlan {
-    let mut forged = plan;
-    forged.index_vector_dim = other_u64(plan.index_vector_dim, k);
-    forged
+fn changed_vector_axis(plan: GatherPlan, k: u64) -> GatherPlan {
+    let mut changed = plan;
+    changed.index_vector_dim = other_u64(plan.index_vector_dim, k);
+    changed
 }
 
-fn forged_total(plan: GatherPlan, k: u64) -> GatherPlan {
-    let mut forged = plan;
-    forged.total = other_u64(plan.total, k);
-    forged
+fn changed_total(plan: GatherPlan, k: u64) -> GatherPlan {
+    let mut changed = plan;
+    changed.total = other_u64(plan.total, k);
+    changed
 }
 
 // The plan with number or role i of a field changed, in the way k of three; each way changes it.
-pub fn forged(plan: GatherPlan, field: Field, i: usize, k: u64) -> GatherPlan {
+pub fn changed(plan: GatherPlan, field: Field, i: usize, k: u64) -> GatherPlan {
     match field {
-        Field::Layout(which, part) => forged_layout(plan, which, part, i, k),
-        Field::Numbers(which, part) => forged_numbers(plan, which, part, i, k),
-        Field::VectorAxis => forged_vector_axis(plan, k),
-        Field::Axis(part) => forged_axes(plan, part, i, k),
-        Field::Steps(which, part) => forged_steps(plan, which, part, i, k),
-        Field::Total => forged_total(plan, k),
+        Field::Layout(which, part) => changed_layout(plan, which, part, i, k),
+        Field::Numbers(which, part) => changed_numbers(plan, which, part, i, k),
+        Field::VectorAxis => changed_vector_axis(plan, k),
+        Field::Axis(part) => changed_axes(plan, part, i, k),
+        Field::Steps(which, part) => changed_steps(plan, which, part, i, k),
+        Field::Total => changed_total(plan, k),
     }
 }

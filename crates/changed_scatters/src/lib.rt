@@ -1,9 +1,9 @@
 // Plans of a scatter with one field changed, and rows of a walk with one number changed.
+use changed_plans::other_i64;
+use changed_plans::other_if;
+use changed_plans::other_u64;
+use changed_plans::other_usize;
 use layout::RAW_FUSED_RANK_LIMIT;
-use plan_forging::other_i64;
-use plan_forging::other_if;
-use plan_forging::other_u64;
-use plan_forging::other_usize;
 use replay::ReplaySpans;
 use replay::WindowReplay;
 use replay::WindowReplayAxis;
@@ -21,58 +21,58 @@ pub enum Field {
     Count(u64),
 }
 
-fn forged_layout(plan: ScatterPlan, which: u64, part: u64, i: usize, k: u64) -> ScatterPlan {
-    let mut forged = plan;
+fn changed_layout(plan: ScatterPlan, which: u64, part: u64, i: usize, k: u64) -> ScatterPlan {
+    let mut changed = plan;
     if which == 0 {
         let l = plan.index;
-        let m = plan_forging::other_layout(l, part, i, k);
-        forged.index = m;
+        let m = changed_plans::other_layout(l, part, i, k);
+        changed.index = m;
     } else if which == 1 {
         let l = plan.updates;
-        let m = plan_forging::other_layout(l, part, i, k);
-        forged.updates = m;
+        let m = changed_plans::other_layout(l, part, i, k);
+        changed.updates = m;
     } else {
         let l = plan.dest;
-        let m = plan_forging::other_layout(l, part, i, k);
-        forged.dest = m;
+        let m = changed_plans::other_layout(l, part, i, k);
+        changed.dest = m;
     }
-    forged
+    changed
 }
 
-fn forged_numbers(plan: ScatterPlan, which: u64, part: u64, i: usize, k: u64) -> ScatterPlan {
-    let mut forged = plan;
+fn changed_numbers(plan: ScatterPlan, which: u64, part: u64, i: usize, k: u64) -> ScatterPlan {
+    let mut changed = plan;
     if which == 0 {
         let l = plan.update_window_dims;
-        let m = plan_forging::other_numbers(l, part, i, k);
-        forged.update_window_dims = m;
+        let m = changed_plans::other_numbers(l, part, i, k);
+        changed.update_window_dims = m;
     } else if which == 1 {
         let l = plan.inserted_window_dims;
-        let m = plan_forging::other_numbers(l, part, i, k);
-        forged.inserted_window_dims = m;
+        let m = changed_plans::other_numbers(l, part, i, k);
+        changed.inserted_window_dims = m;
     } else if which == 2 {
         let l = plan.scatter_dims_to_operand_dims;
-        let m = plan_forging::other_numbers(l, part, i, k);
-        forged.scatter_dims_to_operand_dims = m;
+        let m = changed_plans::other_numbers(l, part, i, k);
+        changed.scatter_dims_to_operand_dims = m;
     } else {
         let l = plan.windows;
-        let m = plan_forging::other_numbers(l, part, i, k);
-        forged.windows = m;
+        let m = changed_plans::other_numbers(l, part, i, k);
+        changed.windows = m;
     }
-    forged
+    changed
 }
 
-fn forged_steps(plan: ScatterPlan, which: u64, part: u64, i: usize, k: u64) -> ScatterPlan {
-    let mut forged = plan;
+fn changed_steps(plan: ScatterPlan, which: u64, part: u64, i: usize, k: u64) -> ScatterPlan {
+    let mut changed = plan;
     if which == 0 {
         let l = plan.component_offsets;
-        let m = plan_forging::other_steps(l, part, i, k);
-        forged.component_offsets = m;
+        let m = changed_plans::other_steps(l, part, i, k);
+        changed.component_offsets = m;
     } else {
         let l = plan.component_strides;
-        let m = plan_forging::other_steps(l, part, i, k);
-        forged.component_strides = m;
+        let m = changed_plans::other_steps(l, part, i, k);
+        changed.component_strides = m;
     }
-    forged
+    changed
 }
 
 // ---- walks
@@ -151,47 +151,47 @@ fn other_walk(walk: WindowReplay, part: u64, i: usize, k: u64) -> WindowReplay {
     }
 }
 
-fn forged_walk(plan: ScatterPlan, which: u64, part: u64, i: usize, k: u64) -> ScatterPlan {
-    let mut forged = plan;
+fn changed_walk(plan: ScatterPlan, which: u64, part: u64, i: usize, k: u64) -> ScatterPlan {
+    let mut changed = plan;
     if which == 0 {
         let w = plan.batch;
         let x = other_walk(w, part, i, k);
-        forged.batch = x;
+        changed.batch = x;
     } else {
         let w = plan.window;
         let x = other_walk(w, part, i, k);
-        forged.window = x;
+        changed.window = x;
     }
-    forged
+    changed
 }
 
 // ---- any field
 
-fn forged_vector_axis(plan: ScatterPlan, k: u64) -> ScatterPlan {
-    let mut forged = plan;
-    forged.index_vector_dim = other_u64(plan.index_vector_dim, k);
-    forged
+fn changed_vector_axis(plan: ScatterPlan, k: u64) -> ScatterPlan {
+    let mut changed = plan;
+    changed.index_vector_dim = other_u64(plan.index_vector_dim, k);
+    changed
 }
 
-fn forged_count(plan: ScatterPlan, which: u64, k: u64) -> ScatterPlan {
-    let mut forged = plan;
+fn changed_count(plan: ScatterPlan, which: u64, k: u64) -> ScatterPlan {
+    let mut changed = plan;
     if which == 0 {
-        forged.batches = other_u64(plan.batches, k);
+        changed.batches = other_u64(plan.batches, k);
     } else {
-        forged.cells = other_u64(plan.cells, k);
+        changed.cells = other_u64(plan.cells, k);
     }
-    forged
+    changed
 }
 
 // The plan with number i of a field changed, in the way k of three; each way changes it.
-pub fn forged(plan: ScatterPlan, field: Field, i: usize, k: u64) -> ScatterPlan {
+pub fn changed(plan: ScatterPlan, field: Field, i: usize, k: u64) -> ScatterPlan {
     match field {
-        Field::Layout(which, part) => forged_layout(plan, which, part, i, k),
-        Field::Numbers(which, part) => forged_numbers(plan, which, part, i, k),
-        Field::VectorAxis => forged_vector_axis(plan, k),
-        Field::Walk(which, part) => forged_walk(plan, which, part, i, k),
-        Field::Steps(which, part) => forged_steps(plan, which, part, i, k),
-        Field::Count(which) => forged_count(plan, which, k),
+        Field::Layout(which, part) => changed_layout(plan, which, part, i, k),
+        Field::Numbers(which, part) => changed_numbers(plan, which, part, i, k),
+        Field::VectorAxis => changed_vector_axis(plan, k),
+        Field::Walk(which, part) => changed_walk(plan, which, part, i, k),
+        Field::Steps(which, part) => changed_steps(plan, which, part, i, k),
+        Field::Count(which) => changed_count(plan, which, k),
     }
 }
 
@@ -207,7 +207,7 @@ fn other_row(row: [i64; 4], i: usize, k: u64) -> [i64; 4] {
 }
 
 // The rows with number i of their 32 changed, counted row by row, in the way k of three.
-pub fn forged_rows(
+pub fn changed_rows(
     rows: [[i64; 4]; RAW_FUSED_RANK_LIMIT],
     i: usize,
     k: u64,

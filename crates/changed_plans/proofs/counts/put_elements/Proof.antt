@@ -1,11 +1,11 @@
 use Prim.Native.Nat.{_≤_, _-_}
 use borrow.Author.Needs.{needs}
 use lib.ListN.{length}
-use Rattle.plan_forging.proofs.tally.put_elements.Statement.{statement}
-use Rattle.plan_forging.proofs.tally.put_elements.Tie as tie
-use Rattle.plan_forging.proofs.tally.put_elements.Reads as reads
-use Rattle.plan_forging.proofs.tally.put_elements.Lts as lts
-use Rattle.plan_forging.proofs.tally.put_element.Reads as put-element-reads
+use Rattle.changed_plans.proofs.counts.put_elements.Statement.{statement}
+use Rattle.changed_plans.proofs.counts.put_elements.Tie as tie
+use Rattle.changed_plans.proofs.counts.put_elements.Reads as reads
+use Rattle.changed_plans.proofs.counts.put_elements.Lts as lts
+use Rattle.changed_plans.proofs.counts.put_element.Reads as put-element-reads
 
 abbrev Inv-loop : tie.InvT-loop
 Inv-loop into i₀ i = i ≤ length into

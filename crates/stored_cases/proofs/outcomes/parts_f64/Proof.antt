@@ -1,0 +1,58 @@
+use native.Mathlib.Omega.{arith}
+use lib.ListN.{length-take}
+use borrow.Author.Needs.{needs}
+use Rattle.stored_cases.proofs.outcomes.parts_f64.Statement.{statement}
+use Rattle.stored_cases.proofs.outcomes.parts_f64.Tie as tie
+use Rattle.stored_cases.proofs.outcomes.parts_f64.Reads as reads
+use Rattle.stored_cases.proofs.outcomes.parts_f64.Lts as lts
+use Rattle.stored_cases.proofs.outcomes.compare_f64.Reads as compare-f64-reads
+use Rattle.stored_reader.proofs.packed.list_count.Reads as list-count-reads
+
+source-requires : tie.Need-source-requires
+source-requires c κs = search needs
+
+list-count-requires : tie.Need-list-count-requires
+list-count-requires c κs = search needs
+
+list-count-requires-2 : tie.Need-list-count-requires-2
+list-count-requires-2 c κs = search needs
+
+returns : tie.Need-returns
+returns c = search needs
+
+returns-2 : tie.Need-returns-2
+returns-2 c = search needs
+
+slice-aggregate-compare-f64 : tie.Need-slice-aggregate-compare-f64
+slice-aggregate-compare-f64 c = simp length-take (omega arith)
+
+slice-relend-prefix-compare-f64 : tie.Need-slice-relend-prefix-compare-f64
+slice-relend-prefix-compare-f64 c = search needs
+
+slice-aggregate-compare-f64-2 : tie.Need-slice-aggregate-compare-f64-2
+slice-aggregate-compare-f64-2 c = simp length-take (omega arith)
+
+compare-f64-requires : tie.Need-compare-f64-requires
+compare-f64-requires c κs = search needs
+
+same-length : tie.Need-same-length
+same-length c = search needs
+
+returns-3 : tie.Need-returns-3
+returns-3 c = search needs
+
+pub parts-f64-spec : {M : Type 1} → statement M
+parts-f64-spec =
+    tie.close
+    (tie.spec
+    source-requires
+    list-count-requires
+    list-count-requires-2
+    returns
+    returns-2
+    slice-aggregate-compare-f64
+    slice-relend-prefix-compare-f64
+    slice-aggregate-compare-f64-2
+    compare-f64-requires
+    same-length
+    returns-3)

@@ -1,0 +1,29 @@
+-- An exported call, by what prepare gives and the move does. Assumes nothing.
+use mathlib.Core.Path.{_≡_}
+use mathlib.Core.List.{List}
+use Prim.Native.Nat.{ℕ}
+use lib.ListN.{length}
+use Rattle.indexing.specs.Gather.{gathered}
+use Rattle.indexing.specs.Scatter.{scattered}
+use Rattle.layout.specs.declared.Answer.{Answer}
+use Rattle.calls.specs.Calls.{GatherCall, ScatterCall, Does, Gathers, Scatters, asIs}
+use Rattle.calls.proofs.Does.{by-answer, said}
+use Rattle.gather_move.specs.Prepared as gathers
+use Rattle.gather_move.specs.declared.PreparedGather.{PreparedGather}
+use Rattle.gather_move.proofs.Parts as gather-parts
+use Rattle.scatter_move.specs.Prepared as scatters
+use Rattle.scatter_move.specs.declared.PreparedScatter.{PreparedScatter}
+use Rattle.scatter_move.proofs.Parts as scatter-parts
+use Rattle.strided.specs.Words.{words}
+
+pub gather-handed : {A : Type 0} (z : A) (call : GatherCall) (p : PreparedGather) (operand before after : List A) (r : Answer) (handed : List ℕ)
+    → gathers.Prepares p (call .answer (length operand) (length before)) (call .gather) (length operand) (length (call .starts)) (length before)
+    → ((k : gathers.Movable p (length operand) (length (call .starts)) (length before)) → Does asIs (p .answer) (gathered z (k .gather) (call .starts) operand before) before after r)
+    → handed ≡ words r → Gathers z words call operand before after handed
+gather-handed z call p operand before after r handed q m w = said words w (by-answer (q .answered) (m (gather-parts.movable q)))
+
+pub scatter-handed : {A : Type 0} (z : A) (combine : A → A → A) (call : ScatterCall A) (p : PreparedScatter) (before after : List A) (r : Answer) (handed : List ℕ)
+    → scatters.Prepares p (call .answer (length before)) (call .scatter) (length (call .starts)) (length (call .updates)) (length before)
+    → ((k : scatters.Movable p (length (call .starts)) (length (call .updates)) (length before)) → Does asIs (p .answer) (scattered z combine (k .scatter) (call .starts) (call .updates) before) before after r)
+    → handed ≡ words r → Scatters z combine words call before after handed
+scatter-handed z combine call p before after r handed q m w = said words w (by-answer (q .answered) (m (scatter-parts.movable q)))
