@@ -22,8 +22,8 @@ pub gather-handed : {A : Type 0} (z : A) (call : GatherCall) (p : PreparedGather
     → handed ≡ words r → Gathers z words call operand before after handed
 gather-handed z call p operand before after r handed q m w = said words w (by-answer (q .answered) (m (gather-parts.movable q)))
 
-pub scatter-handed : {A : Type 0} (z : A) (combine : A → A → A) (call : ScatterCall A) (p : PreparedScatter) (before after : List A) (r : Answer) (handed : List ℕ)
+pub scatter-handed : {A : Type 0} (z : A) (rule : A → A → A) (call : ScatterCall A) (p : PreparedScatter) (before after : List A) (r : Answer) (handed : List ℕ)
     → scatters.Prepares p (call .answer (length before)) (call .scatter) (length (call .starts)) (length (call .updates)) (length before)
-    → ((k : scatters.Movable p (length (call .starts)) (length (call .updates)) (length before)) → Does asIs (p .answer) (scattered z combine (k .scatter) (call .starts) (call .updates) before) before after r)
-    → handed ≡ words r → Scatters z combine words call before after handed
-scatter-handed z combine call p before after r handed q m w = said words w (by-answer (q .answered) (m (scatter-parts.movable q)))
+    → ((k : scatters.Movable p (length (call .starts)) (length (call .updates)) (length before)) → Does asIs (p .answer) (scattered rule z (k .scatter) (call .starts) (call .updates) before) before after r)
+    → handed ≡ words r → Scatters z rule words call before after handed
+scatter-handed z rule call p before after r handed q m w = said words w (by-answer (q .answered) (m (scatter-parts.movable q)))

@@ -1,7 +1,9 @@
+use lib.IntN.{pos}
+use Rattle.job.specs.declared.Element.the-variants as E
+use Rattle.job_calls.specs.Jobs.{gatherByJob}
 use borrow.Author.Needs.{needs}
-use Rattle.calls.proofs.Does.{by-answer, said}
 use Rattle.gather_move.proofs.Parts.{movable}
-use Rattle.strided.specs.Words.{words}
+use Rattle.strided.proofs.Calls.{gather-handed}
 use Rattle.strided.proofs.strided_gather_i32.Statement.{statement}
 use Rattle.strided.proofs.strided_gather_i32.Tie as tie
 
@@ -19,8 +21,8 @@ same-length c = search needs
 
 returns : tie.Need-returns
 returns c =
-    let q = (c .before .before .before .before .prepare-gather .ensures) in
-    said words (c .words-of .ensures) (by-answer (q .answered) (c .before .before .move-i32 .ensures (movable q)))
+    let s = c .before .before .before .before .before .before in
+    gather-handed (pos 0) (gatherByJob E.I32 (s .args .job .now) (s .args .starts .now)) _ (s .args .operand .now) (s .args .dest .now) _ _ _ (c .before .before .before .before .prepare-gather .ensures) (c .before .before .move-i32 .ensures) (c .words-of .ensures)
 
 pub strided-gather-i32-spec : {M : Type 1} → statement M
 strided-gather-i32-spec =

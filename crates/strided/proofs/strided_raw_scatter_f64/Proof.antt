@@ -1,8 +1,12 @@
+use lib.Ieee.{nan}
+use Rattle.indexing.specs.Scatter.{addF64}
+use Rattle.calls.specs.Calls.{viewWith}
+use Rattle.scatter_checks.specs.Refusals.{scatterFrom}
+use Rattle.scatter_lists.specs.Lists.{byLists}
 use borrow.Author.Needs.{needs}
 use Rattle.integer.specs.Z.{back}
-use Rattle.calls.proofs.Does.{by-answer, said}
 use Rattle.scatter_move.proofs.Parts.{movable}
-use Rattle.strided.specs.Words.{words}
+use Rattle.strided.proofs.Calls.{scatter-handed}
 use Rattle.strided.proofs.strided_raw_scatter_f64.Statement.{statement}
 use Rattle.strided.proofs.strided_raw_scatter_f64.Tie as tie
 
@@ -20,8 +24,8 @@ same-length c = search needs
 
 returns : tie.Need-returns
 returns c =
-    let s = c .before .before .before .before .before .before .before .before .before .before .before .before .before .before .before .before .before in let q = (simp (back (s .fits .index-offset), back (s .fits .updates-offset), back (s .fits .dest-offset)) at (c .before .before .before .before .before .prepare-views .ensures)) in
-    said words (c .words-of .ensures) (by-answer (q .answered) (c .before .before .before .move-f64 .ensures (movable q)))
+    let s = c .before .before .before .before .before .before .before .before .before .before .before .before .before .before .before .before .before in
+    scatter-handed nan addF64 (byLists (scatterFrom (s .args .index-extents .now) (s .args .index-strides .now) (s .args .updates-extents .now) (s .args .updates-strides .now) (s .args .dest-extents .now) (s .args .dest-strides .now) (s .args .update-window-dims .now) (s .args .inserted-window-dims .now) (s .args .scatter-dims-to-operand-dims .now) (s .args .index-vector-dim)) (viewWith (s .args .index-view-extents .now) (s .args .index-view-strides .now) (s .args .index-offset)) (viewWith (s .args .updates-view-extents .now) (s .args .updates-view-strides .now) (s .args .updates-offset)) (viewWith (s .args .dest-view-extents .now) (s .args .dest-view-strides .now) (s .args .dest-offset)) (s .args .starts .now) (s .args .updates .now)) _ (s .args .dest .now) _ _ _ (simp (back (s .fits .index-offset), back (s .fits .updates-offset), back (s .fits .dest-offset)) at (c .before .before .before .before .before .prepare-views .ensures)) (c .before .before .before .move-f64 .ensures) (c .words-of .ensures)
 
 pub strided-raw-scatter-f64-spec : {M : Type 1} → statement M
 strided-raw-scatter-f64-spec =

@@ -1,7 +1,10 @@
+use lib.Ieee.{nan}
+use Rattle.indexing.specs.Scatter.{addF64}
+use Rattle.job.specs.declared.Element.the-variants as E
+use Rattle.job_calls.specs.Jobs.{scatterByJob}
 use borrow.Author.Needs.{needs}
-use Rattle.calls.proofs.Does.{by-answer, said}
 use Rattle.scatter_move.proofs.Parts.{movable}
-use Rattle.strided.specs.Words.{words}
+use Rattle.strided.proofs.Calls.{scatter-handed}
 use Rattle.strided.proofs.strided_scatter_f64.Statement.{statement}
 use Rattle.strided.proofs.strided_scatter_f64.Tie as tie
 
@@ -19,8 +22,8 @@ same-length c = search needs
 
 returns : tie.Need-returns
 returns c =
-    let q = (c .before .before .before .before .before .prepare-scatter .ensures) in
-    said words (c .words-of .ensures) (by-answer (q .answered) (c .before .before .before .move-f64 .ensures (movable q)))
+    let s = c .before .before .before .before .before .before .before .before .before in
+    scatter-handed nan addF64 (scatterByJob E.F64 (s .args .job .now) (s .args .starts .now) (s .args .updates .now)) _ (s .args .dest .now) _ _ _ (c .before .before .before .before .before .prepare-scatter .ensures) (c .before .before .before .move-f64 .ensures) (c .words-of .ensures)
 
 pub strided-scatter-f64-spec : {M : Type 1} → statement M
 strided-scatter-f64-spec =
