@@ -2,9 +2,9 @@
 //! answers here. Prints counts; the exit status is 1 where answers differ.
 //! Stored answers may stand for the oracle's, and the oracle's for the port's.
 
+use cases::answers::{load, outside, same, Answered};
 use lines::{Answer, Case, Spec};
 use model::{order, Check, Model};
-use runs::answers::{load, outside, same, Answered};
 use std::collections::BTreeMap;
 use std::path::Path;
 use std::process::ExitCode;
