@@ -54,9 +54,9 @@ build_oracle() {
     (cd "$here/rust/oracle" && cargo build --release --quiet --offline) >&2
 }
 
-# The static library is made before the driver that links it.
+# The static library is made before the driver that links it, by the crate rust/strided.
 build_port() {
     need_cargo
-    "$root/library"
-    (cd "$here/rust" && cargo build --release --quiet --offline --locked -p port) >&2
+    "$root/library" || fail "there is no libstrided.a"
+    (cd "$here/rust" && STRIDED_LIB_DIR=$root/target/staticlib cargo build --release --quiet --offline --locked -p port) >&2
 }
