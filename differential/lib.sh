@@ -2,7 +2,14 @@
 
 here=$(CDPATH='' cd -- "$(dirname -- "$0")" && pwd)
 root=$(dirname -- "$here")
-original=$(dirname -- "$root")/shared/docs/src/strided-basic/src/gather_plan.rs
+# The folder of the Rust source, which the builds of it take from the environment.
+STRIDED_RS_SRC=${STRIDED_RS_SRC:-$(dirname -- "$root")/shared/docs/src}
+case $STRIDED_RS_SRC in
+/*) ;;
+*) STRIDED_RS_SRC=$PWD/$STRIDED_RS_SRC ;;
+esac
+export STRIDED_RS_SRC
+original=$STRIDED_RS_SRC/strided-basic/src/gather_plan.rs
 bin=$root/target/differential/release
 work=$root/target/differential/work
 packed=$root/crates/stored_cases/data/cases.bin
@@ -16,13 +23,13 @@ fail() {
 
 need_cargo() {
     command -v cargo >/dev/null 2>&1 || PATH=$PATH:${HOME-}/.cargo/bin
-    command -v cargo >/dev/null 2>&1 || fail "cargo is missing: install Rust 1.82 or newer"
+    command -v cargo >/dev/null 2>&1 || fail "cargo is missing: install Rust 1.84 or newer"
 }
 
 # The model, the generator, the comparison: no crate from outside.
-build_runs() {
+build_cases() {
     need_cargo
-    (cd "$here/rust" && cargo build --release --quiet --offline --locked -p model -p runs) >&2
+    (cd "$here/rust" && cargo build --release --quiet --offline --locked -p model -p cases) >&2
 }
 
 have_original() { [ -r "$original" ]; }
@@ -41,15 +48,15 @@ install_tinyvec() {
 }
 
 build_oracle() {
-    have_original || fail "the oracle is not built: ../shared, which holds gather_plan.rs, is absent"
+    have_original || fail "the oracle is not built: there is no $original (STRIDED_RS_SRC)"
     need_cargo
     install_tinyvec
     (cd "$here/rust/oracle" && cargo build --release --quiet --offline) >&2
 }
 
-# The static library is made before the driver that links it.
+# The static library is made before the driver that links it, by the crate rust/strided.
 build_port() {
     need_cargo
-    "$root/library"
-    (cd "$here/rust" && cargo build --release --quiet --offline --locked -p port) >&2
+    "$root/library" || fail "there is no libstrided.a"
+    (cd "$here/rust" && STRIDED_LIB_DIR=$root/target/staticlib cargo build --release --quiet --offline --locked -p port) >&2
 }

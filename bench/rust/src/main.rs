@@ -1,7 +1,7 @@
 //! Calls of the static library beside the Rust original, in one process on
-//! the same inputs. gather_plan.rs and inline.rs are compiled unchanged from
-//! beside the repository, with the differential run's stand-ins for what they
-//! name from outside, and with two of `lean` in their place.
+//! the same inputs. gather_plan.rs and inline.rs are compiled unchanged, by
+//! path, with the differential run's stand-ins for what they name from
+//! outside, and with two of `lean` in their place.
 
 mod element;
 mod job;
@@ -10,14 +10,8 @@ mod measure;
 mod original;
 mod plain;
 
-#[rustfmt::skip]
-#[allow(dead_code, clippy::all)]
-#[path = "../../../../shared/docs/src/strided-basic/src/gather_plan.rs"]
-mod gather_plan;
-#[rustfmt::skip]
-#[allow(dead_code, clippy::all)]
-#[path = "../../../../shared/docs/src/strided-basic/src/inline.rs"]
-mod inline;
+// `gather_plan` and `inline`.
+include!(concat!(env!("OUT_DIR"), "/original.rs"));
 #[allow(dead_code)]
 #[path = "../../../differential/rust/oracle/src/stubs.rs"]
 mod stubs;

@@ -1,6 +1,6 @@
 //! The two types of element.
 
-use crate::ffi;
+use crate::calls::Calls;
 
 /// The type of the elements of a grid, as a stored job names it.
 #[derive(Clone, Copy, Debug, Eq, Hash, PartialEq)]
@@ -9,6 +9,16 @@ pub enum ElementType {
     I32,
     /// `f64`, whose sums round one by one.
     F64,
+}
+
+impl ElementType {
+    /// The number that a stored job has for it.
+    pub(crate) fn number(self) -> u64 {
+        match self {
+            Self::I32 => 1,
+            Self::F64 => 2,
+        }
+    }
 }
 
 /// A type of element that can be gathered and scattered: `i32` or `f64`.
@@ -26,7 +36,7 @@ pub enum ElementType {
 /// }
 /// assert_eq!(name::<f64>(), "f64");
 /// ```
-pub trait Element: Copy + ffi::Calls {
+pub trait Element: Copy + Calls {
     /// Which of the two it is.
     const TYPE: ElementType;
 }

@@ -1,9 +1,10 @@
 //! Stored jobs: a gather or a scatter with its views, as bytes.
 
+use crate::ffi::{self, steps, words};
 use crate::stored::Fields;
 use crate::{
-    ffi, Element, ElementType, GatherPlan, GatherSpec, Result, ScatterPlan, ScatterSpec,
-    StridedError, ViewLayout,
+    Element, ElementType, GatherPlan, GatherSpec, Result, ScatterPlan, ScatterSpec, StridedError,
+    ViewLayout,
 };
 
 /// A gather with its views, as a job holds it.
@@ -209,10 +210,44 @@ impl Job {
     }
 
     fn write(&self, out: &mut [u8]) -> Result<()> {
-        match self {
-            Self::Gather(job) => ffi::write_gather_job(job, out),
-            Self::Scatter(job) => ffi::write_scatter_job(job, out),
-        }
+        let element = self.element().number();
+        StridedError::check(match self {
+            Self::Gather(job) => ffi::strided_write_gather_job(
+                element,
+                words(&job.operand.dims),
+                steps(&job.operand.strides),
+                job.operand.offset as i64,
+                words(&job.index.dims),
+                steps(&job.index.strides),
+                job.index.offset as i64,
+                words(&job.dest.dims),
+                steps(&job.dest.strides),
+                job.dest.offset as i64,
+                words(&job.spec.offset_dims),
+                words(&job.spec.collapsed_slice_dims),
+                words(&job.spec.start_index_map),
+                job.spec.index_vector_dim as u64,
+                words(&job.spec.slice_sizes),
+                out,
+            ),
+            Self::Scatter(job) => ffi::strided_write_scatter_job(
+                element,
+                words(&job.index.dims),
+                steps(&job.index.strides),
+                job.index.offset as i64,
+                words(&job.updates.dims),
+                steps(&job.updates.strides),
+                job.updates.offset as i64,
+                words(&job.dest.dims),
+                steps(&job.dest.strides),
+                job.dest.offset as i64,
+                words(&job.spec.update_window_dims),
+                words(&job.spec.inserted_window_dims),
+                words(&job.spec.scatter_dims_to_operand_dims),
+                job.spec.index_vector_dim as u64,
+                out,
+            ),
+        })
     }
 
     /// The job that the bytes store.
@@ -234,7 +269,7 @@ impl Job {
     /// assert_eq!(refusal, StridedError::JobBytes { place: 4 });
     /// ```
     pub fn from_bytes(bytes: &[u8]) -> Result<Job> {
-        ffi::read_job(bytes)?;
+        check_job(bytes)?;
         let mut fields = Fields::new(bytes);
         let Some(job) = fields.job() else {
             return Err(refused_at(bytes.len().saturating_sub(fields.left())));
@@ -270,7 +305,7 @@ fn first_difference(left: &[u8], right: &[u8]) -> Option<usize> {
 /// assert_eq!(check_job(&[]), Err(StridedError::JobBytes { place: 0 }));
 /// ```
 pub fn check_job(bytes: &[u8]) -> Result<()> {
-    ffi::read_job(bytes)
+    StridedError::check(ffi::strided_read_job(bytes))
 }
 
 /// Reads a stored gather, compiles it and calls it, as

@@ -88,8 +88,8 @@
 //! length and stays borrowed for the call, and a destination is borrowed by
 //! `&mut`. The library then reads and writes only inside the slices, whatever
 //! the extents, strides, offsets and starts are; that is proved. So every
-//! function here is safe; the unsafe code stands in one module, `ffi`, and does
-//! nothing but hand the slices over.
+//! function here is safe; the unsafe code stands in one module, [`ffi`], and
+//! does nothing but hand the slices over.
 //!
 //! A destination that is read in the same call is not accepted:
 //!
@@ -110,10 +110,11 @@
 #[cfg(not(target_pointer_width = "64"))]
 compile_error!("strided is for 64-bit targets: its library counts and steps in 64 bits");
 
+mod calls;
 mod element;
 mod error;
 #[allow(unsafe_code)]
-mod ffi;
+pub mod ffi;
 mod job;
 mod plan;
 mod spec;

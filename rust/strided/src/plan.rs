@@ -1,6 +1,7 @@
 //! Plans: three layouts and a spec that compile has accepted.
 
-use crate::{ffi, Element, GatherSpec, Result, ScatterSpec, StridedMut, StridedRef};
+use crate::ffi::{self, steps, words};
+use crate::{Element, GatherSpec, Result, ScatterSpec, StridedError, StridedMut, StridedRef};
 
 /// Extents and strides that a plan keeps.
 #[derive(Clone, Debug, Eq, PartialEq)]
@@ -85,12 +86,19 @@ impl GatherPlan {
         dest_strides: &[isize],
         spec: GatherSpec,
     ) -> Result<Self> {
-        ffi::gather_refusal(
-            (operand_dims, operand_strides),
-            (index_dims, index_strides),
-            (dest_dims, dest_strides),
-            &spec,
-        )?;
+        StridedError::check(ffi::strided_gather_refusal(
+            words(operand_dims),
+            steps(operand_strides),
+            words(index_dims),
+            steps(index_strides),
+            words(dest_dims),
+            steps(dest_strides),
+            words(&spec.offset_dims),
+            words(&spec.collapsed_slice_dims),
+            words(&spec.start_index_map),
+            spec.index_vector_dim as u64,
+            words(&spec.slice_sizes),
+        ))?;
         Ok(Self {
             operand: Layout::new(operand_dims, operand_strides),
             index: Layout::new(index_dims, index_strides),
@@ -221,12 +229,18 @@ impl ScatterPlan {
         dest_strides: &[isize],
         spec: ScatterSpec,
     ) -> Result<Self> {
-        ffi::scatter_refusal(
-            (index_dims, index_strides),
-            (update_dims, update_strides),
-            (dest_dims, dest_strides),
-            &spec,
-        )?;
+        StridedError::check(ffi::strided_scatter_refusal(
+            words(index_dims),
+            steps(index_strides),
+            words(update_dims),
+            steps(update_strides),
+            words(dest_dims),
+            steps(dest_strides),
+            words(&spec.update_window_dims),
+            words(&spec.inserted_window_dims),
+            words(&spec.scatter_dims_to_operand_dims),
+            spec.index_vector_dim as u64,
+        ))?;
         Ok(Self {
             index: Layout::new(index_dims, index_strides),
             updates: Layout::new(update_dims, update_strides),

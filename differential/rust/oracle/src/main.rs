@@ -1,19 +1,12 @@
 //! The Rust original as judge. gather_plan.rs and inline.rs are compiled
-//! unchanged from beside the repository; `stubs` stands in for what they name
-//! from outside.
+//! unchanged, by path; `stubs` stands in for what they name from outside.
 
 mod added;
 mod calls;
 mod stubs;
 
-#[rustfmt::skip]
-#[allow(dead_code, clippy::all)]
-#[path = "../../../../../shared/docs/src/strided-basic/src/gather_plan.rs"]
-mod gather_plan;
-#[rustfmt::skip]
-#[allow(dead_code, clippy::all)]
-#[path = "../../../../../shared/docs/src/strided-basic/src/inline.rs"]
-mod inline;
+// `gather_plan` and `inline`.
+include!(concat!(env!("OUT_DIR"), "/original.rs"));
 
 // inline.rs takes INLINE_RANK from the view crate: this crate is that one too.
 extern crate self as strided_view;

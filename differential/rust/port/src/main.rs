@@ -1,38 +1,67 @@
 //! The port, through its static library.
 
-mod ffi;
+#![forbid(unsafe_code)]
+
+mod lists;
 mod stored;
 
-use lines::{Answer, Call, Case};
+use lines::{Answer, Call, Case, Data, Number};
 use model::Model;
+use strided::ffi;
 
 fn main() -> std::io::Result<()> {
     lines::drive(answer)
 }
 
-/// What the library has no function for is answered by `none`.
 fn answer(case: &Case) -> Answer {
     match case {
-        Case::Call(call) if too_many(call) => Some(Answer::TooMany),
-        Case::Call(call) => by_job_too(call, ffi::call(call)),
+        Case::Call(call) if too_many(call) => Answer::TooMany,
+        Case::Call(call) => by_lists_and_job(call),
         Case::Read(bytes) => stored::read(bytes),
         Case::Write { job, room } => stored::write(job, *room),
     }
-    .unwrap_or(Answer::None)
 }
 
-/// The answer of a call, and of the same call by its stored job: a panic tells
-/// where the two differ.
-fn by_job_too(call: &Call, answer: Option<Answer>) -> Option<Answer> {
-    let by_job = stored::call(call);
-    if let (Some(answer), Some(by_job)) = (&answer, &by_job) {
+/// The answer of a call by lists and, where a job can be stored for it, of the
+/// same call by that job: a panic tells where the two differ.
+fn by_lists_and_job(call: &Call) -> Answer {
+    let answer = lists::call(call);
+    if let Some(by_job) = stored::call(call) {
         assert_eq!(answer, by_job);
     }
-    answer.or(by_job)
+    answer
 }
 
 /// The library would add for years: the model tells which calls those are.
 fn too_many(call: &Call) -> bool {
     let model = Model::default();
     model.runs_too_long(call) && model.judge(call).answer == Answer::TooMany
+}
+
+fn number([n, a, b]: ffi::Answer) -> Number {
+    Number::new(n, a, b)
+}
+
+/// What the function for the call's elements answers, given source and
+/// destination, and the destination as it leaves it.
+fn called(
+    call: &Call,
+    by_i32: impl FnOnce(&[i32], &mut [i32]) -> ffi::Answer,
+    by_f64: impl FnOnce(&[f64], &mut [f64]) -> ffi::Answer,
+) -> (Number, Data) {
+    match (&call.source, &call.dest) {
+        (Data::I32(source), Data::I32(dest)) => {
+            let mut dest = dest.clone();
+            let answer = by_i32(source, &mut dest);
+            (number(answer), Data::I32(dest))
+        }
+        (Data::F64(source), Data::F64(dest)) => {
+            let floats = |bits: &[u64]| bits.iter().map(|&x| f64::from_bits(x)).collect::<Vec<_>>();
+            let (source, mut dest) = (floats(source), floats(dest));
+            let answer = by_f64(&source, &mut dest);
+            let bits = dest.iter().map(|x| x.to_bits()).collect();
+            (number(answer), Data::F64(bits))
+        }
+        _ => unreachable!("both slices are of the job's element"),
+    }
 }

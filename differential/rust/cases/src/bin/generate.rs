@@ -1,10 +1,10 @@
 //! Prints cases: `generate COUNT SEED`, `generate small [long]`,
 //! `generate large COUNT SEED`, `generate jobs COUNT SEED`, or `generate jobs small`.
 
-use runs::jobs::{self, Jobs};
-use runs::large::Large;
-use runs::small::{self, Size};
-use runs::Generator;
+use cases::jobs::{self, Jobs};
+use cases::large::Large;
+use cases::small::{self, Size};
+use cases::Generator;
 use std::fmt::Display;
 use std::io::{self, BufWriter, Write};
 

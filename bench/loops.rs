@@ -1,6 +1,6 @@
 // The Rattle loops beside the same loops in unchecked Rust, on the same inputs, in turn. Prints ratios of medians: Rattle's
 // time over Rust's, once with raw pointers (as the Rattle code is compiled: nothing says that two slices are apart) and once
-// with slices and get_unchecked (where the compiler knows it). bench/runs builds this several times and sums up.
+// with slices and get_unchecked (where the compiler knows it). bench/loops builds this several times and sums up.
 use std::hint::black_box;
 use std::time::Instant;
 
@@ -11,11 +11,11 @@ type Strides = [i64; 8];
 // refers to it.
 std::arch::global_asm!(concat!(
     ".pushsection .text.pad, \"axR\", @progbits\n.balign 64\n.skip ",
-    env!("RUNS_PAD", "bench/runs sets RUNS_PAD to a number of bytes"),
+    env!("LOOPS_PAD", "bench/loops sets LOOPS_PAD to a number of bytes"),
     "\n.popsection"
 ));
 
-// The archive of runs_c, which bench/runs links after space of its own.
+// The archive of runs_c, which bench/loops links after space of its own.
 extern "C" {
     fn bench_run_i32(
         add: bool,

@@ -1,8 +1,8 @@
 //! The mutation run: `mutate CASES ORACLE`. Every mutant of the model must
 //! be told from the oracle by some case, but for those that no case can see.
 
+use cases::answers::{first_seen, load, telling};
 use model::{mutants, Model, Mutant};
-use runs::answers::{first_seen, load, telling};
 use std::path::Path;
 use std::process::ExitCode;
 

@@ -3,9 +3,9 @@
 //! sees each mutant, and some for every refusal, answer, rank, element type
 //! and place of the vector axis.
 
+use cases::answers::{first_seen, load, telling, Answered};
 use lines::{Answer, Call, Spec};
 use model::{mutants, Model};
-use runs::answers::{first_seen, load, telling, Answered};
 use std::collections::{BTreeMap, BTreeSet};
 use std::path::Path;
 use std::{fs, io};

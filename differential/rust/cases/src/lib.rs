@@ -1,5 +1,5 @@
-//! Runs over cases: the generator, the enumeration of small cases, the
-//! comparison of answers.
+//! Cases: the generator, the enumeration of small ones, the comparison of
+//! their answers.
 
 pub mod answers;
 mod contents;

@@ -1,8 +1,8 @@
 //! What is printed can be read again.
 
+use cases::jobs::Jobs;
+use cases::Generator;
 use lines::{parse_case, Answer, Case};
-use runs::jobs::Jobs;
-use runs::Generator;
 
 #[test]
 fn cases_read_as_printed() {

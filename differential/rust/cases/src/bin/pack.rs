@@ -1,8 +1,8 @@
 //! Packs stored cases for the program `stored_cases`, which reads no text:
 //! `pack CASES ANSWERS FILE`. The format stands in the README beside FILE.
 
+use cases::answers::{load, Answered};
 use lines::{Answer, Call, Data, Element, GatherSpec, Layout, Number, ScatterSpec, Spec};
-use runs::answers::{load, Answered};
 use std::path::Path;
 use std::{fs, io};
 

@@ -1,0 +1,139 @@
+//! Calls by lists, and the answers that they give.
+
+use crate::{called, number};
+use lines::{Answer, Call, Data, GatherSpec, Number, ScatterSpec, Spec, View};
+use strided::ffi;
+
+/// A call whole, and the export of its compile's refusals with it: a panic
+/// tells where the two differ.
+pub fn call(call: &Call) -> Answer {
+    let views = &call.job.views;
+    let ((number, dest), refusal) = match &call.job.spec {
+        Spec::Gather(spec) => (gather(call, spec), gather_refusal(views, spec)),
+        Spec::Scatter(spec) => (scatter(call, spec), scatter_refusal(views, spec)),
+    };
+    let compiled = match number.n {
+        1..=7 => number,
+        _ => Number::DONE,
+    };
+    assert_eq!(refusal, compiled);
+    Answer::Called(number, dest)
+}
+
+/// Compile and call: the number, and the destination as they leave it.
+fn gather(call: &Call, spec: &GatherSpec) -> (Number, Data) {
+    let [operand, index, dest] = &call.job.views;
+    let [a, b, c] = [0, 1, 2].map(|place| call.call_layout(place));
+    // The two functions differ in the element alone.
+    macro_rules! by {
+        ($function:ident) => {
+            |source, written| {
+                ffi::$function(
+                    &operand.layout.extents,
+                    &operand.layout.strides,
+                    &index.layout.extents,
+                    &index.layout.strides,
+                    &dest.layout.extents,
+                    &dest.layout.strides,
+                    &spec.offset_dims,
+                    &spec.collapsed_slice_dims,
+                    &spec.start_index_map,
+                    spec.index_vector_dim,
+                    &spec.slice_sizes,
+                    &a.extents,
+                    &a.strides,
+                    operand.offset,
+                    &b.extents,
+                    &b.strides,
+                    index.offset,
+                    &c.extents,
+                    &c.strides,
+                    dest.offset,
+                    source,
+                    &call.index,
+                    written,
+                )
+            }
+        };
+    }
+    called(
+        call,
+        by!(strided_raw_gather_i32),
+        by!(strided_raw_gather_f64),
+    )
+}
+
+/// Compile and call: the number, and the destination as they leave it.
+fn scatter(call: &Call, spec: &ScatterSpec) -> (Number, Data) {
+    let [index, updates, dest] = &call.job.views;
+    let [a, b, c] = [0, 1, 2].map(|place| call.call_layout(place));
+    // The two functions differ in the element alone.
+    macro_rules! by {
+        ($function:ident) => {
+            |source, written| {
+                ffi::$function(
+                    &index.layout.extents,
+                    &index.layout.strides,
+                    &updates.layout.extents,
+                    &updates.layout.strides,
+                    &dest.layout.extents,
+                    &dest.layout.strides,
+                    &spec.update_window_dims,
+                    &spec.inserted_window_dims,
+                    &spec.scatter_dims_to_operand_dims,
+                    spec.index_vector_dim,
+                    &a.extents,
+                    &a.strides,
+                    index.offset,
+                    &b.extents,
+                    &b.strides,
+                    updates.offset,
+                    &c.extents,
+                    &c.strides,
+                    dest.offset,
+                    &call.index,
+                    source,
+                    written,
+                )
+            }
+        };
+    }
+    called(
+        call,
+        by!(strided_raw_scatter_i32),
+        by!(strided_raw_scatter_f64),
+    )
+}
+
+/// The first refusal of a gather's compile; 0 where there is none.
+fn gather_refusal([operand, index, dest]: &[View; 3], spec: &GatherSpec) -> Number {
+    number(ffi::strided_gather_refusal(
+        &operand.layout.extents,
+        &operand.layout.strides,
+        &index.layout.extents,
+        &index.layout.strides,
+        &dest.layout.extents,
+        &dest.layout.strides,
+        &spec.offset_dims,
+        &spec.collapsed_slice_dims,
+        &spec.start_index_map,
+        spec.index_vector_dim,
+        &spec.slice_sizes,
+    ))
+}
+
+/// The first refusal of a scatter's compile; 0 where there is none.
+fn scatter_refusal([index, updates, dest]: &[View; 3], spec: &ScatterSpec) -> Number {
+    number(ffi::strided_scatter_refusal(
+        &index.layout.extents,
+        &index.layout.strides,
+        &updates.layout.extents,
+        &updates.layout.strides,
+        &dest.layout.extents,
+        &dest.layout.strides,
+        &spec.update_window_dims,
+        &spec.inserted_window_dims,
+        &spec.scatter_dims_to_operand_dims,
+        spec.index_vector_dim,
+    ))
+}
