@@ -3,7 +3,7 @@ pub mod counts;
 
 use axis_lists::Numbers;
 use axis_lists::Steps;
-use gather_plan::Axis;
+use gather_plan::GatherReplayAxis;
 use gather_plan::GatherPlan;
 use gather_plan::Role;
 use integer::Checked;
@@ -17,7 +17,7 @@ pub enum Field {
     Layout(u64, u64),
     Numbers(u64, u64),
     VectorAxis,
-    Axis(u64),
+    GatherReplayAxis(u64),
     Steps(u64, u64),
     Total,
 }
@@ -197,13 +197,13 @@ pub fn other_steps(list: Steps, part: u64, i: usize, k: u64) -> Steps {
 fn changed_steps(plan: GatherPlan, which: u64, part: u64, i: usize, k: u64) -> GatherPlan {
     let mut changed = plan;
     if which == 0 {
-        let l = plan.component_offsets;
+        let l = plan.index_component_offsets;
         let m = other_steps(l, part, i, k);
-        changed.component_offsets = m;
+        changed.index_component_offsets = m;
     } else {
-        let l = plan.component_strides;
+        let l = plan.index_operand_strides;
         let m = other_steps(l, part, i, k);
-        changed.component_strides = m;
+        changed.index_operand_strides = m;
     }
     changed
 }
@@ -219,32 +219,32 @@ fn role_if(role: Role, part: u64, k: u64) -> Role {
     if part == 0 { other_role(role, k) } else { role }
 }
 
-fn other_axis(axis: Axis, part: u64, k: u64) -> Axis {
+fn other_axis(axis: GatherReplayAxis, part: u64, k: u64) -> GatherReplayAxis {
     let old = axis.role;
     let role = role_if(old, part, k);
     let a = other_if(axis.dest_step, 1, part, k);
     let b = other_if(axis.dest_reset, 2, part, k);
     let c = other_if(axis.window_step, 3, part, k);
     let d = other_if(axis.window_reset, 4, part, k);
-    let e = other_if(axis.batch_step, 5, part, k);
-    let f = other_if(axis.batch_reset, 6, part, k);
-    Axis {
+    let e = other_if(axis.index_batch_step, 5, part, k);
+    let f = other_if(axis.index_batch_reset, 6, part, k);
+    GatherReplayAxis {
         role,
         dest_step: a,
         dest_reset: b,
         window_step: c,
         window_reset: d,
-        batch_step: e,
-        batch_reset: f,
+        index_batch_step: e,
+        index_batch_reset: f,
     }
 }
 
 fn other_axes(
-    axes: [Axis; RAW_FUSED_RANK_LIMIT],
+    axes: [GatherReplayAxis; RAW_FUSED_RANK_LIMIT],
     part: u64,
     i: usize,
     k: u64,
-) -> [Axis; RAW_FUSED_RANK_LIMIT] {
+) -> [GatherReplayAxis; RAW_FUSED_RANK_LIMIT] {
     let mut out = axes;
     if i < RAW_FUSED_RANK_LIMIT {
         let axis = axes[i];
@@ -281,7 +281,7 @@ pub fn changed(plan: GatherPlan, field: Field, i: usize, k: u64) -> GatherPlan {
         Field::Layout(which, part) => changed_layout(plan, which, part, i, k),
         Field::Numbers(which, part) => changed_numbers(plan, which, part, i, k),
         Field::VectorAxis => changed_vector_axis(plan, k),
-        Field::Axis(part) => changed_axes(plan, part, i, k),
+        Field::GatherReplayAxis(part) => changed_axes(plan, part, i, k),
         Field::Steps(which, part) => changed_steps(plan, which, part, i, k),
         Field::Total => changed_total(plan, k),
     }

@@ -54,9 +54,9 @@ fn changed_numbers(plan: ScatterPlan, which: u64, part: u64, i: usize, k: u64) -
         let m = changed_plans::other_numbers(l, part, i, k);
         changed.scatter_dims_to_operand_dims = m;
     } else {
-        let l = plan.windows;
+        let l = plan.window_shape;
         let m = changed_plans::other_numbers(l, part, i, k);
-        changed.windows = m;
+        changed.window_shape = m;
     }
     changed
 }
@@ -64,13 +64,13 @@ fn changed_numbers(plan: ScatterPlan, which: u64, part: u64, i: usize, k: u64) -
 fn changed_steps(plan: ScatterPlan, which: u64, part: u64, i: usize, k: u64) -> ScatterPlan {
     let mut changed = plan;
     if which == 0 {
-        let l = plan.component_offsets;
+        let l = plan.index_component_offsets;
         let m = changed_plans::other_steps(l, part, i, k);
-        changed.component_offsets = m;
+        changed.index_component_offsets = m;
     } else {
-        let l = plan.component_strides;
+        let l = plan.index_operand_strides;
         let m = changed_plans::other_steps(l, part, i, k);
-        changed.component_strides = m;
+        changed.index_operand_strides = m;
     }
     changed
 }
@@ -176,9 +176,9 @@ fn changed_vector_axis(plan: ScatterPlan, k: u64) -> ScatterPlan {
 fn changed_count(plan: ScatterPlan, which: u64, k: u64) -> ScatterPlan {
     let mut changed = plan;
     if which == 0 {
-        changed.batches = other_u64(plan.batches, k);
+        changed.batch_elems = other_u64(plan.batch_elems, k);
     } else {
-        changed.cells = other_u64(plan.cells, k);
+        changed.window_elems = other_u64(plan.window_elems, k);
     }
     changed
 }

@@ -1,19 +1,18 @@
 -- A layout that neither 1 nor 2 refuses is read as it was given. Assumes nothing.
-use mathlib.Core.Path.{_≡_, refl, sym, ap, _∙_}
+use mathlib.Core.Path.{_≡_, refl, ap, _∙_}
 use mathlib.Core.Bool.{Bool, true, false, cond}
 use mathlib.Core.List.{List}
 use Prim.Native.Nat.{ℕ, _≤_}
 use native.Mathlib.Omega.{arith}
 use borrow.Author.Tests.{eqb-true, leb-true}
 use lib.Dec.{eqb, leb}
-use lib.ListN.{length, take}
-use lib.IntN.{ℤ, pos}
+use lib.ListN.{length}
+use lib.IntN.{ℤ}
 use Rattle.layout.specs.declared.Answer.{Answer}
 use Rattle.layout.specs.declared.Answer.the-variants as A
 use Rattle.layout.specs.declared.MadeLayout.{MadeLayout}
 use Rattle.layout.specs.Answers.{isDone, orElse}
-use Rattle.layout.specs.Layouts.{rankLimit, padded, extentsOf, stridesOf, layoutOf, strideLength, rankAtMost, layoutFrom}
-use Rattle.axis_lists.proofs.Filling.{read-back}
+use Rattle.layout.specs.Layouts.{rankLimit, layoutOf, strideLength, rankAtMost, layoutFrom}
 
 pub or-done : (x y : Answer) → isDone (orElse x y) ≡ true → (isDone x ≡ true) × (isDone y ≡ true)
 or-done x y e = go (isDone x) refl e
@@ -40,12 +39,3 @@ module _ (es : List ℕ) (ss : List ℤ) (m : MadeLayout) (e : m ≡ layoutFrom 
   pub made : m .layout ≡ layoutOf es ss
   unfolding layoutFrom
   made = ap (λ (r : MadeLayout). r .layout) e ∙ rw (p, q)
-
-  pub made-extents : extentsOf (m .layout) ≡ es
-  made-extents = ap extentsOf made ∙ read-back 1 es (few-axes (length es) q)
-
-  pub made-strides : stridesOf (m .layout) ≡ ss
-  made-strides =
-      let l : length ss ≡ length es = same-length (length es) (length ss) p in
-      let f : length es ≤ rankLimit = few-axes (length es) q in
-      ap stridesOf made ∙ ap (λ (n : ℕ). take n (padded rankLimit (pos 0) ss)) (sym l) ∙ read-back (pos 0) ss (omega arith)

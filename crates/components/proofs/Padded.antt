@@ -1,16 +1,16 @@
 -- Lists as arrays hold them, entry by entry. Assumes nothing.
 use mathlib.Core.Path.{_≡_, refl, sym, ap, ap₂, _∙_}
 use mathlib.Core.Bool.{Bool, true, false, cond}
-use mathlib.Core.List.{List, [], _++_, append-nil}
+use mathlib.Core.List.{List, _++_, append-nil}
 use Prim.Native.Nat.{ℕ, zero, suc, _+_, _-_, _<_, _≤_}
 use native.Mathlib.Omega.{arith}
 use borrow.Author.Tests.{ne-eqb, ltb-true, ltb-false}
-use lib.Dec.{eqb, ltb}
+use lib.Dec.{ltb}
 use lib.ListN.{length, getD, take, replicate, length-take}
 use lib.Seq.{take-all, ext-getD, getD-append-add}
 use lib.IntN.{ℤ, pos}
 use Rattle.indexing.specs.Coordinates.{tabulate}
-use Rattle.indexing.specs.Cuts.{length-tabulate, getD-tabulate}
+use Rattle.indexing.specs.Updates.{length-tabulate, getD-tabulate}
 use Rattle.layout.specs.Layouts.{rankLimit, padded}
 use Rattle.axis_lists.proofs.Filling.{entry-below, read-back}
 use Rattle.checks.proofs.Held.{length-padded}

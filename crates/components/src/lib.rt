@@ -53,7 +53,7 @@ fn offset_value(stride: i64, component: u64) -> i64
 }
 
 // The vector axis's stride times each component, of at most the rank limit.
-pub fn component_offsets(stride: i64, count: usize) -> Steps
+pub fn index_component_offsets(stride: i64, count: usize) -> Steps
     ensures { λ r. ⌜ r ≡ heldSteps (tabulate (min count rankLimit) (offsetOr stride)) ⌝ }
 {
     let n = layout::axis_count(count);

@@ -1,15 +1,15 @@
 -- What a plan that fits a call holds. Assumes nothing.
 use mathlib.Core.Path.{_≡_, refl, sym, ap, ap₂, subst, _∙_}
-use mathlib.Core.Bool.{Bool, true, false, cond, _&&_}
+use mathlib.Core.Bool.{Bool, true}
 use mathlib.Core.List.{List}
-use Prim.Native.Nat.{ℕ, _<_}
+use Prim.Native.Nat.{ℕ}
 use native.Mathlib.Omega.{arith}
 use lib.ListN.{length, getD, replicate}
 use lib.IntN.{ℤ, pos}
 use Rattle.indexing.specs.Coordinates.{rank, tabulate}
 use Rattle.indexing.specs.Gather.{Gather, shownDims, batchDims}
 use Rattle.indexing.specs.Steps.{windowSteps, batchSteps}
-use Rattle.indexing.specs.Cuts.{length-tabulate, getD-tabulate}
+use Rattle.indexing.specs.Updates.{length-tabulate, getD-tabulate}
 use Rattle.layout.specs.declared.Answer.{Answer}
 use Rattle.layout.specs.declared.Answer.the-variants as A
 use Rattle.layout.specs.declared.Reach.{Reach}
@@ -22,17 +22,17 @@ use Rattle.checks.proofs.Made.{or-done}
 use Rattle.components.specs.Components.{limitAt, unlessNone}
 use Rattle.components.proofs.Padded.{each-padded}
 use Rattle.equality.proofs.Compare.{and-true}
-use Rattle.calls.specs.Calls.{viewOf, sameView, sameViews, planRefusal, reachIn, boundsRefusal}
+use Rattle.calls.specs.Calls.{sameView, sameViews, planRefusal, reachIn, boundsRefusal}
 use Rattle.calls.proofs.Same.{same-view-is}
 use Rattle.calls.proofs.Does.{plan-done}
 use Rattle.gather_checks.specs.Refusals.{specRefusal, refusalOf}
-use Rattle.gather_plan.specs.declared.Axis.{Axis}
+use Rattle.gather_plan.specs.declared.GatherReplayAxis.{GatherReplayAxis}
 use Rattle.gather_plan.specs.declared.GatherPlan.{GatherPlan}
 use Rattle.gather_plan.specs.Plan.{noAxis, axisOf, planOf, heldGather}
 use Rattle.gather_plan.proofs.Accepted.{Accepted, accepted, length-window, length-batch}
 use Rattle.gather_same.specs.Same.{isCompiled}
 use Rattle.gather_same.proofs.Compiled.{compiled-is}
-use Rattle.gather_move.specs.Prepared.{gatherNumbers, startBase, Ready, Prepares}
+use Rattle.gather_move.specs.Prepared.{gatherNumbers, startBase, Ready}
 use Rattle.gather_move.specs.declared.GatherNumbers.{GatherNumbers}
 use Rattle.gather_move.specs.declared.PreparedGather.{PreparedGather}
 use Rattle.gather.specs.Calls.{gatherOf, planFits, callAnswer, windowStepsOf, batchStepsOf}
@@ -51,7 +51,7 @@ module _ (p : GatherPlan) (ok : isCompiled p ≡ true) where
   fits : Accepted g
   fits = accepted g A.Done done
 
-  steps-are : (f : Axis → ℤ) (l : List ℤ) → f noAxis ≡ pos 0 → length l ≡ rank (g .result) → ((a : ℕ) → f (axisOf g a) ≡ getD l a (pos 0)) → tabulate rankLimit (λ a. f (getD (p .axes) a noAxis)) ≡ padded rankLimit (pos 0) l
+  steps-are : (f : GatherReplayAxis → ℤ) (l : List ℤ) → f noAxis ≡ pos 0 → length l ≡ rank (g .result) → ((a : ℕ) → f (axisOf g a) ≡ getD l a (pos 0)) → tabulate rankLimit (λ a. f (getD (p .axes) a noAxis)) ≡ padded rankLimit (pos 0) l
   steps-are f l none k each =
       let n : ℕ = rank (g .result) in
       let m : length (tabulate n (axisOf g)) ≡ n = length-tabulate n (axisOf g) in
@@ -62,7 +62,7 @@ module _ (p : GatherPlan) (ok : isCompiled p ≡ true) where
   window-is = steps-are (λ a. a .«window_step») (windowSteps g) refl (length-window g) (λ a. refl)
 
   batch-is : batchStepsOf (p .axes) ≡ padded rankLimit (pos 0) (batchSteps g)
-  batch-is = steps-are (λ a. a .«batch_step») (batchSteps g) refl (length-batch g) (λ a. refl)
+  batch-is = steps-are (λ a. a .«index_batch_step») (batchSteps g) refl (length-batch g) (λ a. refl)
 
   pub numbers-are : (window batch stepped : List ℤ) (limits : List ℕ) → window ≡ windowStepsOf (p .axes) → batch ≡ batchStepsOf (p .axes)
       → stepped ≡ unlessNone (p .«start_index_map» .count) (replicate rankLimit (pos 0)) batch
@@ -75,8 +75,8 @@ module _ (p : GatherPlan) (ok : isCompiled p ≡ true) where
             «batch_steps» = stepped;
             «dest_steps» = p .dest .strides;
             count = p .«start_index_map» .count;
-            offsets = p .«component_offsets» .entries;
-            strides = p .«component_strides» .entries;
+            offsets = p .«index_component_offsets» .entries;
+            strides = p .«index_operand_strides» .entries;
             limits = limits;
           })
           (gatherNumbers g)
@@ -90,8 +90,8 @@ module _ (p : GatherPlan) (ok : isCompiled p ≡ true) where
         «batch_steps» = (es ∙ ap₂ (λ (m : ℕ) (l : List ℤ). unlessNone m (replicate rankLimit (pos 0)) l) n (eb ∙ batch-is)) i;
         «dest_steps» = is i .dest .strides;
         count = n i;
-        offsets = is i .«component_offsets» .entries;
-        strides = is i .«component_strides» .entries;
+        offsets = is i .«index_component_offsets» .entries;
+        strides = is i .«index_operand_strides» .entries;
         limits = el i;
       }
 

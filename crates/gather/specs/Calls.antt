@@ -11,7 +11,7 @@ use Rattle.layout.specs.declared.View.{View}
 use Rattle.layout.specs.Answers.{orElse}
 use Rattle.layout.specs.Layouts.{rankLimit}
 use Rattle.calls.specs.Calls.{viewOf, sameViews, planRefusal, boundsRefusal, GatherCall}
-use Rattle.gather_plan.specs.declared.Axis.{Axis}
+use Rattle.gather_plan.specs.declared.GatherReplayAxis.{GatherReplayAxis}
 use Rattle.gather_plan.specs.declared.GatherPlan.{GatherPlan}
 use Rattle.gather_plan.specs.Plan.{noAxis, heldGather}
 use Rattle.gather_same.specs.Same.{isCompiled}
@@ -33,8 +33,8 @@ abbrev pub byPlan : GatherPlan → View → View → View → List ℤ → Gathe
 byPlan p o i d starts = record { answer = λ on dn. callAnswer p (gatherOf p o i d) on (length starts) dn; gather = gatherOf p o i d; starts = starts }
 
 -- the steps of a plan's axes in the operand, and in the index view
-abbrev pub windowStepsOf : List Axis → List ℤ
+abbrev pub windowStepsOf : List GatherReplayAxis → List ℤ
 windowStepsOf axes = tabulate rankLimit (λ a. getD axes a noAxis .«window_step»)
 
-abbrev pub batchStepsOf : List Axis → List ℤ
-batchStepsOf axes = tabulate rankLimit (λ a. getD axes a noAxis .«batch_step»)
+abbrev pub batchStepsOf : List GatherReplayAxis → List ℤ
+batchStepsOf axes = tabulate rankLimit (λ a. getD axes a noAxis .«index_batch_step»)

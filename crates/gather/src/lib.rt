@@ -11,13 +11,13 @@ ghost use Rattle.gather_move.specs.Prepared.{gatherNumbers, Prepares};
 ghost use Rattle.gather.specs.Calls.{gatherOf, planFits, callAnswer, byPlan, windowStepsOf, batchStepsOf};
 use gather_move::GatherNumbers;
 use gather_move::PreparedGather;
-use gather_plan::Axis;
+use gather_plan::GatherReplayAxis;
 use gather_plan::GatherPlan;
 use layout::Answer;
 use layout::RAW_FUSED_RANK_LIMIT;
 use layout::View;
 
-fn window_steps(axes: [Axis; RAW_FUSED_RANK_LIMIT]) -> [i64; RAW_FUSED_RANK_LIMIT]
+fn window_steps(axes: [GatherReplayAxis; RAW_FUSED_RANK_LIMIT]) -> [i64; RAW_FUSED_RANK_LIMIT]
     ensures { λ r. ⌜ r ≡ windowStepsOf axes ⌝ }
 {
     let mut out = [0i64; RAW_FUSED_RANK_LIMIT];
@@ -31,14 +31,14 @@ fn window_steps(axes: [Axis; RAW_FUSED_RANK_LIMIT]) -> [i64; RAW_FUSED_RANK_LIMI
     out
 }
 
-fn batch_steps(axes: [Axis; RAW_FUSED_RANK_LIMIT]) -> [i64; RAW_FUSED_RANK_LIMIT]
+fn batch_steps(axes: [GatherReplayAxis; RAW_FUSED_RANK_LIMIT]) -> [i64; RAW_FUSED_RANK_LIMIT]
     ensures { λ r. ⌜ r ≡ batchStepsOf axes ⌝ }
 {
     let mut out = [0i64; RAW_FUSED_RANK_LIMIT];
     let mut i: usize = 0;
     while i < RAW_FUSED_RANK_LIMIT {
         let axis = axes[i];
-        let step = axis.batch_step;
+        let step = axis.index_batch_step;
         out[i] = step;
         i += 1;
     }
@@ -55,16 +55,16 @@ fn numbers_of(plan: GatherPlan) -> GatherNumbers
     let map = plan.start_index_map;
     let sizes = plan.slice_sizes;
     let axes = plan.axes;
-    let component_offsets = plan.component_offsets;
-    let component_strides = plan.component_strides;
+    let index_component_offsets = plan.index_component_offsets;
+    let index_operand_strides = plan.index_operand_strides;
     let window = window_steps(axes);
     let batch = batch_steps(axes);
     let stepped = components::unless_none(map.count, batch);
     let limits = components::limits_of(operand, sizes, map);
     let extents = dest.extents;
     let dest_steps = dest.strides;
-    let offsets = component_offsets.entries;
-    let strides = component_strides.entries;
+    let offsets = index_component_offsets.entries;
+    let strides = index_operand_strides.entries;
     GatherNumbers {
         rank: dest.rank,
         extents,

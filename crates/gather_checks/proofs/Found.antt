@@ -1,5 +1,5 @@
 -- What is found of a gather by the lists of its axes is what is asked. Assumes nothing.
-use mathlib.Core.Path.{_≡_, refl, sym, ap, ap₂, _∙_}
+use mathlib.Core.Path.{_≡_, sym, ap, _∙_}
 use mathlib.Core.Bool.{Bool, true, cond}
 use mathlib.Core.List.{List, [], _∷_}
 use Prim.Native.Nat.{ℕ}
@@ -19,7 +19,7 @@ use Rattle.checks.proofs.Made.{or-done}
 use Rattle.checks.proofs.Held.{Lengths, lengths-pass}
 use Rattle.gather_checks.specs.declared.Examined.{Examined}
 use Rattle.gather_checks.specs.Refusals.{gatherFrom, numbersRefusal, sizesRefusal, shapeFits, specRefusal, refusalOf}
-use Rattle.gather_checks.specs.Given.{answerBy, examinedBy, Found, Examines}
+use Rattle.gather_checks.specs.Given.{answerBy, examinedBy, Examines}
 
 -- lists whose sizes are not refused have the right lengths
 pub sizes-pass : (oe : List ℕ) (os : List ℤ) (ie : List ℕ) (is : List ℤ) (de : List ℕ) (ds : List ℤ) → isDone (sizesRefusal oe os ie is de ds) ≡ true → Lengths (length oe) (length os) (length ie) (length is) (length de) (length ds)

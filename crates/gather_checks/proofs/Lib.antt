@@ -1,4 +1,2 @@
 pub mod Collapsed
-pub mod Read
-pub mod Shape
 pub mod Found

@@ -1,9 +1,8 @@
 -- What a call by lists decides. Assumes nothing.
-use mathlib.Core.Path.{_≡_, refl, sym, ap, ap₂, subst, _∙_}
-use mathlib.Core.Bool.{Bool, true, false, cond, _&&_}
+use mathlib.Core.Path.{_≡_, refl, sym, ap, subst, _∙_}
+use mathlib.Core.Bool.{Bool, true, false, cond}
 use mathlib.Core.List.{List}
 use Prim.Native.Nat.{ℕ, min}
-use native.Mathlib.Omega.{arith}
 use lib.ListN.{length, take, replicate}
 use lib.IntN.{ℤ, pos}
 use Rattle.indexing.specs.Coordinates.{View, rank, pick, tabulate}
@@ -14,7 +13,7 @@ use Rattle.layout.specs.declared.Answer.the-variants as A
 use Rattle.layout.specs.declared.Reach.{Reach}
 use Rattle.layout.specs.Answers.{isDone, orElse}
 use Rattle.layout.specs.Layouts.{rankLimit, padded}
-use Rattle.layout.specs.Reach.{viewReach, bufferBounds}
+use Rattle.layout.specs.Reach.{bufferBounds}
 use Rattle.axis_lists.specs.Held.{heldSteps}
 use Rattle.axis_lists.specs.declared.Steps.{Steps}
 use Rattle.checks.specs.Values.{offsetOr}
@@ -23,11 +22,10 @@ use Rattle.components.specs.Components.{limitAt, unlessNone}
 use Rattle.equality.proofs.Compare.{and-true, and-both}
 use Rattle.calls.specs.Calls.{viewWith, sameView, sameViews, planRefusal, reachIn, boundsRefusal}
 use Rattle.calls.proofs.Same.{same-view-is, view-same}
-use Rattle.gather_checks.specs.declared.Examined.{Examined}
 use Rattle.gather_checks.specs.Refusals.{specRefusal, refusalOf, compileRefusal}
 use Rattle.gather_checks.specs.Given.{Found}
 use Rattle.gather_plan.proofs.Accepted.{Accepted, accepted, offsets-are, map-is}
-use Rattle.gather_move.specs.Prepared.{gatherNumbers, startBase, Ready, Prepares}
+use Rattle.gather_move.specs.Prepared.{gatherNumbers, startBase, Prepares}
 use Rattle.gather_move.specs.declared.GatherNumbers.{GatherNumbers}
 use Rattle.gather_move.specs.declared.PreparedGather.{PreparedGather}
 use Rattle.gather_lists.specs.Lists.{onViews, placed, listsAnswer}

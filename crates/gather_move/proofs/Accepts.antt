@@ -1,25 +1,20 @@
 -- A gather that compile does not refuse is valid, and its numbers are small. Assumes nothing.
 use mathlib.Core.Path.{_≡_, refl, sym, ap, subst, _∙_}
-use mathlib.Core.Bool.{Bool, true, false, cond, _&&_, _||_, true≢false}
+use mathlib.Core.Bool.{Bool, true, false, cond, _||_, true≢false}
 use mathlib.Core.List.{List, [], _∷_}
 use Prim.Native.Nat.{ℕ, zero, suc, _+_, _-_, _<_, _≤_, _^_}
 use native.Mathlib.Omega.{arith}
 use borrow.Author.Tests.{eqb-true, leb-true}
 use lib.Dec.{eqb, leb}
 use lib.ListN.{length, getD}
-use lib.IntN.{ℤ, pos, _*ℤ_}
-use mir.Syntax.{w64}
-use mir.Val.{SFits}
-use Rattle.indexing.specs.Coordinates.{View, rank, product, pick, has, others}
+use Rattle.indexing.specs.Coordinates.{rank, pick, has, others}
 use Rattle.indexing.specs.Start.{without, components}
 use Rattle.indexing.specs.Gather.{Gather, batchDims, shownDims}
-use Rattle.indexing.specs.Axes.{Axes}
-use Rattle.indexing.specs.Steps.{windowSteps, batchSteps}
 use Rattle.indexing.specs.Valid.{Strided, ValidGather}
 use Rattle.layout.specs.declared.Answer.{Answer}
 use Rattle.layout.specs.declared.Answer.the-variants as A
-use Rattle.layout.specs.Answers.{isDone, orElse}
-use Rattle.layout.specs.Layouts.{strideLength, rankAtMost}
+use Rattle.layout.specs.Answers.{isDone}
+use Rattle.layout.specs.Layouts.{strideLength}
 use Rattle.layout.specs.Lists.{uniqueAxes}
 use Rattle.layout.specs.Spans.{spanned, totalOf}
 use Rattle.axis_lists.specs.Held.{sameList}

@@ -1,13 +1,12 @@
 -- The move of an accepted gather: its cells lie inside their slices, and what it leaves is the gather. Assumes nothing.
 use mathlib.Core.Path.{_≡_, refl, sym, ap, ap₂, subst, _∙_}
 use mathlib.Core.Bool.{Bool, true, false, cond}
-use mathlib.Core.List.{List, [], _∷_}
+use mathlib.Core.List.{List}
 use Prim.Native.Nat.{ℕ, zero, suc, _+_, _-_, _<_, _≤_, _^_}
 use native.Mathlib.Omega.{arith}
 use lib.Dec.{eqb}
 use lib.ListN.{length, getD, take, replicate, length-replicate}
 use lib.IntN.{ℤ, pos, _+ℤ_, _*ℤ_, +ℤ-assoc, +ℤ-idr, *ℤ-zero}
-use lib.Signed.{_≤ℤ_, _<ℤ_}
 use Rattle.integer.specs.Z.{≤-from, <-from}
 use Rattle.indexing.specs.Coordinates.{rank, product, unravel, dot, ints, InSlice, elementAt, store, placeOf, pick, tabulate}
 use Rattle.indexing.specs.Start.{indexCoordinate, clamp, startOn, startIndex}
@@ -33,8 +32,8 @@ use Rattle.gather_checks.specs.Refusals.{refusalOf}
 use Rattle.runs.specs.Runs.{cellAt}
 use Rattle.runs.proofs.Turns.{same-turns}
 use Rattle.windows.specs.Windows.{placeAt}
-use Rattle.takes.specs.Takes.{componentAt, startAt, Starting, movedAt}
-use Rattle.takes.proofs.Starts.{in-wider}
+use Rattle.indexed_runs.specs.IndexedRuns.{componentAt, startAt, Starting, movedAt}
+use Rattle.indexed_runs.proofs.Starts.{in-wider}
 use Rattle.gather_windows.specs.Gathering.{gatheredBy, Gathering}
 use Rattle.gather_move.specs.Prepared.{gatherNumbers, startBase}
 use Rattle.gather_move.specs.declared.GatherNumbers.{GatherNumbers}

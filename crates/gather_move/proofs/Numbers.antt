@@ -1,5 +1,5 @@
 -- The numbers of an accepted gather, as they are read. Assumes nothing.
-use mathlib.Core.Path.{_≡_, refl, sym, ap, _∙_}
+use mathlib.Core.Path.{_≡_, sym, ap, _∙_}
 use mathlib.Core.Bool.{true}
 use mathlib.Core.List.{List}
 use Prim.Native.Nat.{ℕ, _<_, _≤_}
@@ -10,7 +10,7 @@ use Rattle.indexing.specs.Coordinates.{rank, tabulate, pick}
 use Rattle.indexing.specs.Gather.{Gather}
 use Rattle.indexing.specs.Axes.{length-pick, getD-pick}
 use Rattle.indexing.specs.Steps.{vectorStride, windowSteps, batchSteps}
-use Rattle.indexing.specs.Cuts.{length-tabulate, getD-tabulate}
+use Rattle.indexing.specs.Updates.{length-tabulate, getD-tabulate}
 use Rattle.layout.specs.declared.Answer.the-variants as A
 use Rattle.layout.specs.Answers.{isDone}
 use Rattle.layout.specs.Layouts.{rankLimit, padded}

@@ -1,6 +1,6 @@
 -- A move into the part of the destination that holds its cells is the gather into the whole. Assumes nothing.
 use mathlib.Core.Path.{_≡_, refl, sym, ap, ap₂, subst, _∙_}
-use mathlib.Core.Bool.{Bool, true, cond}
+use mathlib.Core.Bool.{true}
 use mathlib.Core.List.{List, _++_}
 use Prim.Native.Nat.{ℕ, _+_, _-_, _<_, _≤_, _^_}
 use native.Mathlib.Omega.{arith}
@@ -12,10 +12,10 @@ use mir.Syntax.{w64}
 use mir.Val.{SFits, toZ}
 use Rattle.integer.specs.Z.{back, known, znorm, zflat, zfacts, ≤-from, <-from}
 use Rattle.integer.specs.Laws.{≤-pos, ≤ℤ-trans, +ℤ-mono-r}
-use Rattle.indexing.specs.Coordinates.{View, product, elementAt, store}
+use Rattle.indexing.specs.Coordinates.{product, elementAt, store}
 use Rattle.indexing.specs.Gather.{Gather, cells, shownDims, batchDims, readAt, writeAt, gathered}
-use Rattle.indexing.specs.Loops.{inOrder, gathered-loop}
-use Rattle.indexing.specs.Reach.{lowest, highest}
+use Rattle.indexing.specs.Loops.{gathered-loop}
+use Rattle.indexing.specs.Reach.{lowest}
 use Rattle.indexing.specs.Steps.{windowSteps, batchSteps}
 use Rattle.indexing.specs.Valid.{Covered}
 use Rattle.indexing.specs.Parts.{rebased, covered-part, gathered-lent}
@@ -26,8 +26,8 @@ use Rattle.layout.specs.Answers.{isDone}
 use Rattle.layout.specs.Reach.{bufferBounds}
 use Rattle.layout.specs.Inside.{Inside, reach-inside, low-most, high-least}
 use Rattle.checks.proofs.Made.{or-done}
-use Rattle.calls.specs.Calls.{reachIn, Does, asIs}
-use Rattle.calls.proofs.Does.{done, not-outside, zero-of}
+use Rattle.calls.specs.Calls.{reachIn}
+use Rattle.calls.proofs.Does.{not-outside, zero-of}
 use Rattle.gather_checks.specs.Refusals.{specRefusal, refusalOf}
 use Rattle.runs.proofs.Place.{read}
 use Rattle.runs.proofs.Turns.{none}

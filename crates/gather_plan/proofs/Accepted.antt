@@ -1,13 +1,13 @@
 -- What is known of a gather that is not refused: its lists fit, its numbers fit, and what the code makes is its plan. Assumes nothing.
-use mathlib.Core.Path.{_≡_, refl, sym, ap, _∙_}
-use mathlib.Core.Bool.{Bool, true, false, cond}
+use mathlib.Core.Path.{_≡_, sym, ap, _∙_}
+use mathlib.Core.Bool.{true}
 use mathlib.Core.List.{List, []}
 use Prim.Native.Nat.{ℕ, _<_, _≤_, min}
 use native.Mathlib.Omega.{arith}
 use lib.ListN.{length, getD, take}
 use lib.Seq.{take-all}
 use lib.IntN.{ℤ, pos, _*ℤ_}
-use Rattle.indexing.specs.Coordinates.{product, pick, spread, others, tabulate}
+use Rattle.indexing.specs.Coordinates.{product, pick, others, tabulate}
 use Rattle.indexing.specs.Start.{without}
 use Rattle.indexing.specs.Gather.{Gather, shownDims, batchDims}
 use Rattle.indexing.specs.Axes.{length-spread}
@@ -25,7 +25,6 @@ use Rattle.checks.proofs.Made.{or-done, same-length, few-axes}
 use Rattle.checks.proofs.Lists.{unique-axes, axes-few, tabulate-same}
 use Rattle.checks.proofs.Fits.{fits-value, total-value, offset-value, first-each, same-count}
 use Rattle.gather_checks.specs.Refusals.{resetsAt, sizesRefusal, specRefusal, numbersRefusal, listsRefusal, countsRefusal, shapeRefusal, refusalOf}
-use Rattle.gather_plan.specs.declared.Axis.{Axis}
 use Rattle.gather_plan.specs.Plan.{reset, axisOf, noAxis, roleOf}
 use Rattle.gather_plan.specs.Made.{axisFrom, axesFrom}
 
@@ -167,8 +166,8 @@ module _ (g : Gather) where
           «dest_reset» = r .dest i;
           «window_step» = getD (windowSteps g) a (pos 0);
           «window_reset» = r .window i;
-          «batch_step» = getD (batchSteps g) a (pos 0);
-          «batch_reset» = r .batch i;
+          «index_batch_step» = getD (batchSteps g) a (pos 0);
+          «index_batch_reset» = r .batch i;
         }
 
     pub axes-are : axesFrom de ds (windowSteps g) (batchSteps g) (g .spec .offset-dims) (shownDims g) ≡ padded rankLimit noAxis (tabulate (length de) (axisOf g))

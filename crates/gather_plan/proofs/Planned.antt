@@ -1,8 +1,7 @@
 -- What the code makes of a gather that is not refused is its plan. Assumes nothing.
-use mathlib.Core.Path.{_≡_, sym, ap, ap₂, _∙_}
+use mathlib.Core.Path.{_≡_, sym, ap, _∙_}
 use mathlib.Core.List.{List}
 use Prim.Native.Nat.{ℕ, min}
-use native.Mathlib.Omega.{arith}
 use lib.ListN.{length, take}
 use lib.IntN.{ℤ, pos}
 use Rattle.indexing.specs.Coordinates.{pick, others, tabulate}
@@ -21,7 +20,7 @@ use Rattle.checks.proofs.Made.{made}
 use Rattle.checks.proofs.Held.{few-others, others-held}
 use Rattle.checks.proofs.Fits.{strides-yes, rank-yes}
 use Rattle.gather_checks.specs.Given.{Found}
-use Rattle.gather_plan.specs.declared.Axis.{Axis}
+use Rattle.gather_plan.specs.declared.GatherReplayAxis.{GatherReplayAxis}
 use Rattle.gather_plan.specs.declared.GatherPlan.{GatherPlan}
 use Rattle.gather_plan.specs.Plan.{planOf}
 use Rattle.gather_plan.specs.Made.{axesFrom}
@@ -37,7 +36,7 @@ module _ (g : Gather) (window batch : List ℤ) (q : Found g window batch) where
       let n : ℕ = length (g .operand .extents) in
       ap numbersOf (others-held shown n (g .spec .collapsed-slice-dims) e (fits .operand-rank)) ∙ read-back 0 (others n (g .spec .collapsed-slice-dims)) (few-others n (g .spec .collapsed-slice-dims) (fits .operand-rank))
 
-  pub plan-is : (x y z : MadeLayout) (shown : Numbers) (axes : List Axis) (offsets : Steps) (entries : List ℤ) (a b c d : Numbers) (total : ℕ)
+  pub plan-is : (x y z : MadeLayout) (shown : Numbers) (axes : List GatherReplayAxis) (offsets : Steps) (entries : List ℤ) (a b c d : Numbers) (total : ℕ)
       → x ≡ layoutFrom (g .operand .extents) (g .operand .strides) → y ≡ layoutFrom (g .indices .extents) (g .indices .strides) → z ≡ layoutFrom (g .result .extents) (g .result .strides)
       → shown ≡ heldNumbers (others (min (length (g .operand .extents)) rankLimit) (g .spec .collapsed-slice-dims))
       → axes ≡ axesFrom (g .result .extents) (g .result .strides) (take (length (g .result .extents)) window) (take (length (g .result .extents)) batch) (g .spec .offset-dims) (numbersOf shown)
@@ -55,8 +54,8 @@ module _ (g : Gather) (window batch : List ℤ) (q : Found g window batch) where
             «index_vector_dim» = g .spec .index-vector-dim;
             «slice_sizes» = d;
             axes = axes;
-            «component_offsets» = offsets;
-            «component_strides» = record { count = length (g .spec .start-index-map); entries = entries };
+            «index_component_offsets» = offsets;
+            «index_operand_strides» = record { count = length (g .spec .start-index-map); entries = entries };
             total = total;
           })
           (planOf g)
@@ -79,7 +78,7 @@ module _ (g : Gather) (window batch : List ℤ) (q : Found g window batch) where
         «index_vector_dim» = g .spec .index-vector-dim;
         «slice_sizes» = e4 i;
         axes = ax i;
-        «component_offsets» = of i;
-        «component_strides» = record { count = ct i; entries = en i };
+        «index_component_offsets» = of i;
+        «index_operand_strides» = record { count = ct i; entries = en i };
         total = (et ∙ p .total-fits) i;
       }

@@ -17,7 +17,7 @@ use Rattle.checks.specs.Nothing.{noLayout, noNumbers, noSteps}
 use Rattle.gather_checks.specs.Refusals.{gatherFrom, refusalOf, compileRefusal}
 use Rattle.gather_plan.specs.declared.Role.{Role}
 use Rattle.gather_plan.specs.declared.Role.the-variants.{Batch, Window}
-use Rattle.gather_plan.specs.declared.Axis.{Axis}
+use Rattle.gather_plan.specs.declared.GatherReplayAxis.{GatherReplayAxis}
 use Rattle.gather_plan.specs.declared.GatherPlan.{GatherPlan}
 use Rattle.gather_plan.specs.declared.CompiledGather.{CompiledGather}
 
@@ -32,7 +32,7 @@ abbrev pub reset : ℕ → ℤ → ℤ
 reset d s = negℤ (s *ℤ pos (d - 1))
 
 -- an axis: its role, and its steps in the destination, in the operand and in the index view, with the reset of each at its extent
-abbrev pub axisWith : (ℕ → ℤ → ℤ) → Role → ℕ → ℤ → ℤ → ℤ → Axis
+abbrev pub axisWith : (ℕ → ℤ → ℤ) → Role → ℕ → ℤ → ℤ → ℤ → GatherReplayAxis
 axisWith back role d s w b =
     record {
       role = role;
@@ -40,17 +40,17 @@ axisWith back role d s w b =
       «dest_reset» = back d s;
       «window_step» = w;
       «window_reset» = back d w;
-      «batch_step» = b;
-      «batch_reset» = back d b;
+      «index_batch_step» = b;
+      «index_batch_reset» = back d b;
     }
 
 -- axis a of a gather's destination
-abbrev pub axisOf : Gather → ℕ → Axis
+abbrev pub axisOf : Gather → ℕ → GatherReplayAxis
 axisOf g a = axisWith reset (roleOf (g .spec .offset-dims) (shownDims g) a) (getD (g .result .extents) a 0) (getD (g .result .strides) a (pos 0)) (getD (windowSteps g) a (pos 0)) (getD (batchSteps g) a (pos 0))
 
 -- what stands past the last axis
-abbrev pub noAxis : Axis
-noAxis = record { role = Batch; «dest_step» = pos 0; «dest_reset» = pos 0; «window_step» = pos 0; «window_reset» = pos 0; «batch_step» = pos 0; «batch_reset» = pos 0 }
+abbrev pub noAxis : GatherReplayAxis
+noAxis = record { role = Batch; «dest_step» = pos 0; «dest_reset» = pos 0; «window_step» = pos 0; «window_reset» = pos 0; «index_batch_step» = pos 0; «index_batch_reset» = pos 0 }
 
 -- THE PLAN of a gather: its layouts, its spec, its axes; of each component the vector axis's stride times c, and the operand's stride
 -- on the axis that it starts the window on; how many cells the destination has
@@ -66,8 +66,8 @@ planOf g =
       «index_vector_dim» = g .spec .index-vector-dim;
       «slice_sizes» = heldNumbers (g .spec .slice-sizes);
       axes = padded rankLimit noAxis (tabulate (rank (g .result)) (axisOf g));
-      «component_offsets» = heldSteps (tabulate (length (g .spec .start-index-map)) (λ c. vectorStride (g .indices) (g .spec .index-vector-dim) *ℤ pos c));
-      «component_strides» = heldSteps (pick (pos 0) (g .spec .start-index-map) (g .operand .strides));
+      «index_component_offsets» = heldSteps (tabulate (length (g .spec .start-index-map)) (λ c. vectorStride (g .indices) (g .spec .index-vector-dim) *ℤ pos c));
+      «index_operand_strides» = heldSteps (pick (pos 0) (g .spec .start-index-map) (g .operand .strides));
       total = product (g .result .extents);
     }
 
@@ -84,8 +84,8 @@ refusedPlan =
       «index_vector_dim» = 0;
       «slice_sizes» = noNumbers;
       axes = replicate rankLimit noAxis;
-      «component_offsets» = noSteps;
-      «component_strides» = noSteps;
+      «index_component_offsets» = noSteps;
+      «index_operand_strides» = noSteps;
       total = 0;
     }
 

@@ -27,14 +27,14 @@ pub enum Role {
 }
 
 // Steps and resets along one destination axis: in the destination, in the operand, in the index view.
-pub struct Axis {
+pub struct GatherReplayAxis {
     pub role: Role,
     pub dest_step: i64,
     pub dest_reset: i64,
     pub window_step: i64,
     pub window_reset: i64,
-    pub batch_step: i64,
-    pub batch_reset: i64,
+    pub index_batch_step: i64,
+    pub index_batch_reset: i64,
 }
 
 pub struct GatherPlan {
@@ -46,9 +46,9 @@ pub struct GatherPlan {
     pub start_index_map: Numbers,
     pub index_vector_dim: u64,
     pub slice_sizes: Numbers,
-    pub axes: [Axis; RAW_FUSED_RANK_LIMIT],
-    pub component_offsets: Steps,
-    pub component_strides: Steps,
+    pub axes: [GatherReplayAxis; RAW_FUSED_RANK_LIMIT],
+    pub index_component_offsets: Steps,
+    pub index_operand_strides: Steps,
     pub total: u64,
 }
 
@@ -58,17 +58,17 @@ pub struct CompiledGather {
     pub plan: GatherPlan,
 }
 
-fn no_axis() -> Axis
+fn no_axis() -> GatherReplayAxis
     ensures { λ r. ⌜ r ≡ noAxis ⌝ }
 {
-    Axis {
+    GatherReplayAxis {
         role: Role::Batch,
         dest_step: 0,
         dest_reset: 0,
         window_step: 0,
         window_reset: 0,
-        batch_step: 0,
-        batch_reset: 0,
+        index_batch_step: 0,
+        index_batch_reset: 0,
     }
 }
 
@@ -105,8 +105,8 @@ fn refused(answer: Answer) -> CompiledGather
             index_vector_dim: 0,
             slice_sizes: numbers,
             axes,
-            component_offsets: steps,
-            component_strides: steps,
+            index_component_offsets: steps,
+            index_operand_strides: steps,
             total: 0,
         },
     }
@@ -150,20 +150,20 @@ fn role_at(offset_dims: &[u64], shown: Numbers, axis: u64) -> Role
     Role::Batch
 }
 
-fn axis_with(role: Role, extent: u64, dest: i64, window: i64, batch: i64) -> Axis
+fn axis_with(role: Role, extent: u64, dest: i64, window: i64, batch: i64) -> GatherReplayAxis
     ensures { λ r. ⌜ r ≡ axisWith resetOr role extent dest window batch ⌝ }
 {
     let a = reset_value(extent, dest);
     let b = reset_value(extent, window);
     let c = reset_value(extent, batch);
-    Axis {
+    GatherReplayAxis {
         role,
         dest_step: dest,
         dest_reset: a,
         window_step: window,
         window_reset: b,
-        batch_step: batch,
-        batch_reset: c,
+        index_batch_step: batch,
+        index_batch_reset: c,
     }
 }
 
@@ -175,7 +175,7 @@ fn axes_of(
     batch: Steps,
     offset_dims: &[u64],
     shown: Numbers,
-) -> [Axis; RAW_FUSED_RANK_LIMIT]
+) -> [GatherReplayAxis; RAW_FUSED_RANK_LIMIT]
     requires { ⌜ length (now extents) ≤ rankLimit ⌝ }
     ensures { λ r. ⌜ r ≡ axesFrom (now (extents .entry)) (now (dest .entry)) (stepsOf window) (stepsOf batch) (now («offset_dims» .entry)) (numbersOf shown) ⌝ }
 {
@@ -231,7 +231,7 @@ fn plan_of(
     };
     let axes = axes_of(dest_extents, dest_strides, moves, starts, offset_dims, shown);
     let stride = axis_lists::stride_at(index_strides, index_vector_dim);
-    let offsets = components::component_offsets(stride, start_index_map.len());
+    let offsets = components::index_component_offsets(stride, start_index_map.len());
     let entries = components::strides_on(start_index_map, operand_strides);
     let strides = Steps {
         count: start_index_map.len(),
@@ -252,8 +252,8 @@ fn plan_of(
         index_vector_dim,
         slice_sizes: d,
         axes,
-        component_offsets: offsets,
-        component_strides: strides,
+        index_component_offsets: offsets,
+        index_operand_strides: strides,
         total,
     }
 }

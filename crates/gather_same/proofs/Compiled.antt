@@ -16,7 +16,7 @@ use Rattle.equality.proofs.Compare.{and-true, and-both}
 use Rattle.gather_plan.specs.declared.GatherPlan.{GatherPlan}
 use Rattle.gather_plan.specs.Plan.{planOf, refusedPlan, compiledBy, compiledAgain, heldGather}
 use Rattle.gather_plan.proofs.Accepted.{accepted}
-use Rattle.gather_plan.proofs.Compiled.{unplaced, compiled-plan, held-again}
+use Rattle.gather_plan.proofs.Compiled.{compiled-plan, held-again}
 use Rattle.gather_same.specs.Same.{isCompiled}
 use Rattle.gather_same.proofs.Compare.{same-plan-decides}
 

@@ -6,7 +6,7 @@ use Rattle.layout.specs.Answers.{isDone}
 use Rattle.equality.specs.Same.{sameBy, sameLayout, sameNumbers, sameSteps}
 use Rattle.gather_plan.specs.declared.Role.{Role}
 use Rattle.gather_plan.specs.declared.Role.the-variants.{Batch, Window}
-use Rattle.gather_plan.specs.declared.Axis.{Axis}
+use Rattle.gather_plan.specs.declared.GatherReplayAxis.{GatherReplayAxis}
 use Rattle.gather_plan.specs.declared.GatherPlan.{GatherPlan}
 use Rattle.gather_plan.specs.Plan.{compiledAgain, heldGather}
 
@@ -17,12 +17,12 @@ sameRole Batch (Window y) = false
 sameRole (Window x) Batch = false
 sameRole (Window x) (Window y) = eqb x y
 
-unfoldable pub sameAxis : Axis → Axis → Bool
+unfoldable pub sameAxis : GatherReplayAxis → GatherReplayAxis → Bool
 sameAxis a b =
     sameRole (a .role) (b .role)
     && (eqZ (a .«dest_step») (b .«dest_step») && (eqZ (a .«dest_reset») (b .«dest_reset»)
     && (eqZ (a .«window_step») (b .«window_step») && (eqZ (a .«window_reset») (b .«window_reset»)
-    && (eqZ (a .«batch_step») (b .«batch_step») && eqZ (a .«batch_reset») (b .«batch_reset»))))))
+    && (eqZ (a .«index_batch_step») (b .«index_batch_step») && eqZ (a .«index_batch_reset») (b .«index_batch_reset»))))))
 
 -- the layouts, the spec, and what the walk takes
 unfoldable pub sameLayouts : GatherPlan → GatherPlan → Bool
@@ -38,8 +38,8 @@ sameSpec a b =
 unfoldable pub sameWalk : GatherPlan → GatherPlan → Bool
 sameWalk a b =
     sameBy sameAxis (a .axes) (b .axes)
-    && (sameSteps (a .«component_offsets») (b .«component_offsets»)
-    && (sameSteps (a .«component_strides») (b .«component_strides») && eqb (a .total) (b .total)))
+    && (sameSteps (a .«index_component_offsets») (b .«index_component_offsets»)
+    && (sameSteps (a .«index_operand_strides») (b .«index_operand_strides») && eqb (a .total) (b .total)))
 
 -- whether two plans are the same (`same-plan-decides`)
 unfoldable pub samePlan : GatherPlan → GatherPlan → Bool

@@ -3,7 +3,7 @@ ghost use mathlib.Core.Path.{_≡_};
 ghost use Rattle.equality.specs.Same.{sameBy};
 ghost use Rattle.gather_plan.specs.Plan.{compiledAgain, heldGather};
 ghost use Rattle.gather_same.specs.Same.{sameRole, sameAxis, sameLayouts, sameSpec, sameWalk, samePlan, isCompiled};
-use gather_plan::Axis;
+use gather_plan::GatherReplayAxis;
 use gather_plan::CompiledGather;
 use gather_plan::GatherPlan;
 use gather_plan::Role;
@@ -24,7 +24,7 @@ fn same_role(a: Role, b: Role) -> bool
     }
 }
 
-fn same_axis(a: Axis, b: Axis) -> bool
+fn same_axis(a: GatherReplayAxis, b: GatherReplayAxis) -> bool
     ensures { λ r. ⌜ r ≡ sameAxis a b ⌝ }
 {
     let x = a.role;
@@ -34,8 +34,8 @@ fn same_axis(a: Axis, b: Axis) -> bool
     let d = equality::same_i64(a.dest_reset, b.dest_reset);
     let e = equality::same_i64(a.window_step, b.window_step);
     let f = equality::same_i64(a.window_reset, b.window_reset);
-    let g = equality::same_i64(a.batch_step, b.batch_step);
-    let h = equality::same_i64(a.batch_reset, b.batch_reset);
+    let g = equality::same_i64(a.index_batch_step, b.index_batch_step);
+    let h = equality::same_i64(a.index_batch_reset, b.index_batch_reset);
     equality::both(
         role,
         equality::both(
@@ -48,7 +48,7 @@ fn same_axis(a: Axis, b: Axis) -> bool
     )
 }
 
-fn same_axes(a: [Axis; RAW_FUSED_RANK_LIMIT], b: [Axis; RAW_FUSED_RANK_LIMIT]) -> bool
+fn same_axes(a: [GatherReplayAxis; RAW_FUSED_RANK_LIMIT], b: [GatherReplayAxis; RAW_FUSED_RANK_LIMIT]) -> bool
     ensures { λ r. ⌜ r ≡ sameBy sameAxis a b ⌝ }
 {
     let mut i: usize = 0;
@@ -109,11 +109,11 @@ fn same_walk(a: GatherPlan, b: GatherPlan) -> bool
     let x = a.axes;
     let y = b.axes;
     let axes = same_axes(x, y);
-    let u = a.component_offsets;
-    let v = b.component_offsets;
+    let u = a.index_component_offsets;
+    let v = b.index_component_offsets;
     let offsets = equality::same_steps(u, v);
-    let s = a.component_strides;
-    let t = b.component_strides;
+    let s = a.index_operand_strides;
+    let t = b.index_operand_strides;
     let strides = equality::same_steps(s, t);
     equality::both(
         axes,

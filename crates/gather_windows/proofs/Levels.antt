@@ -5,9 +5,8 @@ use mathlib.Core.List.{List, [], _∷_}
 use Prim.Native.Nat.{ℕ, zero, suc, _+_, _*_, _-_, _/_, _%_, _<_, _≤_, _^_}
 use native.Mathlib.Nat.{mod-lt}
 use native.Mathlib.Omega.{arith}
-use lib.ListN.{length, getD, take}
-use lib.Seq.{length-take-le, getD-take}
-use lib.IntN.{ℤ, pos, _+ℤ_, _*ℤ_, +ℤ-idr}
+use lib.ListN.{getD, take}
+use lib.IntN.{ℤ, pos, _+ℤ_, +ℤ-idr}
 use mir.Syntax.{w64}
 use mir.Val.{SFits}
 use Rattle.integer.specs.Z.{back}
@@ -17,15 +16,15 @@ use Rattle.indexing.specs.Odometer.{AllPos, offsetAt}
 use Rattle.indexing.specs.Linear.{head-pos, div-below}
 use Rattle.indexing.specs.Fusion.{product-pos}
 use Rattle.indexing.specs.Loops.{inOrder}
-use Rattle.runs.specs.Runs.{cellAt, line, Line}
-use Rattle.runs.proofs.Turns.{none, more, in-runs, same-turns, same-places}
+use Rattle.runs.specs.Runs.{cellAt, line}
+use Rattle.runs.proofs.Turns.{more, in-runs, same-turns, same-places}
 use Rattle.runs.proofs.Place.{read, machine, in-fits, Step, step}
-use Rattle.windows.specs.Windows.{placeAt, windowed, Region, Window, Level}
+use Rattle.windows.specs.Windows.{placeAt, windowed, Level}
 use Rattle.windows.proofs.Last.{product-top, positive-top, place-top, digit-below, units-product, units-place, place-first}
 use Rattle.windows.proofs.Levels.{region-below, region-line, region-bases}
-use Rattle.takes.specs.Takes.{startAt, Starting, movedAt, Taking}
-use Rattle.takes.proofs.Starts.{wider}
-use Rattle.takes.proofs.Cells.{cells-end}
+use Rattle.indexed_runs.specs.IndexedRuns.{startAt, Starting, movedAt, Taking}
+use Rattle.indexed_runs.proofs.Starts.{wider}
+use Rattle.indexed_runs.proofs.Cells.{cells-end}
 use Rattle.gather_windows.specs.Gathering.{gatheredBy, Gathering, Still, GatherLevel}
 
 module _ (starts offsets strides : List ℤ) (limits : List ℕ) (count : ℕ) (shape : List ℕ) (ss ts ds : List ℤ) where

@@ -19,7 +19,7 @@ use Rattle.indexing.specs.Loops.{inOrder}
 use Rattle.runs.specs.Runs.{cellAt, line}
 use Rattle.runs.proofs.Turns.{same-places}
 use Rattle.runs.proofs.Place.{read, in-fits, line-zero}
-use Rattle.takes.specs.Takes.{componentAt, startAt, movedAt, Taking, clampedAt, Clamped}
+use Rattle.indexed_runs.specs.IndexedRuns.{componentAt, startAt, movedAt, Taking, clampedAt, Clamped}
 
 still : (s : ℤ) (k : ℕ) → line s (pos 0) k ≡ s
 still s k = ap (λ (m : ℕ). s +ℤ pos m) (zero-mul k) ∙ +ℤ-idr s

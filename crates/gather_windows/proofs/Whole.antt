@@ -18,8 +18,7 @@ use Rattle.runs.proofs.Turns.{none, same-places}
 use Rattle.runs.proofs.Place.{read, line-zero}
 use Rattle.windows.specs.Windows.{placeAt, Region, Units}
 use Rattle.windows.proofs.Last.{place-first, no-cells}
-use Rattle.takes.specs.Takes.{startAt, Starting, movedAt, Taking}
-use Rattle.takes.proofs.Cells.{cells-end}
+use Rattle.indexed_runs.specs.IndexedRuns.{startAt, Starting, movedAt, Taking}
 use Rattle.gather_windows.specs.Gathering.{gatheredBy, Gathering, Still, GatherLevel}
 
 only-zero : (P : ℕ → Type 0) → P 0 → (k : ℕ) → k < 1 → P k

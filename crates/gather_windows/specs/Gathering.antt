@@ -10,7 +10,7 @@ use Rattle.indexing.specs.Loops.{inOrder}
 use Rattle.layout.specs.Layouts.{rankLimit}
 use Rattle.runs.specs.Runs.{cellAt}
 use Rattle.windows.specs.Windows.{placeAt, Region, Units}
-use Rattle.takes.specs.Takes.{Starting, movedAt}
+use Rattle.indexed_runs.specs.IndexedRuns.{Starting, movedAt}
 
 -- every cell in turn, first axis fastest: its element is the source's at a place that the start moves, and the start is read at a place of its own
 abbrev pub gatheredBy : {A : Type 0} → A → (A → A → A) → List A → List ℤ → List ℤ → List ℤ → List ℕ → ℕ → ℤ → ℤ → ℤ → List ℕ → List ℤ → List ℤ → List ℤ → ℕ → List A → List A

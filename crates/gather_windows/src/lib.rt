@@ -9,7 +9,7 @@ ghost use Rattle.indexing.specs.Loops.{inOrder};
 ghost use Rattle.layout.specs.Layouts.{rankLimit};
 ghost use Rattle.runs.specs.Runs.{ruleI32, cellAt, line};
 ghost use Rattle.runs.specs.declared.Rule.the-variants as R;
-ghost use Rattle.takes.specs.Takes.{movedAt, Taking};
+ghost use Rattle.indexed_runs.specs.IndexedRuns.{movedAt, Taking};
 ghost use Rattle.gather_windows.specs.Gathering.{gatheredBy, Gathering, StillAxis, StillAxes, GatherLevel};
 use layout::RAW_FUSED_RANK_LIMIT;
 use runs::Rule;
@@ -66,11 +66,11 @@ pub fn gather_run(
     if count == 1 {
         if ss == 0 {
             let at = t + offsets[0];
-            takes::take_run(src, starts, dst, n, at, ts, s, strides[0], limits[0], d, ds);
+            indexed_runs::take_run(src, starts, dst, n, at, ts, s, strides[0], limits[0], d, ds);
             return;
         }
     }
-    takes::take_cells(
+    indexed_runs::take_cells(
         src,
         starts,
         dst,
@@ -113,7 +113,7 @@ pub fn gather_axes(
     ensures { λ _. ⌜ now (dst .exit) ≡ gatheredBy (pos 0) (ruleI32 R.Copy) (now (src .entry)) (now (starts .entry)) (now (offsets .entry)) (now (strides .entry)) (now (limits .entry)) count s t d (now (extents .entry)) (now (ss .entry)) (now (ts .entry)) (now (ds .entry)) rank (now (dst .entry)) ⌝ }
 {
     if rank <= wide {
-        let a = takes::started(starts, s, t, count, offsets, strides, limits);
+        let a = indexed_runs::started(starts, s, t, count, offsets, strides, limits);
         windows::axes(Rule::Copy, src, dst, extents, ss, ds, low, rank, a, d);
         return;
     }

@@ -7,7 +7,7 @@ ghost use lib.ListN.{length};
 ghost use Rattle.indexing.specs.Loops.{inOrder};
 ghost use Rattle.runs.specs.Runs.{ruleF64, cellAt, line};
 ghost use Rattle.runs.specs.declared.Rule.the-variants as R;
-ghost use Rattle.takes.specs.Takes.{movedAt, Taking};
+ghost use Rattle.indexed_runs.specs.IndexedRuns.{movedAt, Taking};
 ghost use Rattle.gather_windows.specs.Gathering.{gatheredBy, Gathering, GatherLevel};
 use layout::RAW_FUSED_RANK_LIMIT;
 use runs::Rule;
@@ -38,11 +38,23 @@ pub fn gather_run(
     if count == 1 {
         if ss == 0 {
             let at = t + offsets[0];
-            takes_f64::take_run(src, starts, dst, n, at, ts, s, strides[0], limits[0], d, ds);
+            indexed_runs_f64::take_run(
+                src,
+                starts,
+                dst,
+                n,
+                at,
+                ts,
+                s,
+                strides[0],
+                limits[0],
+                d,
+                ds,
+            );
             return;
         }
     }
-    takes_f64::take_cells(
+    indexed_runs_f64::take_cells(
         src,
         starts,
         dst,
@@ -85,7 +97,7 @@ pub fn gather_axes(
     ensures { λ _. ⌜ now (dst .exit) ≡ gatheredBy nan (ruleF64 R.Copy) (now (src .entry)) (now (starts .entry)) (now (offsets .entry)) (now (strides .entry)) (now (limits .entry)) count s t d (now (extents .entry)) (now (ss .entry)) (now (ts .entry)) (now (ds .entry)) rank (now (dst .entry)) ⌝ }
 {
     if rank <= wide {
-        let a = takes::started(starts, s, t, count, offsets, strides, limits);
+        let a = indexed_runs::started(starts, s, t, count, offsets, strides, limits);
         windows_f64::axes(Rule::Copy, src, dst, extents, ss, ds, low, rank, a, d);
         return;
     }

@@ -13,8 +13,8 @@ use Rattle.integer.specs.declared.CheckedU.the-variants as U
 use Rattle.indexing.specs.Coordinates.{product, unravel, plus, dotℤ, placeOf, tabulate, pick, spread, has, othersFrom}
 use Rattle.indexing.specs.Start.{indexCoordinate, startIndex, clamp, startOn, fullStart}
 use Rattle.indexing.specs.Gather.{Gather, cells, batchDims, shownDims, gatherStart, fullOffset, operandIndex, readAt, writeAt, reads as readsOf, copyEach, gathered}
-use Rattle.indexing.specs.Scatter.{Scatter, scatterDims, windowDims, batchShape, windowShape, windows, updateIndex, fullWindow, resultIndex, updateAt, landsAt, joined, cuts, combined, scattered, scatteredI32}
-use Rattle.indexing.specs.Answers.{harbourWindows, harbourCuts}
+use Rattle.indexing.specs.Scatter.{Scatter, scatterDims, windowDims, batchShape, windowShape, windows, updateIndex, fullWindow, resultIndex, updateAt, landsAt, joined, placedUpdates, combined, scattered, scatteredI32}
+use Rattle.indexing.specs.Answers.{harbourWindows, harbourUpdates}
 use Rattle.layout.specs.Spans.{totalFrom, totalOf, reachOf, resetOf}
 use Rattle.layout.specs.Nested.{hasZero, longAxes, insert, ordered, exceeds, nested}
 
@@ -52,7 +52,7 @@ table =
     ∷ nests (3 ∷ 2 ∷ []) (pos 2 ∷ pos 3 ∷ []) false
     ∷ nests (1 ∷ 4 ∷ []) (pos 0 ∷ pos 1 ∷ []) true
     ∷ reads harbourWindows (pos 4 ∷ negsuc 0 ∷ []) (pos 10 ∷ pos 20 ∷ pos 30 ∷ pos 40 ∷ pos 50 ∷ []) (replicate 4 (pos 0)) (pos 40 ∷ pos 50 ∷ pos 10 ∷ pos 20 ∷ [])
-    ∷ adds harbourCuts (pos 0 ∷ pos 0 ∷ pos 9 ∷ []) (pos 3 ∷ pos 4 ∷ pos 5 ∷ []) (replicate 5 (pos 0)) (pos 7 ∷ pos 0 ∷ pos 0 ∷ pos 0 ∷ pos 5 ∷ [])
+    ∷ adds harbourUpdates (pos 0 ∷ pos 0 ∷ pos 9 ∷ []) (pos 3 ∷ pos 4 ∷ pos 5 ∷ []) (replicate 5 (pos 0)) (pos 7 ∷ pos 0 ∷ pos 0 ∷ pos 0 ∷ pos 5 ∷ [])
     ∷ wraps (pos 2147483647) (pos 1) (negsuc 2147483647)
     ∷ []
 
@@ -62,5 +62,5 @@ All (c ∷ cs) = Holds c × All cs
 
 -- EVERY CASE of the table holds
 pub harbour : All table
-unfolding table totalFrom checkedU resetOf reachOf checked nested hasZero longAxes insert ordered exceeds wrap32 gathered readsOf copyEach readAt writeAt operandIndex fullOffset gatherStart shownDims batchDims cells scattered combined cuts joined landsAt updateAt resultIndex fullWindow updateIndex windows windowShape batchShape windowDims scatterDims fullStart startOn clamp startIndex indexCoordinate placeOf dotℤ plus unravel product tabulate pick spread has othersFrom
+unfolding table totalFrom checkedU resetOf reachOf checked nested hasZero longAxes insert ordered exceeds wrap32 gathered readsOf copyEach readAt writeAt operandIndex fullOffset gatherStart shownDims batchDims cells scattered combined placedUpdates joined landsAt updateAt resultIndex fullWindow updateIndex windows windowShape batchShape windowDims scatterDims fullStart startOn clamp startIndex indexCoordinate placeOf dotℤ plus unravel product tabulate pick spread has othersFrom
 harbour = (refl, (refl, (refl, (refl, (refl, (refl, (refl, (refl, (refl, (refl, (refl, (refl, (refl, (refl, tt))))))))))))))

@@ -8,7 +8,7 @@ pub mod Scatter
 -- what it gives in the papers' own cases
 pub mod Answers
 -- what one element holds at the end, and demand 3; the same as loops
-pub mod Cuts
+pub mod Updates
 pub mod Sums
 pub mod Cells
 pub mod Demand3

@@ -5,8 +5,8 @@ use Prim.Native.Nat.{ℕ, zero, suc}
 use lib.IntN.{ℤ}
 use Rattle.indexing.specs.Coordinates.{product, elementAt, store, tabulate}
 use Rattle.indexing.specs.Gather.{Gather, cells, readAt, writeAt, reads, copyEach, gathered}
-use Rattle.indexing.specs.Scatter.{Scatter, Cut, batchShape, windowShape, updateAt, landsAt, joined, cuts, combined}
-use Rattle.indexing.specs.Cuts.{combined-append}
+use Rattle.indexing.specs.Scatter.{Scatter, Update, batchShape, windowShape, updateAt, landsAt, joined, placedUpdates, combined}
+use Rattle.indexing.specs.Updates.{combined-append}
 
 -- the turns 0, 1, .., n − 1, one after the other
 unfoldable pub inOrder : {C : Type 0} → (ℕ → C → C) → ℕ → C → C
@@ -32,7 +32,7 @@ copy-loop {A} d (suc n) write read from into =
     copy-loop d n (λ k. write (suc k)) (λ k. read (suc k)) from (store into (write 0) (elementAt d from (read 0)))
     ∙ sym (inOrder-first (λ k into. store into (write k) (elementAt d from (read k))) n into)
 
-combine-loop : {A : Type 0} (rule : A → A → A) (d : A) (n : ℕ) (f : ℕ → Cut A) (held : List A)
+combine-loop : {A : Type 0} (rule : A → A → A) (d : A) (n : ℕ) (f : ℕ → Update A) (held : List A)
     → combined rule d (tabulate n f) held ≡ inOrder (λ k held. store held (f k .0) (rule (elementAt d held (f k .0)) (f k .1))) n held
 unfolding combined tabulate
 combine-loop rule d zero f held = unfold inOrder in refl
@@ -40,7 +40,7 @@ combine-loop rule d (suc n) f held =
     combine-loop rule d n (λ k. f (suc k)) (store held (f 0 .0) (rule (elementAt d held (f 0 .0)) (f 0 .1)))
     ∙ sym (inOrder-first (λ k held. store held (f k .0) (rule (elementAt d held (f k .0)) (f k .1))) n held)
 
-combine-rows : {A : Type 0} (rule : A → A → A) (d : A) (n : ℕ) (row : ℕ → List (Cut A)) (held : List A) → combined rule d (joined (tabulate n row)) held ≡ inOrder (λ b held. combined rule d (row b) held) n held
+combine-rows : {A : Type 0} (rule : A → A → A) (d : A) (n : ℕ) (row : ℕ → List (Update A)) (held : List A) → combined rule d (joined (tabulate n row)) held ≡ inOrder (λ b held. combined rule d (row b) held) n held
 unfolding joined tabulate
 combine-rows rule d zero row held = unfold inOrder combined in refl
 combine-rows rule d (suc n) row held =
@@ -56,14 +56,14 @@ gathered-loop d g starts operand into = copy-loop d (cells g) (writeAt g) (readA
 
 -- A SCATTER: for b = 0, 1, .. and inside it for w = 0, 1, .. the rule of what is held at the landing place and the update is stored there
 pub combined-loop : {A : Type 0} (rule : A → A → A) (d : A) (s : Scatter) (starts : List ℤ) (updates held : List A)
-    → combined rule d (cuts d s starts updates) held
+    → combined rule d (placedUpdates d s starts updates) held
     ≡ inOrder (λ b held. inOrder (λ w held. store held (landsAt s starts b w) (rule (elementAt d held (landsAt s starts b w)) (elementAt d updates (updateAt s b w)))) (product (windowShape s)) held) (product (batchShape s)) held
-unfolding cuts
+unfolding placedUpdates
 combined-loop {A} rule d s starts updates held =
     combine-rows rule d (product (batchShape s)) (λ b. tabulate (product (windowShape s)) (λ w. cut b w)) held
     ∙ inOrder-same (λ b held. combined rule d (tabulate (product (windowShape s)) (λ w. cut b w)) held)
     (λ b held. inOrder (λ w held. store held (landsAt s starts b w) (rule (elementAt d held (landsAt s starts b w)) (elementAt d updates (updateAt s b w)))) (product (windowShape s)) held) (product (batchShape s)) held
     (λ b held. combine-loop rule d (product (windowShape s)) (λ w. cut b w) held)
   where
-    cut : ℕ → ℕ → Cut A
+    cut : ℕ → ℕ → Update A
     cut b w = (landsAt s starts b w, elementAt d updates (updateAt s b w))

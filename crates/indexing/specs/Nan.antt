@@ -10,8 +10,8 @@ use lib.ListN.{length, getD}
 use lib.Dec.{ltb}
 use lib.Ieee.{Float, nan, inf, fin, Format, binary64, prec, emax, low, up, down, odd, units, round, sum, add, isNan}
 use lib.Ieee.Fits.{round-is}
-use Rattle.indexing.specs.Scatter.{Scatter, cuts, landing, addF64, scatteredF64}
-use Rattle.indexing.specs.Cuts.{inTurn}
+use Rattle.indexing.specs.Scatter.{Scatter, placedUpdates, landing, addF64, scatteredF64}
+use Rattle.indexing.specs.Updates.{inTurn}
 use Rattle.indexing.specs.Exact.{each-f64}
 
 -- infinities of unlike signs
@@ -114,14 +114,14 @@ module _ (s : Scatter) (starts : List ℤ) (updates grid : List Float) (i : ℕ)
   -- a NaN stays a NaN
   pub nan-stays : getD grid i nan ≡ nan → getD (scatteredF64 s starts updates grid) i nan ≡ nan
   nan-stays e =
-      each-f64 s starts updates grid i h ∙ ap (λ (x : Float). inTurn addF64 x (landing (pos i) (cuts nan s starts updates))) e ∙ in-turn-nan (landing (pos i) (cuts nan s starts updates))
+      each-f64 s starts updates grid i h ∙ ap (λ (x : Float). inTurn addF64 x (landing (pos i) (placedUpdates nan s starts updates))) e ∙ in-turn-nan (landing (pos i) (placedUpdates nan s starts updates))
 
   -- a NaN that lands makes one
-  pub nan-lands : (k : ℕ) → k < length (landing (pos i) (cuts nan s starts updates)) → getD (landing (pos i) (cuts nan s starts updates)) k (inf false) ≡ nan
+  pub nan-lands : (k : ℕ) → k < length (landing (pos i) (placedUpdates nan s starts updates)) → getD (landing (pos i) (placedUpdates nan s starts updates)) k (inf false) ≡ nan
       → getD (scatteredF64 s starts updates grid) i nan ≡ nan
-  nan-lands k l e = each-f64 s starts updates grid i h ∙ in-turn-with-nan (getD grid i nan) (landing (pos i) (cuts nan s starts updates)) k l e
+  nan-lands k l e = each-f64 s starts updates grid i h ∙ in-turn-with-nan (getD grid i nan) (landing (pos i) (placedUpdates nan s starts updates)) k l e
 
   -- an infinity stays, unless a NaN or the other infinity lands on it, which leave a NaN
-  pub infinity-stays : (t : Bool) → getD grid i nan ≡ inf t → getD (scatteredF64 s starts updates grid) i nan ≡ cond (allCompatible t (landing (pos i) (cuts nan s starts updates))) (inf t) nan
+  pub infinity-stays : (t : Bool) → getD grid i nan ≡ inf t → getD (scatteredF64 s starts updates grid) i nan ≡ cond (allCompatible t (landing (pos i) (placedUpdates nan s starts updates))) (inf t) nan
   infinity-stays t e =
-      each-f64 s starts updates grid i h ∙ ap (λ (x : Float). inTurn addF64 x (landing (pos i) (cuts nan s starts updates))) e ∙ in-turn-inf t (landing (pos i) (cuts nan s starts updates))
+      each-f64 s starts updates grid i h ∙ ap (λ (x : Float). inTurn addF64 x (landing (pos i) (placedUpdates nan s starts updates))) e ∙ in-turn-inf t (landing (pos i) (placedUpdates nan s starts updates))

@@ -13,7 +13,7 @@ use Rattle.indexing.specs.Inside.{pick-within, either-has}
 use Rattle.indexing.specs.Linear.{ravel, length-unravel, unravel-within, unravel-ravel, ravel-below, unravel-one, within-length, within-by}
 use Rattle.indexing.specs.Valid.{ValidScatter}
 
--- two lists joined in two ways, cut at the same place
+-- two lists joined in two ways, update at the same place
 pub parts : {A : Type 0} (xs ys xs′ ys′ : List A) → length xs ≡ length xs′ → xs ++ ys ≡ xs′ ++ ys′ → (xs ≡ xs′) × (ys ≡ ys′)
 parts {A} xs ys xs′ ys′ l e = (
   sym (take-at xs ys (length xs) refl) ∙ ap (take (length xs)) e ∙ take-at xs′ ys′ (length xs) (sym l),

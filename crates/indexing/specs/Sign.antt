@@ -13,8 +13,8 @@ use lib.Ieee.Exact.{HasValue}
 use lib.Ieee.Back.{round-whole, whole-unique}
 use lib.ListN.{length, getD}
 use Rattle.integer.specs.Defs.{signOf, isNeg}
-use Rattle.indexing.specs.Scatter.{Scatter, cuts, landing, addF64, scatteredF64}
-use Rattle.indexing.specs.Cuts.{inTurn}
+use Rattle.indexing.specs.Scatter.{Scatter, placedUpdates, landing, addF64, scatteredF64}
+use Rattle.indexing.specs.Updates.{inTurn}
 use Rattle.indexing.specs.Sums.{total}
 use Rattle.indexing.specs.Whole.{Whole, Wholes, sizes, minusZero, allMinusZero}
 use Rattle.indexing.specs.Exact.{sum-scaled, over, both-minus, minus-below, minus-above, plus-below, plus-above, size-signed, sum-size, of-value, add-whole, regroup, front, each-f64}
@@ -235,14 +235,14 @@ in-turn-minus x (u ∷ us) p q =
 -- ---- an element of a scatter
 module _ (s : Scatter) (starts : List ℤ) (updates grid : List Float) (i : ℕ) (h : i < length grid) where
   -- THE FLOAT that the element holds, where `exact-f64` holds of it; so that a zero is +0
-  pub float-f64 : (z : ℤ) (ws : List ℤ) → T (fits binary64 (getD grid i nan)) → Whole (getD grid i nan) z → Wholes (landing (pos i) (cuts nan s starts updates)) ws → natAbs z + sizes ws ≤ 2 ^ 53
-      → T (not (minusZero (getD grid i nan) && allMinusZero (landing (pos i) (cuts nan s starts updates))))
+  pub float-f64 : (z : ℤ) (ws : List ℤ) → T (fits binary64 (getD grid i nan)) → Whole (getD grid i nan) z → Wholes (landing (pos i) (placedUpdates nan s starts updates)) ws → natAbs z + sizes ws ≤ 2 ^ 53
+      → T (not (minusZero (getD grid i nan) && allMinusZero (landing (pos i) (placedUpdates nan s starts updates))))
       → getD (scatteredF64 s starts updates grid) i nan ≡ ofInt binary64 (z +ℤ total ws)
-  float-f64 z ws f p q b n = each-f64 s starts updates grid i h ∙ in-turn-float (getD grid i nan) (landing (pos i) (cuts nan s starts updates)) z ws f p q b n
+  float-f64 z ws f p q b n = each-f64 s starts updates grid i h ∙ in-turn-float (getD grid i nan) (landing (pos i) (placedUpdates nan s starts updates)) z ws f p q b n
 
   -- where it and all that land on it are −0 it stays −0
-  pub minus-zero-f64 : T (minusZero (getD grid i nan)) → T (allMinusZero (landing (pos i) (cuts nan s starts updates))) → T (minusZero (getD (scatteredF64 s starts updates grid) i nan))
-  minus-zero-f64 p q = subst (λ (x : Float). T (minusZero x)) (sym (each-f64 s starts updates grid i h)) (in-turn-minus (getD grid i nan) (landing (pos i) (cuts nan s starts updates)) p q)
+  pub minus-zero-f64 : T (minusZero (getD grid i nan)) → T (allMinusZero (landing (pos i) (placedUpdates nan s starts updates))) → T (minusZero (getD (scatteredF64 s starts updates grid) i nan))
+  minus-zero-f64 p q = subst (λ (x : Float). T (minusZero x)) (sym (each-f64 s starts updates grid i h)) (in-turn-minus (getD grid i nan) (landing (pos i) (placedUpdates nan s starts updates)) p q)
 
 -- the float that 0 is
 pub zero-is : ofInt binary64 (pos 0) ≡ fin false 0 (pos 0)

@@ -1,6 +1,5 @@
 -- Demand 3 of the exported calls, by their contracts alone: calls by lists, `strided_raw_scatter_i32` and `strided_raw_gather_i32`, and by stored jobs,
 -- `strided_scatter_i32` and `strided_gather_i32`, in any mixture. Assumes nothing.
-use mathlib.Core.Path.{_≡_, refl}
 use mathlib.Core.List.{List}
 use Prim.Native.Nat.{ℕ}
 use lib.IntN.{ℤ, pos}

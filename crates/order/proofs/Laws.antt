@@ -2,27 +2,27 @@
 use mathlib.Core.Path.{_≡_, refl, sym, ap, ap₂, _∙_}
 use mathlib.Core.Bool.{Bool, true, false, cond, true≢false}
 use mathlib.Core.List.{List, []}
-use Prim.Native.Nat.{ℕ, _<_}
+use Prim.Native.Nat.{ℕ}
 use lib.ListN.{length, getD}
 use lib.IntN.{ℤ, pos, _+ℤ_}
 use Rattle.integer.specs.Defs.{wrap32}
 use Rattle.indexing.specs.Gather.{gathered}
-use Rattle.indexing.specs.Scatter.{Scatter, Cut, cuts, combined, landing, addI32, scattered, scatteredI32}
-use Rattle.indexing.specs.Cuts.{length-combined}
+use Rattle.indexing.specs.Scatter.{Scatter, Update, placedUpdates, combined, landing, addI32, scattered, scatteredI32}
+use Rattle.indexing.specs.Updates.{length-combined}
 use Rattle.indexing.specs.Sums.{total}
-use Rattle.indexing.specs.Demand3.{cuts-either-order, cuts-two, cuts-two-i32, Unseen, unseen}
+use Rattle.indexing.specs.Demand3.{updates-either-order, updates-two, updates-two-i32, Unseen, unseen}
 use Rattle.layout.specs.declared.Answer.{Answer}
 use Rattle.layout.specs.Answers.{isDone}
 use Rattle.calls.specs.Calls.{GatherCall, ScatterCall, Gathers, Scatters}
 use Rattle.order.specs.Orders.{updatesOf, putBy, putOn, EitherOrder, GatherBeside}
 
 -- a call puts its updates on the grid
-as-updates : (t : Bool) (s : Scatter) (starts updates grid : List ℤ) → cond t (scatteredI32 s starts updates grid) grid ≡ combined addI32 (pos 0) (cond t (cuts (pos 0) s starts updates) []) grid
+as-updates : (t : Bool) (s : Scatter) (starts updates grid : List ℤ) → cond t (scatteredI32 s starts updates grid) grid ≡ combined addI32 (pos 0) (cond t (placedUpdates (pos 0) s starts updates) []) grid
 unfolding scattered combined
 as-updates true s starts updates grid = refl
 as-updates false s starts updates grid = refl
 
-done-updates : (t : Bool) (us : List (Cut ℤ)) → t ≡ true → cond t us [] ≡ us
+done-updates : (t : Bool) (us : List (Update ℤ)) → t ≡ true → cond t us [] ≡ us
 done-updates true us e = refl
 done-updates false us e = absurd (true≢false (sym e))
 
@@ -61,12 +61,12 @@ module _ {B : Type 0} (says : Answer → B) where
         other-left = other-left;
         same-answers = λ e. (p .answered ∙ ap (λ (g : List ℤ). says (north .answer (length g))) e ∙ sym nd, r .answered ∙ ap (λ (g : List ℤ). says (south .answer (length g))) (sym e) ∙ sym sb);
         same-grids = λ e.
-            one-left ∙ cuts-either-order (putBy north n) (putBy south n) grid
+            one-left ∙ updates-either-order (putBy north n) (putBy south n) grid
             ∙ ap (λ (g : List ℤ). putOn (putBy north (length g)) (putOn (putBy south (length g)) g)) e ∙ sym other-left;
-        each-cell = λ i h. ap (λ (g : List ℤ). getD g i (pos 0)) one-left ∙ cuts-two (putBy north n) (putBy south n) grid i h;
+        each-cell = λ i h. ap (λ (g : List ℤ). getD g i (pos 0)) one-left ∙ updates-two (putBy north n) (putBy south n) grid i h;
         each-sum = λ x y i h f.
-            ap (λ (g : List ℤ). getD g i (pos 0)) one-left ∙ cuts-two-i32 (putBy north n) (putBy south n) grid i h f
-            ∙ ap₂ (λ (u v : List (Cut ℤ)). wrap32 (getD grid i (pos 0) +ℤ (total (landing (pos i) u) +ℤ total (landing (pos i) v))))
+            ap (λ (g : List ℤ). getD g i (pos 0)) one-left ∙ updates-two-i32 (putBy north n) (putBy south n) grid i h f
+            ∙ ap₂ (λ (u v : List (Update ℤ)). wrap32 (getD grid i (pos 0) +ℤ (total (landing (pos i) u) +ℤ total (landing (pos i) v))))
             (done-updates (isDone (north .answer n)) (updatesOf north) x) (done-updates (isDone (south .answer n)) (updatesOf south) y);
       }
 

@@ -10,7 +10,7 @@ use mir.Syntax.{w32}
 use mir.Val.{SFits}
 use Rattle.integer.specs.Defs.{wrap32}
 use Rattle.indexing.specs.Gather.{gathered}
-use Rattle.indexing.specs.Scatter.{Cut, cuts, combined, landing, addI32}
+use Rattle.indexing.specs.Scatter.{Update, placedUpdates, combined, landing, addI32}
 use Rattle.indexing.specs.Sums.{total, added}
 use Rattle.indexing.specs.Demand3.{Unseen}
 use Rattle.layout.specs.declared.Answer.{Answer}
@@ -18,16 +18,16 @@ use Rattle.layout.specs.Answers.{isDone}
 use Rattle.calls.specs.Calls.{GatherCall, ScatterCall}
 
 -- the updates of a call with the places that they land on
-abbrev pub updatesOf : ScatterCall ℤ → List (Cut ℤ)
-updatesOf c = cuts (pos 0) (c .scatter) (c .starts) (c .updates)
+abbrev pub updatesOf : ScatterCall ℤ → List (Update ℤ)
+updatesOf c = placedUpdates (pos 0) (c .scatter) (c .starts) (c .updates)
 
 -- what it puts on a grid of n elements: "Accepted means that the call meets no refusal, so it is done"; a refused call puts nothing. Its answer looks at
 -- plan, layouts, offsets and lengths, and at no element
-abbrev pub putBy : ScatterCall ℤ → ℕ → List (Cut ℤ)
+abbrev pub putBy : ScatterCall ℤ → ℕ → List (Update ℤ)
 putBy c n = cond (isDone (c .answer n)) (updatesOf c) []
 
 -- a grid with these put on it, in order
-abbrev pub putOn : List (Cut ℤ) → List ℤ → List ℤ
+abbrev pub putOn : List (Update ℤ) → List ℤ → List ℤ
 putOn us grid = combined addI32 (pos 0) us grid
 
 -- TWO SHIPS, ONE GRID: North and then South on the grid `one`, South and then North on the grid `other`, which held `grid` and `grid′` before

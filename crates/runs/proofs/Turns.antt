@@ -10,7 +10,7 @@ use lib.Seq.{length-take-le, getD-take, getD-drop}
 use lib.IntN.{ℤ, pos}
 use Rattle.integer.specs.Z.{≤-from, <-from}
 use Rattle.indexing.specs.Coordinates.{InSlice, elementAt, store}
-use Rattle.indexing.specs.Cuts.{length-store}
+use Rattle.indexing.specs.Updates.{length-store}
 use Rattle.indexing.specs.Loops.{inOrder}
 use Rattle.indexing.specs.Parts.{element-mid, store-mid}
 use Rattle.runs.specs.Runs.{cellAt, line}

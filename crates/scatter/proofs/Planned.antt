@@ -1,6 +1,6 @@
 -- What a plan that fits a call holds. Assumes nothing.
 use mathlib.Core.Path.{_≡_, refl, sym, ap, ap₂, subst, _∙_}
-use mathlib.Core.Bool.{Bool, true, false, cond, _&&_}
+use mathlib.Core.Bool.{Bool, true}
 use mathlib.Core.List.{List}
 use Prim.Native.Nat.{ℕ}
 use native.Mathlib.Omega.{arith}
@@ -24,7 +24,7 @@ use Rattle.replay.specs.declared.WindowReplay.{WindowReplay}
 use Rattle.checks.proofs.Made.{or-done}
 use Rattle.components.specs.Components.{limitAt, unlessNone}
 use Rattle.equality.proofs.Compare.{and-true}
-use Rattle.calls.specs.Calls.{viewOf, sameView, sameViews, planRefusal, reachIn, boundsRefusal}
+use Rattle.calls.specs.Calls.{sameView, sameViews, planRefusal, reachIn, boundsRefusal}
 use Rattle.calls.proofs.Same.{same-view-is}
 use Rattle.calls.proofs.Does.{plan-done}
 use Rattle.scatter_checks.specs.Refusals.{batchWalk, windowWalk, specRefusal, refusalOf}
@@ -33,7 +33,7 @@ use Rattle.scatter_plan.specs.Plan.{planOf, heldScatter}
 use Rattle.scatter_plan.proofs.Accepted.{Accepted, accepted}
 use Rattle.scatter_same.specs.Same.{isCompiled}
 use Rattle.scatter_same.proofs.Compiled.{compiled-is}
-use Rattle.scatter_move.specs.Prepared.{stepsAt, batchRows, windowRows, scatterNumbers, startBase, Ready, Prepares}
+use Rattle.scatter_move.specs.Prepared.{stepsAt, batchRows, windowRows, scatterNumbers, startBase, Ready}
 use Rattle.scatter_move.specs.declared.ScatterNumbers.{ScatterNumbers}
 use Rattle.scatter_move.specs.declared.PreparedScatter.{PreparedScatter}
 use Rattle.scatter.specs.Calls.{scatterOf, planFits, callAnswer}
@@ -64,9 +64,9 @@ module _ (p : ScatterPlan) (b w : List (List ℤ)) (ok : isCompiled p b w ≡ tr
   window-rows : w ≡ windowRows s
   window-rows = compiled-is p b w ok .3 ∙ ap (λ (r : WindowReplay). rowsOf (r .axes)) window-is
 
-  windows-are : numbersOf (p .windows) ≡ windows s
+  windows-are : numbersOf (p .«window_shape») ≡ windows s
   windows-are =
-      ap (λ (q : ScatterPlan). numbersOf (q .windows)) is
+      ap (λ (q : ScatterPlan). numbersOf (q .«window_shape»)) is
       ∙ read-back 0 (windows s) (omega (arith, fits .dest-rank, length-windows))
     where
       length-windows : length (windows s) ≡ rank (s .result)
@@ -75,11 +75,11 @@ module _ (p : ScatterPlan) (b w : List (List ℤ)) (ok : isCompiled p b w ≡ tr
   pub numbers-are : (be we : List ℕ) (is0 st us ws ds : List ℤ) (limits : List ℕ)
       → be ≡ extents (p .batch .axes) → we ≡ extents (p .window .axes) → is0 ≡ stepsAt 0 b → st ≡ unlessNone (p .«scatter_dims_to_operand_dims» .count) (replicate rankLimit (pos 0)) is0
       → us ≡ stepsAt 2 b → ws ≡ stepsAt 0 w → ds ≡ stepsAt 2 w
-      → limits ≡ tabulate rankLimit (limitAt (extentsOf (p .dest)) (numbersOf (p .windows)) (numbersOf (p .«scatter_dims_to_operand_dims»)))
+      → limits ≡ tabulate rankLimit (limitAt (extentsOf (p .dest)) (numbersOf (p .«window_shape»)) (numbersOf (p .«scatter_dims_to_operand_dims»)))
       → _≡_ {A = ScatterNumbers}
           (record {
             «batch_rank» = p .batch .rank;
-            batches = p .batches;
+            batches = p .«batch_elems»;
             «batch_extents» = be;
             «index_steps» = st;
             «update_steps» = us;
@@ -88,8 +88,8 @@ module _ (p : ScatterPlan) (b w : List (List ℤ)) (ok : isCompiled p b w ≡ tr
             «window_steps» = ws;
             «dest_steps» = ds;
             count = p .«scatter_dims_to_operand_dims» .count;
-            offsets = p .«component_offsets» .entries;
-            strides = p .«component_strides» .entries;
+            offsets = p .«index_component_offsets» .entries;
+            strides = p .«index_operand_strides» .entries;
             limits = limits;
           })
           (scatterNumbers s)
@@ -98,7 +98,7 @@ module _ (p : ScatterPlan) (b w : List (List ℤ)) (ok : isCompiled p b w ≡ tr
       let n = ap (λ (q : ScatterPlan). q .«scatter_dims_to_operand_dims» .count) is in
       λ i. record {
         «batch_rank» = batch-is i .rank;
-        batches = is i .batches;
+        batches = is i .«batch_elems»;
         «batch_extents» = (ebe ∙ ap (λ (r : WindowReplay). extents (r .axes)) batch-is) i;
         «index_steps» = (est ∙ ap₂ (λ (m : ℕ) (l : List ℤ). unlessNone m (replicate rankLimit (pos 0)) l) n (eis ∙ ap (stepsAt 0) batch-rows)) i;
         «update_steps» = (eus ∙ ap (stepsAt 2) batch-rows) i;
@@ -107,8 +107,8 @@ module _ (p : ScatterPlan) (b w : List (List ℤ)) (ok : isCompiled p b w ≡ tr
         «window_steps» = (ews ∙ ap (stepsAt 0) window-rows) i;
         «dest_steps» = (eds ∙ ap (stepsAt 2) window-rows) i;
         count = n i;
-        offsets = is i .«component_offsets» .entries;
-        strides = is i .«component_strides» .entries;
+        offsets = is i .«index_component_offsets» .entries;
+        strides = is i .«index_operand_strides» .entries;
         limits = (el ∙ ap (λ (l : List ℕ). tabulate rankLimit (limitAt (s .result .extents) l (s .spec .scatter-dims-to-operand-dims))) windows-are) i;
       }
 

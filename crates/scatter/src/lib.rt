@@ -32,9 +32,9 @@ fn numbers_of(
     let window = plan.window;
     let dest = plan.dest;
     let map = plan.scatter_dims_to_operand_dims;
-    let windows = plan.windows;
-    let component_offsets = plan.component_offsets;
-    let component_strides = plan.component_strides;
+    let windows = plan.window_shape;
+    let index_component_offsets = plan.index_component_offsets;
+    let index_operand_strides = plan.index_operand_strides;
     let batch_axes = batch.axes;
     let window_axes = window.axes;
     let batch_extents = replay::shape_of(batch_axes);
@@ -45,11 +45,11 @@ fn numbers_of(
     let window_steps = scatter_move::source_steps(window_rows);
     let steps = scatter_move::dest_steps(window_rows);
     let limits = components::limits_of(dest, windows, map);
-    let offsets = component_offsets.entries;
-    let strides = component_strides.entries;
+    let offsets = index_component_offsets.entries;
+    let strides = index_operand_strides.entries;
     ScatterNumbers {
         batch_rank: batch.rank,
-        batches: plan.batches,
+        batches: plan.batch_elems,
         batch_extents,
         index_steps: stepped,
         update_steps,

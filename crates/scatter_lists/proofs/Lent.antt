@@ -1,13 +1,11 @@
 -- What a call by lists decides. Assumes nothing.
-use mathlib.Core.Path.{_≡_, refl, sym, ap, ap₂, subst, _∙_}
-use mathlib.Core.Bool.{Bool, true, false, cond, _&&_}
+use mathlib.Core.Path.{_≡_, refl, sym, ap, subst, _∙_}
+use mathlib.Core.Bool.{Bool, true, false, cond}
 use mathlib.Core.List.{List}
 use Prim.Native.Nat.{ℕ, min}
-use native.Mathlib.Omega.{arith}
 use lib.ListN.{length, take, replicate}
 use lib.IntN.{ℤ, pos}
-use Rattle.integer.specs.declared.CheckedU.{CheckedU}
-use Rattle.indexing.specs.Coordinates.{View, rank, product, pick, spread, others, tabulate}
+use Rattle.indexing.specs.Coordinates.{View, rank, pick, spread, others, tabulate}
 use Rattle.indexing.specs.Scatter.{Scatter, scatterDims, windowDims, batchShape, windowShape, windows}
 use Rattle.indexing.specs.Steps.{vectorStride, updateBatchSteps, updateWindowSteps, landSteps}
 use Rattle.layout.specs.declared.Answer.{Answer}
@@ -15,7 +13,7 @@ use Rattle.layout.specs.declared.Answer.the-variants as A
 use Rattle.layout.specs.declared.Reach.{Reach}
 use Rattle.layout.specs.Answers.{isDone, orElse}
 use Rattle.layout.specs.Layouts.{rankLimit, padded}
-use Rattle.layout.specs.Reach.{viewReach, bufferBounds}
+use Rattle.layout.specs.Reach.{bufferBounds}
 use Rattle.axis_lists.specs.Held.{heldSteps}
 use Rattle.axis_lists.specs.declared.Steps.{Steps}
 use Rattle.replay.specs.Replays.{extents, rowsOf}
@@ -29,7 +27,7 @@ use Rattle.calls.proofs.Same.{same-view-is, view-same}
 use Rattle.scatter_checks.specs.Refusals.{batchWalk, windowWalk, specRefusal, refusalOf, compileRefusal}
 use Rattle.scatter_checks.specs.Examine.{Found}
 use Rattle.scatter_plan.proofs.Accepted.{Accepted, accepted, offsets-are, map-is}
-use Rattle.scatter_move.specs.Prepared.{stepsAt, scatterNumbers, startBase, Ready, Prepares}
+use Rattle.scatter_move.specs.Prepared.{stepsAt, scatterNumbers, startBase, Prepares}
 use Rattle.scatter_move.specs.declared.ScatterNumbers.{ScatterNumbers}
 use Rattle.scatter_move.specs.declared.PreparedScatter.{PreparedScatter}
 use Rattle.scatter_lists.specs.Lists.{onViews, placed, listsAnswer}

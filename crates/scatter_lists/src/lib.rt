@@ -67,8 +67,8 @@ fn numbers_on(
     let window_steps = scatter_move::source_steps(window_rows);
     let steps = scatter_move::dest_steps(window_rows);
     let stride = axis_lists::stride_at(index_strides, index_vector_dim);
-    let component_offsets = components::component_offsets(stride, count);
-    let offsets = component_offsets.entries;
+    let index_component_offsets = components::index_component_offsets(stride, count);
+    let offsets = index_component_offsets.entries;
     let strides = components::strides_on(scatter_dims_to_operand_dims, dest_strides);
     let limits = limits_by(
         updates_extents,

@@ -6,10 +6,8 @@ use native.Mathlib.Omega.{arith}
 use lib.ListN.{length, getD, take, length-take, length-map, List·getD-map}
 use lib.Seq.{getD-take, length-take-le, ext-getD}
 use lib.IntN.{ℤ, pos, _+ℤ_}
-use mir.Syntax.{w64}
-use mir.Val.{SFits}
-use Rattle.indexing.specs.Coordinates.{product, unravel, dot, tabulate}
-use Rattle.indexing.specs.Cuts.{length-tabulate, getD-tabulate}
+use Rattle.indexing.specs.Coordinates.{product, unravel, dot}
+use Rattle.indexing.specs.Updates.{length-tabulate, getD-tabulate}
 use Rattle.indexing.specs.Odometer.{offsetAt}
 use Rattle.indexing.specs.Axes.{getD-any}
 use Rattle.layout.specs.Layouts.{rankLimit, padded}
@@ -18,8 +16,8 @@ use Rattle.axis_lists.proofs.Filling.{entry-below, read-back}
 use Rattle.replay.specs.declared.WindowReplay.{WindowReplay}
 use Rattle.replay.specs.declared.WindowReplayAxis.{WindowReplayAxis}
 use Rattle.replay.specs.declared.CompiledReplay.{CompiledReplay}
-use Rattle.replay.specs.Replays.{noAxis, compiledReplay, extents, sources, dests, rowOf, rowsOf}
-use Rattle.replay.specs.Merging.{IsReset, AllReset, Meets, IsDone, compiled-done}
+use Rattle.replay.specs.Replays.{noAxis, compiledReplay, extents, rowOf, rowsOf}
+use Rattle.replay.specs.Merging.{AllReset, Meets, IsDone, compiled-done}
 use Rattle.windows.specs.Windows.{placeAt}
 use Rattle.components.proofs.Padded.{padded-entry}
 use Rattle.scatter_move.specs.Prepared.{stepsAt}

@@ -8,13 +8,11 @@ use native.Mathlib.Nat.{zero-mod, zero-div}
 use lib.Dec.{eqb}
 use lib.ListN.{length, getD, take, replicate, length-replicate}
 use lib.IntN.{ℤ, pos, _+ℤ_, _*ℤ_, +ℤ-assoc, +ℤ-idr, *ℤ-zero}
-use lib.Signed.{_≤ℤ_, _<ℤ_}
 use Rattle.integer.specs.Z.{≤-from, <-from}
 use Rattle.indexing.specs.Coordinates.{rank, product, unravel, dot, ints, InSlice, elementAt, store, placeOf, pick, tabulate}
 use Rattle.indexing.specs.Start.{without, indexCoordinate, clamp, startOn, startIndex}
 use Rattle.indexing.specs.Scatter.{Scatter, batchShape, windowShape, windows, updateAt, landsAt, scattered}
 use Rattle.indexing.specs.Odometer.{offsetAt}
-use Rattle.indexing.specs.Axes.{sumOf}
 use Rattle.indexing.specs.Steps.{vectorStride, updateBatchSteps, updateWindowSteps, landSteps, startSumTo}
 use Rattle.indexing.specs.Loops.{inOrder, combined-loop}
 use Rattle.indexing.specs.Bounds.{window-below, scatter-start-within}
@@ -29,8 +27,8 @@ use Rattle.replay.specs.Replays.{extents}
 use Rattle.runs.specs.Runs.{cellAt}
 use Rattle.runs.proofs.Turns.{same-places, same-turns}
 use Rattle.windows.specs.Windows.{placeAt, windowed}
-use Rattle.takes.specs.Takes.{componentAt, startAt, Starting}
-use Rattle.takes.proofs.Starts.{in-wider}
+use Rattle.indexed_runs.specs.IndexedRuns.{componentAt, startAt, Starting}
+use Rattle.indexed_runs.proofs.Starts.{in-wider}
 use Rattle.components.specs.Components.{limitAt, unlessNone}
 use Rattle.components.proofs.Padded.{unless-some}
 use Rattle.calls.proofs.Covers.{no-zero, covered}

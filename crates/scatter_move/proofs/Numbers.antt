@@ -1,22 +1,22 @@
 -- The numbers of an accepted scatter, as they are read. Assumes nothing.
-use mathlib.Core.Path.{_≡_, refl, sym, ap, _∙_}
+use mathlib.Core.Path.{_≡_, refl, sym, _∙_}
 use mathlib.Core.Bool.{true}
 use mathlib.Core.List.{List}
 use Prim.Native.Nat.{ℕ, _<_, _≤_, _^_}
 use native.Mathlib.Omega.{arith}
-use lib.ListN.{length, getD, take}
+use lib.ListN.{length, getD}
 use lib.IntN.{ℤ, pos, _*ℤ_}
 use Rattle.indexing.specs.Coordinates.{rank, tabulate, pick}
 use Rattle.indexing.specs.Start.{without}
 use Rattle.indexing.specs.Scatter.{Scatter, scatterDims, windowDims, batchShape, windowShape, windows}
 use Rattle.indexing.specs.Axes.{length-pick, getD-pick}
 use Rattle.indexing.specs.Steps.{vectorStride, updateBatchSteps, updateWindowSteps, landSteps}
-use Rattle.indexing.specs.Cuts.{length-tabulate, getD-tabulate}
+use Rattle.indexing.specs.Updates.{length-tabulate, getD-tabulate}
 use Rattle.layout.specs.declared.Answer.the-variants as A
 use Rattle.layout.specs.Answers.{isDone}
 use Rattle.layout.specs.Layouts.{rankLimit, padded}
 use Rattle.axis_lists.proofs.Filling.{length-others}
-use Rattle.replay.specs.Replays.{extents, compiledReplay, rowsOf}
+use Rattle.replay.specs.Replays.{extents}
 use Rattle.checks.proofs.Small.{spans-small}
 use Rattle.components.specs.Components.{limitAt}
 use Rattle.components.proofs.Padded.{padded-entry}

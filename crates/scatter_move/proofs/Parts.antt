@@ -1,6 +1,6 @@
 -- A move into the part of the destination that holds its cells is the scatter into the whole. Assumes nothing.
 use mathlib.Core.Path.{_≡_, refl, sym, ap, ap₂, subst, _∙_}
-use mathlib.Core.Bool.{Bool, true, cond}
+use mathlib.Core.Bool.{true}
 use mathlib.Core.List.{List, _++_}
 use Prim.Native.Nat.{ℕ, _+_, _-_, _<_, _≤_, _^_}
 use native.Mathlib.Omega.{arith}
@@ -13,21 +13,19 @@ use mir.Val.{SFits, toZ}
 use Rattle.integer.specs.Z.{back, known, znorm, zflat, zfacts, ≤-from, <-from}
 use Rattle.integer.specs.Laws.{≤-pos, ≤ℤ-trans, +ℤ-mono-r}
 use Rattle.indexing.specs.Scatter.{Scatter, scatterDims, windowDims, batchShape, windowShape, windows, scattered}
-use Rattle.indexing.specs.Reach.{lowest, highest}
+use Rattle.indexing.specs.Reach.{lowest}
 use Rattle.indexing.specs.Steps.{updateBatchSteps, updateWindowSteps, landSteps}
 use Rattle.indexing.specs.Valid.{Covered}
 use Rattle.indexing.specs.Parts.{rebased, covered-part, combined-lent}
 use Rattle.layout.specs.declared.Answer.{Answer}
 use Rattle.layout.specs.declared.Answer.the-variants as A
-use Rattle.layout.specs.declared.Reach.the-variants as R
 use Rattle.layout.specs.Answers.{isDone}
 use Rattle.layout.specs.Reach.{bufferBounds}
 use Rattle.layout.specs.Inside.{Inside, reach-inside, low-most, high-least}
 use Rattle.replay.specs.Replays.{rowsOf}
 use Rattle.replay.specs.declared.WindowReplay.{WindowReplay}
 use Rattle.checks.proofs.Made.{or-done}
-use Rattle.calls.specs.Calls.{reachIn, Does, asIs}
-use Rattle.calls.proofs.Does.{not-outside}
+use Rattle.calls.specs.Calls.{reachIn}
 use Rattle.scatter_checks.specs.Refusals.{batchWalk, windowWalk, specRefusal, refusalOf}
 use Rattle.runs.proofs.Place.{read}
 use Rattle.driven.specs.Driving.{Rowed}

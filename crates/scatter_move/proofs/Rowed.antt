@@ -1,22 +1,19 @@
 -- A compiled plan, where today's loops may be called: the batches can be walked by the plan's own rows. Assumes nothing.
 use mathlib.Core.Path.{_≡_, refl, sym, ap, subst, _∙_}
-use mathlib.Core.Bool.{true, false}
+use mathlib.Core.Bool.{true}
 use mathlib.Core.List.{List}
-use Prim.Native.Nat.{ℕ, zero, suc, _-_, _<_, _≤_, _^_}
+use Prim.Native.Nat.{ℕ, zero, suc, _-_, _<_, _^_}
 use native.Mathlib.Omega.{arith}
 use lib.ListN.{length, take, replicate, length-map}
 use lib.IntN.{ℤ, pos}
 use Rattle.indexing.specs.Coordinates.{product, InSlice, rank}
 use Rattle.indexing.specs.Start.{without}
-use Rattle.indexing.specs.Scatter.{Scatter, scatterDims, batchShape}
+use Rattle.indexing.specs.Scatter.{Scatter, batchShape}
 use Rattle.indexing.specs.Steps.{updateBatchSteps}
-use Rattle.indexing.specs.Axes.{length-pick}
 use Rattle.indexing.specs.Odometer.{AllPos, offsetAt}
 use Rattle.layout.specs.Layouts.{rankLimit}
-use Rattle.axis_lists.proofs.Filling.{length-others}
-use Rattle.replay.specs.declared.WindowReplay.{WindowReplay}
 use Rattle.replay.specs.declared.CompiledReplay.{CompiledReplay}
-use Rattle.replay.specs.Replays.{compiledReplay, noAxis, extents, rowOf, rowsOf}
+use Rattle.replay.specs.Replays.{compiledReplay, noAxis, extents, rowOf}
 use Rattle.replay.specs.Cells.{cells-pos}
 use Rattle.replay.specs.Merging.{IsDone, compiled-done}
 use Rattle.windows.specs.Windows.{placeAt}

@@ -45,11 +45,11 @@ module _ (s : Scatter) (batch window : WindowReplay) (q : Found s batch window) 
         «index_vector_dim» = s .spec .index-vector-dim;
         batch = batch;
         window = window;
-        windows = sizes;
-        «component_offsets» = offsets;
-        «component_strides» = record { count = length (s .spec .scatter-dims-to-operand-dims); entries = entries };
-        batches = batches;
-        cells = cells;
+        «window_shape» = sizes;
+        «index_component_offsets» = offsets;
+        «index_operand_strides» = record { count = length (s .spec .scatter-dims-to-operand-dims); entries = entries };
+        «batch_elems» = batches;
+        «window_elems» = cells;
       })
       (planOf s)
   unfolding batchShape windowShape windows scatterDims windowDims
@@ -71,9 +71,9 @@ module _ (s : Scatter) (batch window : WindowReplay) (q : Found s batch window) 
         «index_vector_dim» = s .spec .index-vector-dim;
         batch = q .batch-is i;
         window = q .window-is i;
-        windows = es i;
-        «component_offsets» = of i;
-        «component_strides» = record { count = ct i; entries = st i };
-        batches = (en ∙ ap valueOfU (p .batches)) i;
-        cells = (em ∙ ap valueOfU (p .cells)) i;
+        «window_shape» = es i;
+        «index_component_offsets» = of i;
+        «index_operand_strides» = record { count = ct i; entries = st i };
+        «batch_elems» = (en ∙ ap valueOfU (p .batches)) i;
+        «window_elems» = (em ∙ ap valueOfU (p .cells)) i;
       }

@@ -1,4 +1,4 @@
--- The plan of a scatter by value, and what compile gives: document 01, "The cuts added". Definitions only.
+-- The plan of a scatter by value, and what compile gives: document 01, "The updates added". Definitions only.
 use mathlib.Core.Bool.{cond}
 use lib.ListN.{length}
 use lib.IntN.{pos, _*ℤ_}
@@ -32,11 +32,11 @@ planOf s =
       «index_vector_dim» = s .spec .index-vector-dim;
       batch = batchWalk s .replay;
       window = windowWalk s .replay;
-      windows = heldNumbers (windows s);
-      «component_offsets» = heldSteps (tabulate (length (s .spec .scatter-dims-to-operand-dims)) (λ c. vectorStride (s .indices) (s .spec .index-vector-dim) *ℤ pos c));
-      «component_strides» = heldSteps (pick (pos 0) (s .spec .scatter-dims-to-operand-dims) (s .result .strides));
-      batches = product (batchShape s);
-      cells = product (windowShape s);
+      «window_shape» = heldNumbers (windows s);
+      «index_component_offsets» = heldSteps (tabulate (length (s .spec .scatter-dims-to-operand-dims)) (λ c. vectorStride (s .indices) (s .spec .index-vector-dim) *ℤ pos c));
+      «index_operand_strides» = heldSteps (pick (pos 0) (s .spec .scatter-dims-to-operand-dims) (s .result .strides));
+      «batch_elems» = product (batchShape s);
+      «window_elems» = product (windowShape s);
     }
 
 -- "no plan is given": what stands in its place, of no axes
@@ -55,11 +55,11 @@ refusedPlan =
       «index_vector_dim» = 0;
       batch = noWalk;
       window = noWalk;
-      windows = noNumbers;
-      «component_offsets» = noSteps;
-      «component_strides» = noSteps;
-      batches = 0;
-      cells = 0;
+      «window_shape» = noNumbers;
+      «index_component_offsets» = noSteps;
+      «index_operand_strides» = noSteps;
+      «batch_elems» = 0;
+      «window_elems» = 0;
     }
 
 abbrev pub refusedScatter : Answer → CompiledScatter

@@ -31,11 +31,11 @@ pub struct ScatterPlan {
     pub index_vector_dim: u64,
     pub batch: WindowReplay,
     pub window: WindowReplay,
-    pub windows: Numbers,
-    pub component_offsets: Steps,
-    pub component_strides: Steps,
-    pub batches: u64,
-    pub cells: u64,
+    pub window_shape: Numbers,
+    pub index_component_offsets: Steps,
+    pub index_operand_strides: Steps,
+    pub batch_elems: u64,
+    pub window_elems: u64,
 }
 
 // A plan; where the scatter is refused, the one of no axes.
@@ -77,11 +77,11 @@ fn refused(answer: Answer) -> CompiledScatter
             index_vector_dim: 0,
             batch: walk,
             window: walk,
-            windows: numbers,
-            component_offsets: steps,
-            component_strides: steps,
-            batches: 0,
-            cells: 0,
+            window_shape: numbers,
+            index_component_offsets: steps,
+            index_operand_strides: steps,
+            batch_elems: 0,
+            window_elems: 0,
         },
     }
 }
@@ -148,7 +148,7 @@ fn plan_of(
     let dest = third.layout;
     let windows = windows_of(dest_extents, updates_extents, window, inserted);
     let stride = axis_lists::stride_at(index_strides, vector);
-    let offsets = components::component_offsets(stride, map.len());
+    let offsets = components::index_component_offsets(stride, map.len());
     let entries = components::strides_on(map, dest_strides);
     let strides = Steps {
         count: map.len(),
@@ -169,11 +169,11 @@ fn plan_of(
         index_vector_dim: vector,
         batch: from_batch,
         window: from_cell,
-        windows,
-        component_offsets: offsets,
-        component_strides: strides,
-        batches,
-        cells,
+        window_shape: windows,
+        index_component_offsets: offsets,
+        index_operand_strides: strides,
+        batch_elems: batches,
+        window_elems: cells,
     }
 }
 

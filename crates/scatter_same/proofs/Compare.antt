@@ -86,7 +86,7 @@ parts-of p = (
   (p .index, (p .updates, p .dest)),
   (
     (p .«update_window_dims», (p .«inserted_window_dims», (p .«scatter_dims_to_operand_dims», p .«index_vector_dim»))),
-    ((p .batch, (p .window, (p .batches, p .cells))), (p .windows, (p .«component_offsets», p .«component_strides»))),
+    ((p .batch, (p .window, (p .«batch_elems», p .«window_elems»))), (p .«window_shape», (p .«index_component_offsets», p .«index_operand_strides»))),
   ),
 )
 
@@ -102,11 +102,11 @@ plan-by t =
       «index_vector_dim» = t .1 .0 .1 .1 .1;
       batch = t .1 .1 .0 .0;
       window = t .1 .1 .0 .1 .0;
-      windows = t .1 .1 .1 .0;
-      «component_offsets» = t .1 .1 .1 .1 .0;
-      «component_strides» = t .1 .1 .1 .1 .1;
-      batches = t .1 .1 .0 .1 .1 .0;
-      cells = t .1 .1 .0 .1 .1 .1;
+      «window_shape» = t .1 .1 .1 .0;
+      «index_component_offsets» = t .1 .1 .1 .1 .0;
+      «index_operand_strides» = t .1 .1 .1 .1 .1;
+      «batch_elems» = t .1 .1 .0 .1 .1 .0;
+      «window_elems» = t .1 .1 .0 .1 .1 .1;
     }
 
 -- THE TEST decides whether two plans are the same
@@ -119,5 +119,5 @@ same-plan-decides a b =
     (pairs-decide (held-decide (a .«update_window_dims») (b .«update_window_dims»)) (pairs-decide (held-decide (a .«inserted_window_dims») (b .«inserted_window_dims»))
     (pairs-decide (held-decide (a .«scatter_dims_to_operand_dims») (b .«scatter_dims_to_operand_dims»)) (numbers-decide (a .«index_vector_dim») (b .«index_vector_dim»)))))
     (pairs-decide
-    (pairs-decide (replays-decide (a .batch) (b .batch)) (pairs-decide (replays-decide (a .window) (b .window)) (pairs-decide (numbers-decide (a .batches) (b .batches)) (numbers-decide (a .cells) (b .cells)))))
-    (pairs-decide (held-decide (a .windows) (b .windows)) (pairs-decide (steps-decide (a .«component_offsets») (b .«component_offsets»)) (steps-decide (a .«component_strides») (b .«component_strides»)))))))
+    (pairs-decide (replays-decide (a .batch) (b .batch)) (pairs-decide (replays-decide (a .window) (b .window)) (pairs-decide (numbers-decide (a .«batch_elems») (b .«batch_elems»)) (numbers-decide (a .«window_elems») (b .«window_elems»)))))
+    (pairs-decide (held-decide (a .«window_shape») (b .«window_shape»)) (pairs-decide (steps-decide (a .«index_component_offsets») (b .«index_component_offsets»)) (steps-decide (a .«index_operand_strides») (b .«index_operand_strides»)))))))

@@ -42,12 +42,12 @@ sameSpec a b =
 unfoldable pub sameWalks : ScatterPlan → ScatterPlan → Bool
 sameWalks a b =
     sameReplay (a .batch) (b .batch)
-    && (sameReplay (a .window) (b .window) && (eqb (a .batches) (b .batches) && eqb (a .cells) (b .cells)))
+    && (sameReplay (a .window) (b .window) && (eqb (a .«batch_elems») (b .«batch_elems») && eqb (a .«window_elems») (b .«window_elems»)))
 
 unfoldable pub sameStarts : ScatterPlan → ScatterPlan → Bool
 sameStarts a b =
-    sameNumbers (a .windows) (b .windows)
-    && (sameSteps (a .«component_offsets») (b .«component_offsets») && sameSteps (a .«component_strides») (b .«component_strides»))
+    sameNumbers (a .«window_shape») (b .«window_shape»)
+    && (sameSteps (a .«index_component_offsets») (b .«index_component_offsets») && sameSteps (a .«index_operand_strides») (b .«index_operand_strides»))
 
 -- whether two plans are the same (`same-plan-decides`)
 unfoldable pub samePlan : ScatterPlan → ScatterPlan → Bool

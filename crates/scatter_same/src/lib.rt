@@ -106,21 +106,21 @@ fn same_walks(a: ScatterPlan, b: ScatterPlan) -> bool
     let s = a.window;
     let t = b.window;
     let window = same_replay(s, t);
-    let counts = equality::both(a.batches == b.batches, a.cells == b.cells);
+    let counts = equality::both(a.batch_elems == b.batch_elems, a.window_elems == b.window_elems);
     equality::both(batch, equality::both(window, counts))
 }
 
 fn same_starts(a: ScatterPlan, b: ScatterPlan) -> bool
     ensures { λ r. ⌜ r ≡ sameStarts a b ⌝ }
 {
-    let x = a.windows;
-    let y = b.windows;
+    let x = a.window_shape;
+    let y = b.window_shape;
     let windows = equality::same_numbers(x, y);
-    let u = a.component_offsets;
-    let v = b.component_offsets;
+    let u = a.index_component_offsets;
+    let v = b.index_component_offsets;
     let offsets = equality::same_steps(u, v);
-    let s = a.component_strides;
-    let t = b.component_strides;
+    let s = a.index_operand_strides;
+    let t = b.index_operand_strides;
     let strides = equality::same_steps(s, t);
     equality::both(windows, equality::both(offsets, strides))
 }

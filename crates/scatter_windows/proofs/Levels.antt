@@ -15,8 +15,8 @@ use Rattle.runs.proofs.Place.{read, machine}
 use Rattle.windows.specs.Windows.{placeAt, windowed}
 use Rattle.windows.proofs.Last.{units-product, units-place}
 use Rattle.windows.proofs.Levels.{region-line}
-use Rattle.takes.specs.Takes.{startAt, Starting, movedAt, Putting}
-use Rattle.takes.proofs.Puts.{puts-end}
+use Rattle.indexed_runs.specs.IndexedRuns.{startAt, Starting, movedAt, Putting}
+use Rattle.indexed_runs.proofs.Puts.{puts-end}
 use Rattle.scatter_windows.specs.Scattering.{putBy, PutLevel}
 use Rattle.scatter_windows.proofs.Batches.{step-walk}
 

@@ -16,7 +16,7 @@ use Rattle.indexing.specs.Loops.{inOrder}
 use Rattle.runs.specs.Runs.{cellAt, line}
 use Rattle.runs.proofs.Turns.{same-places}
 use Rattle.runs.proofs.Place.{read, in-fits, line-zero}
-use Rattle.takes.specs.Takes.{componentAt, startAt, movedAt, Putting, clampedAt, Clamped}
+use Rattle.indexed_runs.specs.IndexedRuns.{componentAt, startAt, movedAt, Putting, clampedAt, Clamped}
 
 module _ (starts offsets strides : List ℤ) (limits : List ℕ) where
   only : (t : ℤ) → startAt starts offsets strides limits t 1 ≡ componentAt starts offsets strides limits t 0

@@ -19,7 +19,7 @@ use Rattle.runs.proofs.Turns.{none, same-turns}
 use Rattle.runs.proofs.Place.{read, line-zero}
 use Rattle.windows.specs.Windows.{placeAt, windowed, Region, Units}
 use Rattle.windows.proofs.Last.{place-first, no-cells, units-product}
-use Rattle.takes.specs.Takes.{startAt, Starting, movedAt, Putting}
+use Rattle.indexed_runs.specs.IndexedRuns.{startAt, Starting, movedAt, Putting}
 use Rattle.scatter_windows.specs.Scattering.{scatteredBy, putBy, Batches, Scattering, Walk, Landing, PutLevel}
 use Rattle.scatter_windows.proofs.Batches.{over-none, first-batch, over-back, walk-back}
 use Rattle.scatter_windows.proofs.Levels.{put, land}

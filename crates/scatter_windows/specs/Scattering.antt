@@ -11,7 +11,7 @@ use Rattle.indexing.specs.Loops.{inOrder}
 use Rattle.layout.specs.Layouts.{rankLimit}
 use Rattle.runs.specs.Runs.{cellAt}
 use Rattle.windows.specs.Windows.{placeAt, windowed, Region, Units, Level}
-use Rattle.takes.specs.Takes.{startAt, Starting, movedAt}
+use Rattle.indexed_runs.specs.IndexedRuns.{startAt, Starting, movedAt}
 
 -- batch by batch, first axis fastest: the batch's updates are a window, put on the destination from its base d, moved by the start that is read at the batch's place
 abbrev pub scatteredBy : {A : Type 0} → A → (A → A → A) → List A → List ℤ → List ℤ → List ℤ → List ℕ → ℕ → ℤ → ℤ → ℤ → List ℕ → List ℤ → List ℤ → ℕ → List ℕ → List ℤ → List ℤ → ℕ → List A → List A

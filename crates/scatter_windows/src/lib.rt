@@ -7,7 +7,7 @@ ghost use lib.ListN.{length};
 ghost use Rattle.indexing.specs.Loops.{inOrder};
 ghost use Rattle.layout.specs.Layouts.{rankLimit};
 ghost use Rattle.runs.specs.Runs.{ruleI32, cellAt, line};
-ghost use Rattle.takes.specs.Takes.{Starting, movedAt, Putting};
+ghost use Rattle.indexed_runs.specs.IndexedRuns.{Starting, movedAt, Putting};
 ghost use Rattle.scatter_windows.specs.Scattering.{putBy, OneCell, Walk, PutLevel};
 use layout::RAW_FUSED_RANK_LIMIT;
 use runs::Rule;
@@ -52,7 +52,7 @@ pub fn scatter_run(
     }
     if count == 1 {
         let at = t + offsets[0];
-        takes::put_run(
+        indexed_runs::put_run(
             rule,
             src,
             starts,
@@ -68,7 +68,7 @@ pub fn scatter_run(
         );
         return;
     }
-    takes::put_cells(
+    indexed_runs::put_cells(
         rule,
         src,
         starts,

@@ -6,7 +6,7 @@ ghost use lib.Ieee.{nan};
 ghost use lib.ListN.{length};
 ghost use Rattle.indexing.specs.Loops.{inOrder};
 ghost use Rattle.runs.specs.Runs.{ruleF64, cellAt, line};
-ghost use Rattle.takes.specs.Takes.{Starting, movedAt, Putting};
+ghost use Rattle.indexed_runs.specs.IndexedRuns.{Starting, movedAt, Putting};
 ghost use Rattle.scatter_windows.specs.Scattering.{putBy, Walk, PutLevel};
 use layout::RAW_FUSED_RANK_LIMIT;
 use runs::Rule;
@@ -36,7 +36,7 @@ pub fn scatter_run(
     }
     if count == 1 {
         let at = t + offsets[0];
-        takes_f64::put_run(
+        indexed_runs_f64::put_run(
             rule,
             src,
             starts,
@@ -52,7 +52,7 @@ pub fn scatter_run(
         );
         return;
     }
-    takes_f64::put_cells(
+    indexed_runs_f64::put_cells(
         rule,
         src,
         starts,

@@ -7,12 +7,12 @@ use lib.Dec.{leb}
 use lib.ListN.{length, drop}
 use Rattle.layout.specs.declared.Answer.{Answer}
 use Rattle.layout.specs.declared.Answer.the-variants as A
-use Rattle.layout.specs.Answers.{isDone, orElse}
+use Rattle.layout.specs.Answers.{isDone}
 use Rattle.job.specs.declared.MadeJob.{MadeJob}
 use Rattle.job.specs.Format.{encoded}
 use Rattle.job_writer.specs.Written.{Written}
 use Rattle.strided.specs.Words.{words}
-use Rattle.strided.specs.Stored.{storedAnswer, storedLeft, Stored, StoredAs}
+use Rattle.strided.specs.Stored.{storedAnswer, Stored, StoredAs}
 
 module _ (m : MadeJob) (before : List ℕ) where
   abbrev fits : Bool

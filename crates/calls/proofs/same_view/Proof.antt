@@ -1,4 +1,3 @@
-use mathlib.Core.Path.{_≡_, sym, _∙_}
 use borrow.Author.Needs.{needs}
 use Rattle.calls.proofs.Same.{extents-same, strides-same}
 use Rattle.calls.proofs.same_view.Statement.{statement}

@@ -3,9 +3,6 @@ use Rattle.integer.specs.Z.{znorm, zflat, known, back}
 use borrow.Author.Needs.{needs}
 use Rattle.changed_plans.proofs.other_i64.Statement.{statement}
 use Rattle.changed_plans.proofs.other_i64.Tie as tie
-use Rattle.changed_plans.proofs.other_i64.Reads as reads
-use Rattle.changed_plans.proofs.other_i64.Lts as lts
-use Rattle.changed_plans.proofs.sum.Reads as sum-reads
 
 sum-requires : tie.Need-sum-requires
 sum-requires c κs = search needs

@@ -4,7 +4,7 @@ use native.Mathlib.Omega.{arith}
 use borrow.Author.Needs.{needs}
 use lib.ListN.{getD}
 use Rattle.indexing.specs.Coordinates.{tabulate}
-use Rattle.indexing.specs.Cuts.{length-tabulate, getD-tabulate}
+use Rattle.indexing.specs.Updates.{length-tabulate, getD-tabulate}
 use Rattle.layout.specs.Layouts.{rankLimit}
 use Rattle.axis_lists.proofs.Filling.{written, one-written, all-written}
 use Rattle.components.specs.Components.{limitAt}

@@ -7,7 +7,7 @@ use lib.IntN.{pos}
 use mir.Syntax.{w64}
 use mir.Val.{SFits}
 use Rattle.integer.specs.Z.{back}
-use Rattle.indexing.specs.Cuts.{length-tabulate, getD-tabulate}
+use Rattle.indexing.specs.Updates.{length-tabulate, getD-tabulate}
 use Rattle.layout.specs.Layouts.{rankLimit}
 use Rattle.axis_lists.proofs.Filling.{written, one-written, all-written}
 use Rattle.gather_plan.specs.Plan.{noAxis}
@@ -56,13 +56,13 @@ loop-again c =
     let l = c .before .before .before in
     let a = l .before .args .t1 in
     let h = c .before .before .loop-test .taken in
-    let k = length-tabulate rankLimit (λ j. getD a j noAxis .«batch_step») in
-    let f : SFits w64 (getD a (l .loop .i) noAxis .«batch_step») = search needs in
-    (omega (arith, h), one-written (pos 0) (batchStepsOf a) (l .loop .out) (l .loop .i) _ (omega (arith, k, h)) (omega (arith, k)) (l .loop .inv .1) (back f ∙ sym (getD-tabulate rankLimit (λ j. getD a j noAxis .«batch_step») (l .loop .i) (pos 0) (omega (arith, h)))))
+    let k = length-tabulate rankLimit (λ j. getD a j noAxis .«index_batch_step») in
+    let f : SFits w64 (getD a (l .loop .i) noAxis .«index_batch_step») = search needs in
+    (omega (arith, h), one-written (pos 0) (batchStepsOf a) (l .loop .out) (l .loop .i) _ (omega (arith, k, h)) (omega (arith, k)) (l .loop .inv .1) (back f ∙ sym (getD-tabulate rankLimit (λ j. getD a j noAxis .«index_batch_step») (l .loop .i) (pos 0) (omega (arith, h)))))
 
 -- src/lib.rt:52:1
 returns : tie.Need-returns Inv-loop μ-loop
-returns c = let l = c .before in l .loop .inv .1 ∙ all-written (pos 0) (batchStepsOf (l .before .args .t1)) (l .loop .i) (omega (arith, length-tabulate rankLimit (λ a. getD (l .before .args .t1) a noAxis .«batch_step»), c .loop-test .left)) (omega (arith, length-tabulate rankLimit (λ a. getD (l .before .args .t1) a noAxis .«batch_step»))) ∙ full (pos 0) (batchStepsOf (l .before .args .t1)) (length-tabulate rankLimit (λ a. getD (l .before .args .t1) a noAxis .«batch_step»))
+returns c = let l = c .before in l .loop .inv .1 ∙ all-written (pos 0) (batchStepsOf (l .before .args .t1)) (l .loop .i) (omega (arith, length-tabulate rankLimit (λ a. getD (l .before .args .t1) a noAxis .«index_batch_step»), c .loop-test .left)) (omega (arith, length-tabulate rankLimit (λ a. getD (l .before .args .t1) a noAxis .«index_batch_step»))) ∙ full (pos 0) (batchStepsOf (l .before .args .t1)) (length-tabulate rankLimit (λ a. getD (l .before .args .t1) a noAxis .«index_batch_step»))
 
 pub batch-steps-spec : {M : Type 1} → statement M
 batch-steps-spec =

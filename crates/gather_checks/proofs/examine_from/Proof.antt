@@ -1,18 +1,11 @@
-use mathlib.Core.Path.{_≡_, sym, ap, _∙_}
-use mathlib.Core.Bool.{true}
+use mathlib.Core.Path.{ap, _∙_}
 use mathlib.Core.List.{List, [], _∷_}
-use Prim.Native.Nat.{ℕ, _-_, _≤_, min}
+use Prim.Native.Nat.{ℕ, _-_, min}
 use native.Mathlib.Omega.{arith}
 use borrow.Author.Needs.{needs}
-use borrow.Author.Tests.{not-true, not-false}
 use lib.ListN.{length, take, drop}
 use Rattle.indexing.specs.Coordinates.{others}
-use Rattle.layout.specs.Answers.{isDone}
 use Rattle.layout.specs.Layouts.{rankLimit}
-use Rattle.layout.proofs.First.{stops}
-use Rattle.axis_lists.specs.Held.{heldNumbers}
-use Rattle.checks.specs.Checks.{layoutsRefusal}
-use Rattle.gather_checks.specs.Refusals.{refusalOf}
 use Rattle.gather_checks.specs.Given.{examinedBy}
 use Rattle.checks.proofs.Held.{held-part, held-fits, few-others, others-held}
 use Rattle.gather_checks.proofs.Found.{sizes-pass, found}

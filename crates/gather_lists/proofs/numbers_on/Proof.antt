@@ -1,4 +1,4 @@
-use mathlib.Core.Path.{_≡_, ap, _∙_}
+use mathlib.Core.Path.{ap, _∙_}
 use Prim.Native.Nat.{min}
 use borrow.Author.Needs.{needs}
 use lib.ListN.{length}
@@ -18,8 +18,8 @@ use Rattle.gather_lists.proofs.numbers_on.Tie as tie
 stride-at-requires : tie.Need-stride-at-requires
 stride-at-requires c κs = search needs
 
-component-offsets-requires : tie.Need-component-offsets-requires
-component-offsets-requires c κs = search needs
+index-component-offsets-requires : tie.Need-index-component-offsets-requires
+index-component-offsets-requires c κs = search needs
 
 strides-on-requires : tie.Need-strides-on-requires
 strides-on-requires c κs = search needs
@@ -40,7 +40,7 @@ returns : tie.Need-returns
 returns c =
     let s = c .before .before .before .before .before .before .before .before .before .before .before .before .before .before .before in
     let f : SFits w64 (c .before .before .before .before .before .before .before .stride-at .result) = search needs in
-    let o = c .before .before .before .before .before .before .component-offsets .ensures ∙ ap (λ (z : ℤ). heldSteps (tabulate (min (length (s .args .start-index-map .now)) rankLimit) (offsetOr z))) (back f ∙ c .before .before .before .before .before .before .before .stride-at .ensures) in
+    let o = c .before .before .before .before .before .before .index-component-offsets .ensures ∙ ap (λ (z : ℤ). heldSteps (tabulate (min (length (s .args .start-index-map .now)) rankLimit) (offsetOr z))) (back f ∙ c .before .before .before .before .before .before .before .stride-at .ensures) in
     numbers-are (gatherFrom (s .args .operand-extents .now) (s .args .operand-strides .now) (s .args .index-extents .now) (s .args .index-strides .now) (s .args .dest-extents .now) (s .args .dest-strides .now) (s .args .offset-dims .now) (s .args .collapsed-slice-dims .now) (s .args .start-index-map .now) (s .args .index-vector-dim) (s .args .slice-sizes .now)) (s .args .window) (s .args .batch) (s .pre) _ _ _ _ _ _ o (c .before .before .before .before .strides-on .ensures) (c .before .before .before .limits-on .ensures) (c .before .before .unless-none .ensures) (c .before .padded-extents .ensures) (c .padded-strides .ensures)
 
 pub numbers-on-spec : {M : Type 1} → statement M
@@ -48,7 +48,7 @@ numbers-on-spec =
     tie.close
     (tie.spec
     stride-at-requires
-    component-offsets-requires
+    index-component-offsets-requires
     strides-on-requires
     limits-on-requires
     unless-none-requires

@@ -1,8 +1,6 @@
-use mathlib.Core.Path.{_≡_, refl, sym, ap, _∙_}
-use mathlib.Core.Bool.{Bool, cond}
+use mathlib.Core.Path.{sym, _∙_}
 use borrow.Author.Needs.{needs}
 use borrow.Author.Tests.{not-true, not-false}
-use Rattle.gather_plan.specs.Plan.{planOf, refusedPlan, compiledBy}
 use Rattle.gather_plan.proofs.Compiled.{compiled-refused, compiled-done}
 use Rattle.gather_plan.proofs.compiled_from.Statement.{statement}
 use Rattle.gather_plan.proofs.compiled_from.Tie as tie

@@ -1,5 +1,4 @@
-use mathlib.Core.Path.{_≡_, sym, ap, _∙_}
-use mathlib.Core.List.{List}
+use mathlib.Core.Path.{ap, _∙_}
 use Prim.Native.Nat.{min}
 use borrow.Author.Needs.{needs}
 use lib.ListN.{length}
@@ -35,8 +34,8 @@ axes-of-requires c κs = let s = c .before .before .before .before .before .befo
 stride-at-requires : tie.Need-stride-at-requires
 stride-at-requires c κs = search needs
 
-component-offsets-requires : tie.Need-component-offsets-requires
-component-offsets-requires c κs = search needs
+index-component-offsets-requires : tie.Need-index-component-offsets-requires
+index-component-offsets-requires c κs = search needs
 
 strides-on-requires : tie.Need-strides-on-requires
 strides-on-requires c κs = search needs
@@ -61,7 +60,7 @@ returns c =
     let s = c .before .before .before .before .before .before .before .before .before .before .before .before .before .before .before .before .before .before .before .before .before .before .before in
     let g : Gather = gatherFrom (s .args .operand-extents .now) (s .args .operand-strides .now) (s .args .index-extents .now) (s .args .index-strides .now) (s .args .dest-extents .now) (s .args .dest-strides .now) (s .args .offset-dims .now) (s .args .collapsed-slice-dims .now) (s .args .start-index-map .now) (s .args .index-vector-dim) (s .args .slice-sizes .now) in
     let f : SFits w64 (c .before .before .before .before .before .before .before .stride-at .result) = search needs in
-    let o = c .before .before .before .before .before .before .component-offsets .ensures ∙ ap (λ (z : ℤ). heldSteps (tabulate (min (length (s .args .start-index-map .now)) rankLimit) (offsetOr z))) (back f ∙ c .before .before .before .before .before .before .before .stride-at .ensures) in
+    let o = c .before .before .before .before .before .before .index-component-offsets .ensures ∙ ap (λ (z : ℤ). heldSteps (tabulate (min (length (s .args .start-index-map .now)) rankLimit) (offsetOr z))) (back f ∙ c .before .before .before .before .before .before .before .stride-at .ensures) in
     plan-is g (s .args .window) (s .args .batch) (s .pre) _ _ _ _ _ _ _ _ _ _ _ _ (c .before .before .before .before .before .before .before .before .before .before .before .before .before .before .before .make-layout .ensures) (c .before .before .before .before .before .before .before .before .before .before .before .before .before .before .make-layout2 .ensures) (c .before .before .before .before .before .before .before .before .before .before .before .before .before .make-layout3 .ensures) (c .before .before .before .before .before .before .before .before .before .other-axes .ensures) (c .before .before .before .before .before .before .before .before .axes-of .ensures) o (c .before .before .before .before .before .strides-on .ensures) (c .before .before .before .before .numbers-from .ensures) (c .before .before .before .numbers-from2 .ensures) (c .before .before .numbers-from3 .ensures) (c .before .numbers-from4 .ensures) (c .total-value .ensures)
 
 pub plan-of-spec : {M : Type 1} → statement M
@@ -74,7 +73,7 @@ plan-of-spec =
     other-axes-requires
     axes-of-requires
     stride-at-requires
-    component-offsets-requires
+    index-component-offsets-requires
     strides-on-requires
     numbers-from-requires
     numbers-from-requires-2

@@ -1,14 +1,12 @@
 use mathlib.Core.Path.{refl}
 use native.Mathlib.Omega.{arith}
-use Prim.Native.Nat.{_<_, _^_}
 use borrow.Author.Needs.{sfits-of}
-use lib.ListN.{length}
 use lib.IntN.{pos}
 use Rattle.integer.specs.Z.{back}
 use Rattle.runs.specs.Runs.{ruleI32}
 use Rattle.runs.specs.declared.Rule.the-variants as R
 use Rattle.runs.proofs.Turns.{none}
-use Rattle.takes.proofs.Cells.{cells-end}
+use Rattle.indexed_runs.proofs.Cells.{cells-end}
 use Rattle.gather_windows.proofs.Single.{at-sum, single-asks, single-end}
 use borrow.Author.Needs.{needs}
 use Rattle.gather_windows.proofs.gather_run.Statement.{statement}

@@ -7,7 +7,7 @@ use Rattle.integer.specs.Z.{back}
 use Rattle.runs.specs.Runs.{ruleF64}
 use Rattle.runs.specs.declared.Rule.the-variants as R
 use Rattle.runs.proofs.Turns.{none}
-use Rattle.takes.proofs.Cells.{cells-end}
+use Rattle.indexed_runs.proofs.Cells.{cells-end}
 use Rattle.gather_windows.proofs.Single.{at-sum, single-asks, single-end}
 use borrow.Author.Needs.{needs}
 use Rattle.gather_windows_f64.proofs.gather_run.Statement.{statement}

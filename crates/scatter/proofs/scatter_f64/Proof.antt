@@ -1,6 +1,4 @@
-use mathlib.Core.Path.{_≡_, sym, ap, _∙_}
 use borrow.Author.Needs.{needs}
-use Rattle.layout.specs.Answers.{isDone}
 use Rattle.calls.proofs.Does.{by-answer}
 use Rattle.scatter_move.proofs.Parts.{movable}
 use Rattle.scatter.proofs.scatter_f64.Statement.{statement}

@@ -1,4 +1,4 @@
-use mathlib.Core.Path.{_≡_, ap, _∙_}
+use mathlib.Core.Path.{ap, _∙_}
 use Prim.Native.Nat.{min}
 use borrow.Author.Needs.{needs}
 use lib.ListN.{length}
@@ -45,8 +45,8 @@ dest-steps-requires-2 c κs = search needs
 stride-at-requires : tie.Need-stride-at-requires
 stride-at-requires c κs = search needs
 
-component-offsets-requires : tie.Need-component-offsets-requires
-component-offsets-requires c κs = search needs
+index-component-offsets-requires : tie.Need-index-component-offsets-requires
+index-component-offsets-requires c κs = search needs
 
 strides-on-requires : tie.Need-strides-on-requires
 strides-on-requires c κs = search needs
@@ -61,7 +61,7 @@ returns : tie.Need-returns
 returns c =
     let s = c .before .before .before .before .before .before .before .before .before .before .before .before .before .before .before .before .before .before .before .before .before .before .before in
     let f : SFits w64 (c .before .before .before .before .before .stride-at .result) = search needs in
-    let o = c .before .before .before .before .component-offsets .ensures ∙ ap (λ (z : ℤ). heldSteps (tabulate (min (length (s .args .scatter-dims-to-operand-dims .now)) rankLimit) (offsetOr z))) (back f ∙ c .before .before .before .before .before .stride-at .ensures) in
+    let o = c .before .before .before .before .index-component-offsets .ensures ∙ ap (λ (z : ℤ). heldSteps (tabulate (min (length (s .args .scatter-dims-to-operand-dims .now)) rankLimit) (offsetOr z))) (back f ∙ c .before .before .before .before .before .stride-at .ensures) in
     numbers-are (scatterFrom (s .args .index-extents .now) (s .args .index-strides .now) (s .args .updates-extents .now) (s .args .updates-strides .now) (s .args .dest-extents .now) (s .args .dest-strides .now) (s .args .update-window-dims .now) (s .args .inserted-window-dims .now) (s .args .scatter-dims-to-operand-dims .now) (s .args .index-vector-dim)) (s .args .batch) (s .args .window) (s .pre) _ _ _ _ _ _ _ _ _ _ _ _ _ (c .before .before .before .before .before .before .before .before .before .before .before .before .before .before .shape-of .ensures) (c .before .before .before .before .before .before .before .before .before .before .before .before .before .shape-of2 .ensures) (c .before .before .before .before .before .before .before .before .before .before .before .before .rows-of .ensures) (c .before .before .before .before .before .before .before .before .before .before .before .rows-of2 .ensures) (c .before .before .before .before .before .before .before .before .before .before .source-steps .ensures) (c .before .before .before .before .before .before .before .before .before .unless-none .ensures) (c .before .before .before .before .before .before .before .before .dest-steps .ensures) (c .before .before .before .before .before .before .before .source-steps2 .ensures) (c .before .before .before .before .before .before .dest-steps2 .ensures) o (c .before .before .strides-on .ensures) (c .before .limits-by .ensures) (c .batch-elems .ensures)
 
 pub numbers-on-spec : {M : Type 1} → statement M
@@ -78,7 +78,7 @@ numbers-on-spec =
     source-steps-requires-2
     dest-steps-requires-2
     stride-at-requires
-    component-offsets-requires
+    index-component-offsets-requires
     strides-on-requires
     limits-by-requires
     batch-elems-requires

@@ -35,8 +35,8 @@ windows-of-requires c κs = let s = c .before .before .before .before .before .b
 stride-at-requires : tie.Need-stride-at-requires
 stride-at-requires c κs = search needs
 
-component-offsets-requires : tie.Need-component-offsets-requires
-component-offsets-requires c κs = search needs
+index-component-offsets-requires : tie.Need-index-component-offsets-requires
+index-component-offsets-requires c κs = search needs
 
 strides-on-requires : tie.Need-strides-on-requires
 strides-on-requires c κs = search needs
@@ -60,7 +60,7 @@ returns : tie.Need-returns
 returns c =
     let s = c .before .before .before .before .before .before .before .before .before .before .before .before .before .before .before .before .before .before .before .before .before in
     let f : SFits w64 (c .before .before .before .before .before .before .before .stride-at .result) = search needs in
-    let o = c .before .before .before .before .before .before .component-offsets .ensures ∙ ap (λ (z : ℤ). heldSteps (tabulate (min (length (s .args .map .now)) rankLimit) (offsetOr z))) (back f ∙ c .before .before .before .before .before .before .before .stride-at .ensures) in
+    let o = c .before .before .before .before .before .before .index-component-offsets .ensures ∙ ap (λ (z : ℤ). heldSteps (tabulate (min (length (s .args .map .now)) rankLimit) (offsetOr z))) (back f ∙ c .before .before .before .before .before .before .before .stride-at .ensures) in
     plan-is (asked s) (s .args .from-batch) (s .args .from-cell) (s .pre) _ _ _ _ _ _ _ _ _ _ _ (c .before .before .before .before .before .before .before .before .before .before .before .before .before .before .make-layout .ensures) (c .before .before .before .before .before .before .before .before .before .before .before .before .before .make-layout2 .ensures) (c .before .before .before .before .before .before .before .before .before .before .before .before .make-layout3 .ensures) (c .before .before .before .before .before .before .before .before .windows-of .ensures) o (c .before .before .before .before .before .strides-on .ensures) (c .before .before .before .before .numbers-from .ensures) (c .before .before .before .numbers-from2 .ensures) (c .before .before .numbers-from3 .ensures) (c .before .batch-elems .ensures) (c .product-value .ensures)
 
 pub plan-of-spec : {M : Type 1} → statement M
@@ -72,7 +72,7 @@ plan-of-spec =
     make-layout-requires-3
     windows-of-requires
     stride-at-requires
-    component-offsets-requires
+    index-component-offsets-requires
     strides-on-requires
     numbers-from-requires
     numbers-from-requires-2

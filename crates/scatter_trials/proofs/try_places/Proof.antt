@@ -2,10 +2,6 @@ use Prim.Native.Nat.{_-_}
 use native.Mathlib.Omega.{arith}
 use Rattle.scatter_trials.proofs.try_places.Statement.{statement}
 use Rattle.scatter_trials.proofs.try_places.Tie as tie
-use Rattle.scatter_trials.proofs.try_places.Reads as reads
-use Rattle.scatter_trials.proofs.try_places.Lts as lts
-use Rattle.scatter_trials.proofs.try_place.Reads as try-place-reads
-use Rattle.changed_plans.proofs.counts.none.Reads as none-reads
 
 abbrev Inv-loop : tie.InvT-loop
 Inv-loop plan change places counted₀ i₀ counted i = Unit {0}

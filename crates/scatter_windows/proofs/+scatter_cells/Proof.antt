@@ -12,7 +12,7 @@ use Rattle.indexing.specs.Loops.{inOrder}
 use Rattle.runs.specs.Runs.{ruleI32}
 use Rattle.runs.proofs.Turns.{none}
 use Rattle.runs.proofs.Place.{read, machine, Step}
-use Rattle.takes.specs.Takes.{Starting}
+use Rattle.indexed_runs.specs.IndexedRuns.{Starting}
 use Rattle.scatter_windows.specs.Scattering.{PutLevel}
 use Rattle.scatter_windows.proofs.Batches.{below, step-index, step-update, levels-more, levels-end}
 use Rattle.scatter_windows.proofs.Levels.{put, step-put, run-asks, run-end}

@@ -5,7 +5,7 @@ use lib.IntN.{pos}
 use Rattle.integer.specs.Z.{back}
 use Rattle.runs.specs.Runs.{ruleI32}
 use Rattle.runs.proofs.Turns.{none}
-use Rattle.takes.proofs.Puts.{puts-end}
+use Rattle.indexed_runs.proofs.Puts.{puts-end}
 use Rattle.scatter_windows.proofs.Single.{at-sum, single-asks, single-end}
 use Rattle.scatter_windows.proofs.scatter_run.Statement.{statement}
 use Rattle.scatter_windows.proofs.scatter_run.Tie as tie

@@ -6,7 +6,7 @@ use lib.Ieee.{nan}
 use Rattle.integer.specs.Z.{back}
 use Rattle.runs.specs.Runs.{ruleF64}
 use Rattle.runs.proofs.Turns.{none}
-use Rattle.takes.proofs.Puts.{puts-end}
+use Rattle.indexed_runs.proofs.Puts.{puts-end}
 use Rattle.scatter_windows.proofs.Single.{at-sum, single-asks, single-end}
 use Rattle.scatter_windows_f64.proofs.scatter_run.Statement.{statement}
 use Rattle.scatter_windows_f64.proofs.scatter_run.Tie as tie

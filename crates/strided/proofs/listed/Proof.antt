@@ -1,6 +1,4 @@
-use mathlib.Core.Path.{ap}
 use borrow.Author.Tests.{eq-eqb, ne-eqb}
-use borrow.Author.Needs.{needs}
 use Rattle.strided.proofs.listed.Statement.{statement}
 use Rattle.strided.proofs.listed.Tie as tie
 

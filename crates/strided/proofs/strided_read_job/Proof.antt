@@ -1,7 +1,6 @@
 use mathlib.Core.Path.{ap, _∙_}
 use Rattle.job_reader.specs.declared.ReadJob.{ReadJob}
 use Rattle.strided.specs.Words.{words}
-use borrow.Author.Needs.{needs}
 use Rattle.strided.proofs.strided_read_job.Statement.{statement}
 use Rattle.strided.proofs.strided_read_job.Tie as tie
 

@@ -3,10 +3,6 @@ use Rattle.integer.specs.Z.{znorm, zflat, known}
 use borrow.Author.Needs.{needs}
 use Rattle.changed_plans.proofs.counts.put_element.Statement.{statement}
 use Rattle.changed_plans.proofs.counts.put_element.Tie as tie
-use Rattle.changed_plans.proofs.counts.put_element.Reads as reads
-use Rattle.changed_plans.proofs.counts.put_element.Lts as lts
-use Rattle.printing.proofs.put.Reads as put-reads
-use Rattle.printing.proofs.put_i64.Reads as put-i64-reads
 
 slice-aggregate-put : tie.Need-slice-aggregate-put
 slice-aggregate-put c = search needs

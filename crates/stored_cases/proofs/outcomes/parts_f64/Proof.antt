@@ -3,10 +3,6 @@ use lib.ListN.{length-take}
 use borrow.Author.Needs.{needs}
 use Rattle.stored_cases.proofs.outcomes.parts_f64.Statement.{statement}
 use Rattle.stored_cases.proofs.outcomes.parts_f64.Tie as tie
-use Rattle.stored_cases.proofs.outcomes.parts_f64.Reads as reads
-use Rattle.stored_cases.proofs.outcomes.parts_f64.Lts as lts
-use Rattle.stored_cases.proofs.outcomes.compare_f64.Reads as compare-f64-reads
-use Rattle.stored_reader.proofs.packed.list_count.Reads as list-count-reads
 
 source-requires : tie.Need-source-requires
 source-requires c κs = search needs

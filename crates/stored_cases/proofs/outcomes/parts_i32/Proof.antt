@@ -3,10 +3,6 @@ use lib.ListN.{length-take}
 use borrow.Author.Needs.{needs}
 use Rattle.stored_cases.proofs.outcomes.parts_i32.Statement.{statement}
 use Rattle.stored_cases.proofs.outcomes.parts_i32.Tie as tie
-use Rattle.stored_cases.proofs.outcomes.parts_i32.Reads as reads
-use Rattle.stored_cases.proofs.outcomes.parts_i32.Lts as lts
-use Rattle.stored_cases.proofs.outcomes.compare_i32.Reads as compare-i32-reads
-use Rattle.stored_reader.proofs.packed.list_count.Reads as list-count-reads
 
 source-requires : tie.Need-source-requires
 source-requires c κs = search needs

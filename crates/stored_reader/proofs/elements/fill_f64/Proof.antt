@@ -5,10 +5,6 @@ use lib.ListN.{length}
 use borrow.Author.Needs.{needs}
 use Rattle.stored_reader.proofs.elements.fill_f64.Statement.{statement}
 use Rattle.stored_reader.proofs.elements.fill_f64.Tie as tie
-use Rattle.stored_reader.proofs.elements.fill_f64.Reads as reads
-use Rattle.stored_reader.proofs.elements.fill_f64.Lts as lts
-use Rattle.stored_reader.proofs.elements.of_bits.Reads as of-bits-reads
-use Rattle.stored_reader.proofs.packed.word_at.Reads as word-at-reads
 
 abbrev Inv-loop : tie.InvT-loop
 Inv-loop words elements₀ i₀ elements i = length elements ≡ length elements₀

@@ -5,10 +5,6 @@ use lib.ListN.{length}
 use borrow.Author.Needs.{needs}
 use Rattle.stored_reader.proofs.elements.fill_i32.Statement.{statement}
 use Rattle.stored_reader.proofs.elements.fill_i32.Tie as tie
-use Rattle.stored_reader.proofs.elements.fill_i32.Reads as reads
-use Rattle.stored_reader.proofs.elements.fill_i32.Lts as lts
-use Rattle.stored_reader.proofs.elements.narrow.Reads as narrow-reads
-use Rattle.stored_reader.proofs.packed.number_at.Reads as number-at-reads
 
 abbrev Inv-loop : tie.InvT-loop
 Inv-loop numbers elements₀ i₀ elements i = length elements ≡ length elements₀

@@ -5,9 +5,6 @@ use lib.Ieee.{Float, nan, inf, fin, ne, isNan}
 use borrow.Author.Needs.{needs}
 use Rattle.stored_reader.proofs.elements.has_bits.Statement.{statement}
 use Rattle.stored_reader.proofs.elements.has_bits.Tie as tie
-use Rattle.stored_reader.proofs.elements.has_bits.Reads as reads
-use Rattle.stored_reader.proofs.elements.has_bits.Lts as lts
-use Rattle.stored_reader.proofs.elements.is_nan.Reads as is-nan-reads
 
 is-nan-requires : tie.Need-is-nan-requires
 is-nan-requires c κs = search needs

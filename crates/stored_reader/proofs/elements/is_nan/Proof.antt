@@ -2,8 +2,6 @@ use lib.Ieee.{nanBits}
 use borrow.Author.Needs.{needs}
 use Rattle.stored_reader.proofs.elements.is_nan.Statement.{statement}
 use Rattle.stored_reader.proofs.elements.is_nan.Tie as tie
-use Rattle.stored_reader.proofs.elements.is_nan.Reads as reads
-use Rattle.stored_reader.proofs.elements.is_nan.Lts as lts
 
 returns : tie.Need-returns
 unfolding nanBits

@@ -5,8 +5,6 @@ use Rattle.integer.specs.Z.{znorm, zflat, back, fails}
 use borrow.Author.Needs.{needs}
 use Rattle.stored_reader.proofs.elements.narrow.Statement.{statement}
 use Rattle.stored_reader.proofs.elements.narrow.Tie as tie
-use Rattle.stored_reader.proofs.elements.narrow.Reads as reads
-use Rattle.stored_reader.proofs.elements.narrow.Lts as lts
 
 returns : tie.Need-returns
 returns c = search needs

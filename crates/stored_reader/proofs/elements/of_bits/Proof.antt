@@ -4,9 +4,6 @@ use lib.Dec.{T}
 use borrow.Author.Needs.{needs}
 use Rattle.stored_reader.proofs.elements.of_bits.Statement.{statement}
 use Rattle.stored_reader.proofs.elements.of_bits.Tie as tie
-use Rattle.stored_reader.proofs.elements.of_bits.Reads as reads
-use Rattle.stored_reader.proofs.elements.of_bits.Lts as lts
-use Rattle.stored_reader.proofs.elements.is_nan.Reads as is-nan-reads
 
 is-nan-requires : tie.Need-is-nan-requires
 is-nan-requires c κs = search needs

@@ -3,9 +3,6 @@ use native.Mathlib.Omega.{arith}
 use lib.ListN.{length}
 use Rattle.stored_reader.proofs.elements.same_f64.Statement.{statement}
 use Rattle.stored_reader.proofs.elements.same_f64.Tie as tie
-use Rattle.stored_reader.proofs.elements.same_f64.Reads as reads
-use Rattle.stored_reader.proofs.elements.same_f64.Lts as lts
-use Rattle.stored_reader.proofs.elements.has_bits.Reads as has-bits-reads
 
 abbrev Inv-loop : tie.InvT-loop
 Inv-loop elements words i₀ i = Unit {0}

@@ -3,9 +3,6 @@ use native.Mathlib.Omega.{arith}
 use lib.ListN.{length}
 use Rattle.stored_reader.proofs.elements.same_i32.Statement.{statement}
 use Rattle.stored_reader.proofs.elements.same_i32.Tie as tie
-use Rattle.stored_reader.proofs.elements.same_i32.Reads as reads
-use Rattle.stored_reader.proofs.elements.same_i32.Lts as lts
-use Rattle.stored_reader.proofs.elements.narrow.Reads as narrow-reads
 
 abbrev Inv-loop : tie.InvT-loop
 Inv-loop elements numbers i₀ i = Unit {0}

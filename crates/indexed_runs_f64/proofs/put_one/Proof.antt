@@ -1,0 +1,85 @@
+-- Written by tests/twins from crates/indexed_runs/proofs/put_one/Proof.antt.
+use mathlib.Core.Path.{_≡_, refl}
+use native.Mathlib.Omega.{arith}
+use borrow.Author.Needs.{needs, sfits-of}
+use lib.Ieee.{nan}
+use lib.ListN.{length}
+use lib.IntN.{pos, natAbs}
+use Rattle.runs.specs.Runs.{ruleF64}
+use Rattle.runs.proofs.Place.{read, Index}
+use Rattle.indexed_runs.specs.IndexedRuns.{oneAt}
+use Rattle.indexed_runs.proofs.Ones.{ones-index, ones-is, one-turn}
+use Rattle.indexed_runs_f64.proofs.put_one.Statement.{statement}
+use Rattle.indexed_runs_f64.proofs.put_one.Tie as tie
+
+-- the place of the destination
+module _ (c : tie.After-clamped) where
+  abbrev at-start : tie.Start
+  at-start = search
+
+  place : Index (c .clamped .result) (length (at-start .args .dst .now))
+  place = let a = at-start in ones-index _ _ _ _ (a .pre .1) (a .fits .limit) (omega (arith, a .good .1 .1 .1 .0 .1)) _ (a .pre .0) (sfits-of (c .before .x .given)) _ (c .clamped .ensures)
+
+  by-start : pos (natAbs (read (c .clamped .result))) ≡ oneAt (at-start .args .starts .now) (at-start .args .limit) (at-start .args .i)
+  by-start = let a = at-start in ones-is _ _ _ _ (a .pre .1) (a .fits .limit) (omega (arith, a .good .1 .1 .1 .0 .1)) _ (a .pre .0) (sfits-of (c .before .x .given)) _ (c .clamped .ensures)
+
+mul-x : tie.Need-mul-x
+mul-x c = search needs
+
+shared-slice-copy-out-x : tie.Need-shared-slice-copy-out-x
+shared-slice-copy-out-x c = search needs
+
+clamped-requires : tie.Need-clamped-requires
+clamped-requires c κs = search needs
+
+cast-b : tie.Need-cast-b
+cast-b c = place c .cast
+
+mul-apply : tie.Need-mul-apply
+mul-apply c = omega (arith, place c .below, at-start c .good .1 .1 .1 .0 .1)
+
+slice-read-apply : tie.Need-slice-read-apply
+slice-read-apply c = let l : tie.After-clamped = search in place l .below
+
+mul-apply-2 : tie.Need-mul-apply-2
+mul-apply-2 c = search needs
+
+shared-slice-read-apply : tie.Need-shared-slice-read-apply
+shared-slice-read-apply c = search needs
+
+apply-requires : tie.Need-apply-requires
+apply-requires c κs = search needs
+
+mul-dst : tie.Need-mul-dst
+mul-dst c = omega (arith, place (c .before .before .before) .below, at-start (c .before .before .before) .good .1 .1 .1 .0 .1)
+
+slice-write-dst : tie.Need-slice-write-dst
+slice-write-dst c = place (c .before .before .before) .below
+
+same-length : tie.Need-same-length
+same-length c = search needs
+
+returns : tie.Need-returns
+returns c = let q = c .before .before .before in
+    let a = at-start q in
+    let m = natAbs (read (q .clamped .result)) in
+    one-turn nan (ruleF64 (a .args .rule)) (a .args .src .now) pos (oneAt (a .args .starts .now) (a .args .limit)) (a .args .dst .now) (a .args .i) (a .args .i) m _ refl (by-start q)
+    (c .apply .ensures)
+
+pub put-one-spec : {M : Type 1} → statement M
+put-one-spec =
+    tie.close
+    (tie.spec
+    mul-x
+    shared-slice-copy-out-x
+    clamped-requires
+    cast-b
+    mul-apply
+    slice-read-apply
+    mul-apply-2
+    shared-slice-read-apply
+    apply-requires
+    mul-dst
+    slice-write-dst
+    same-length
+    returns)

@@ -1,0 +1,359 @@
+// Written by tests/twins from crates/indexed_runs/src/lib.rt.
+// Runs whose places on one side are given by starts, each clamped: windows of one cell, whose start changes with each cell.
+ghost use mathlib.Core.Path.{_≡_};
+ghost use Prim.Native.Nat.{_<_, _≤_};
+ghost use lib.Ieee.{nan};
+ghost use lib.IntN.{pos};
+ghost use lib.ListN.{length};
+ghost use Rattle.indexing.specs.Loops.{inOrder};
+ghost use Rattle.runs.specs.Runs.{ruleF64, cellAt, line};
+ghost use Rattle.runs.specs.declared.Rule.the-variants as R;
+ghost use Rattle.indexed_runs.specs.IndexedRuns.{movedAt, Taking, Putting, clampedAt, Clamped, oneAt, Ones};
+use layout::RAW_FUSED_RANK_LIMIT;
+use runs::Rule;
+
+// n cells: the source's place from s by ss, moved by the start read at t by ts; the destination's from d by ds.
+pub fn take_cells(
+    src: &[f64],
+    starts: &[i64],
+    dst: &mut [f64],
+    n: usize,
+    s: i64,
+    t: i64,
+    d: i64,
+    ss: i64,
+    ts: i64,
+    ds: i64,
+    count: usize,
+    offsets: &[i64; RAW_FUSED_RANK_LIMIT],
+    strides: &[i64; RAW_FUSED_RANK_LIMIT],
+    limits: &[u64; RAW_FUSED_RANK_LIMIT],
+)
+    requires { ⌜ Taking (now starts) (now offsets) (now strides) (now limits) count s t d ss ts ds n (length (now src)) (length (now dst)) ⌝ }
+    ensures { λ _. ⌜ now (dst .exit) ≡ inOrder (cellAt nan (ruleF64 R.Copy) (now (src .entry)) (movedAt (now (starts .entry)) (now (offsets .entry)) (now (strides .entry)) (now (limits .entry)) count (line s ss) (line t ts)) (line d ds)) n (now (dst .entry)) ⌝ }
+{
+    let mut i: usize = 0;
+    while i < n {
+        let k = i as i64;
+        let p = s + ss * k;
+        let q = t + ts * k;
+        let m = indexed_runs::started(starts, p, q, count, offsets, strides, limits);
+        let a = m as usize;
+        let b = (d + ds * k) as usize;
+        dst[b] = src[a];
+        i += 1;
+    }
+}
+
+// n cells: the source's place by the start read at t by ts, clamped, times the stride; the destination's from d by ds.
+pub fn take_strided(
+    src: &[f64],
+    starts: &[i64],
+    dst: &mut [f64],
+    n: usize,
+    t: i64,
+    ts: i64,
+    base: i64,
+    stride: i64,
+    limit: u64,
+    d: i64,
+    ds: i64,
+)
+    requires { ⌜ Clamped (now starts) t ts base stride d ds limit n (length (now src)) (length (now dst)) ⌝ }
+    ensures { λ _. ⌜ now (dst .exit) ≡ inOrder (cellAt nan (ruleF64 R.Copy) (now (src .entry)) (clampedAt (now (starts .entry)) (line t ts) base stride limit) (line d ds)) n (now (dst .entry)) ⌝ }
+{
+    let mut i: usize = 0;
+    while i < n {
+        let k = i as i64;
+        let p = (t + ts * k) as usize;
+        let x = starts[p];
+        let y = layout::clamp_window_start(x, limit, 0);
+        let c = y as i64;
+        let a = (base + stride * c) as usize;
+        let b = (d + ds * k) as usize;
+        dst[b] = src[a];
+        i += 1;
+    }
+}
+
+// Cell i: of the source where start i says, clamped; of the destination in order.
+fn take_one(src: &[f64], starts: &[i64], dst: &mut [f64], limit: i64, i: usize)
+    requires { ⌜ (i < length (now dst)) × Ones (now starts) limit (length (now dst)) (length (now src)) ⌝ }
+    ensures { λ _. ⌜ now (dst .exit) ≡ cellAt nan (ruleF64 R.Copy) (now (src .entry)) (oneAt (now (starts .entry)) limit) pos i (now (dst .entry)) ⌝ }
+{
+    let x = starts[i];
+    let y = indexed_runs::clamped(x, limit);
+    let a = y as usize;
+    dst[i] = src[a];
+}
+
+// The first n cells.
+fn take_few(src: &[f64], starts: &[i64], dst: &mut [f64], limit: i64, n: usize)
+    requires { ⌜ (n ≤ length (now dst)) × Ones (now starts) limit (length (now dst)) (length (now src)) ⌝ }
+    ensures { λ _. ⌜ now (dst .exit) ≡ inOrder (cellAt nan (ruleF64 R.Copy) (now (src .entry)) (oneAt (now (starts .entry)) limit) pos) n (now (dst .entry)) ⌝ }
+{
+    let mut i: usize = 0;
+    while i < n {
+        take_one(src, starts, dst, limit, i);
+        i += 1;
+    }
+}
+
+// A cell for each start: of the source where the start says, clamped; of the destination in order. Four to a turn, behind those
+// that are over.
+pub fn take_ones(src: &[f64], starts: &[i64], dst: &mut [f64], limit: i64)
+    requires { ⌜ Ones (now starts) limit (length (now dst)) (length (now src)) ⌝ }
+    ensures { λ _. ⌜ now (dst .exit) ≡ inOrder (cellAt nan (ruleF64 R.Copy) (now (src .entry)) (oneAt (now (starts .entry)) limit) pos) (length (now (dst .entry))) (now (dst .entry)) ⌝ }
+{
+    let n = dst.len();
+    let mut fours = n / 4;
+    let mut i = n - 4 * fours;
+    take_few(src, starts, dst, limit, i);
+    while 0 < fours {
+        take_one(src, starts, dst, limit, i);
+        take_one(src, starts, dst, limit, i + 1);
+        take_one(src, starts, dst, limit, i + 2);
+        take_one(src, starts, dst, limit, i + 3);
+        i += 4;
+        fours -= 1;
+    }
+}
+
+// n cells whose every step is 1: on the parts of the starts and the destination that they are, and the source from the base on.
+pub fn take_row(
+    src: &[f64],
+    starts: &[i64],
+    dst: &mut [f64],
+    n: usize,
+    t: i64,
+    base: i64,
+    limit: u64,
+    d: i64,
+)
+    requires { ⌜ (0 < n) × Clamped (now starts) t (pos 1) base (pos 1) d (pos 1) limit n (length (now src)) (length (now dst)) ⌝ }
+    ensures { λ _. ⌜ now (dst .exit) ≡ inOrder (cellAt nan (ruleF64 R.Copy) (now (src .entry)) (clampedAt (now (starts .entry)) (line t (pos 1)) base (pos 1) limit) (line d (pos 1))) n (now (dst .entry)) ⌝ }
+{
+    let l = limit as i64;
+    let a = t as usize;
+    let b = d as usize;
+    let c = base as usize;
+    let e = a + n;
+    let f = b + n;
+    let m = src.len();
+    take_ones(&src[c..m], &starts[a..e], &mut dst[b..f], l);
+}
+
+// n cells: by take_row where every step is 1, else by take_strided.
+pub fn take_run(
+    src: &[f64],
+    starts: &[i64],
+    dst: &mut [f64],
+    n: usize,
+    t: i64,
+    ts: i64,
+    base: i64,
+    stride: i64,
+    limit: u64,
+    d: i64,
+    ds: i64,
+)
+    requires { ⌜ Clamped (now starts) t ts base stride d ds limit n (length (now src)) (length (now dst)) ⌝ }
+    ensures { λ _. ⌜ now (dst .exit) ≡ inOrder (cellAt nan (ruleF64 R.Copy) (now (src .entry)) (clampedAt (now (starts .entry)) (line t ts) base stride limit) (line d ds)) n (now (dst .entry)) ⌝ }
+{
+    if n == 0 {
+        return;
+    }
+    if ts == 1 {
+        if stride == 1 {
+            if ds == 1 {
+                take_row(src, starts, dst, n, t, base, limit, d);
+                return;
+            }
+        }
+    }
+    take_strided(src, starts, dst, n, t, ts, base, stride, limit, d, ds);
+}
+
+// n cells by the rule: the source's place from s by ss; the destination's is d, moved by the start read at t by ts.
+pub fn put_cells(
+    rule: Rule,
+    src: &[f64],
+    starts: &[i64],
+    dst: &mut [f64],
+    n: usize,
+    s: i64,
+    t: i64,
+    d: i64,
+    ss: i64,
+    ts: i64,
+    count: usize,
+    offsets: &[i64; RAW_FUSED_RANK_LIMIT],
+    strides: &[i64; RAW_FUSED_RANK_LIMIT],
+    limits: &[u64; RAW_FUSED_RANK_LIMIT],
+)
+    requires { ⌜ Putting (now starts) (now offsets) (now strides) (now limits) count s t d ss ts n (length (now src)) (length (now dst)) ⌝ }
+    ensures { λ _. ⌜ now (dst .exit) ≡ inOrder (cellAt nan (ruleF64 rule) (now (src .entry)) (line s ss) (movedAt (now (starts .entry)) (now (offsets .entry)) (now (strides .entry)) (now (limits .entry)) count (λ _. d) (line t ts))) n (now (dst .entry)) ⌝ }
+{
+    let mut i: usize = 0;
+    while i < n {
+        let k = i as i64;
+        let q = t + ts * k;
+        let m = indexed_runs::started(starts, d, q, count, offsets, strides, limits);
+        let b = m as usize;
+        let a = (s + ss * k) as usize;
+        let v = runs_f64::apply(rule, dst[b], src[a]);
+        dst[b] = v;
+        i += 1;
+    }
+}
+
+// n cells by the rule: the source's place from s by ss; the destination's by the start read at t by ts, clamped, times the stride.
+pub fn put_strided(
+    rule: Rule,
+    src: &[f64],
+    starts: &[i64],
+    dst: &mut [f64],
+    n: usize,
+    t: i64,
+    ts: i64,
+    base: i64,
+    stride: i64,
+    limit: u64,
+    s: i64,
+    ss: i64,
+)
+    requires { ⌜ Clamped (now starts) t ts base stride s ss limit n (length (now dst)) (length (now src)) ⌝ }
+    ensures { λ _. ⌜ now (dst .exit) ≡ inOrder (cellAt nan (ruleF64 rule) (now (src .entry)) (line s ss) (clampedAt (now (starts .entry)) (line t ts) base stride limit)) n (now (dst .entry)) ⌝ }
+{
+    let mut i: usize = 0;
+    while i < n {
+        let k = i as i64;
+        let p = (t + ts * k) as usize;
+        let x = starts[p];
+        let y = layout::clamp_window_start(x, limit, 0);
+        let c = y as i64;
+        let b = (base + stride * c) as usize;
+        let a = (s + ss * k) as usize;
+        let v = runs_f64::apply(rule, dst[b], src[a]);
+        dst[b] = v;
+        i += 1;
+    }
+}
+
+// Cell i by the rule: of the source in order; of the destination where start i says, clamped.
+fn put_one(rule: Rule, src: &[f64], starts: &[i64], dst: &mut [f64], limit: i64, i: usize)
+    requires { ⌜ (i < length (now src)) × Ones (now starts) limit (length (now src)) (length (now dst)) ⌝ }
+    ensures { λ _. ⌜ now (dst .exit) ≡ cellAt nan (ruleF64 rule) (now (src .entry)) pos (oneAt (now (starts .entry)) limit) i (now (dst .entry)) ⌝ }
+{
+    let x = starts[i];
+    let y = indexed_runs::clamped(x, limit);
+    let b = y as usize;
+    let v = runs_f64::apply(rule, dst[b], src[i]);
+    dst[b] = v;
+}
+
+// The first n cells.
+fn put_few(rule: Rule, src: &[f64], starts: &[i64], dst: &mut [f64], limit: i64, n: usize)
+    requires { ⌜ (n ≤ length (now src)) × Ones (now starts) limit (length (now src)) (length (now dst)) ⌝ }
+    ensures { λ _. ⌜ now (dst .exit) ≡ inOrder (cellAt nan (ruleF64 rule) (now (src .entry)) pos (oneAt (now (starts .entry)) limit)) n (now (dst .entry)) ⌝ }
+{
+    let mut i: usize = 0;
+    while i < n {
+        put_one(rule, src, starts, dst, limit, i);
+        i += 1;
+    }
+}
+
+// A cell for each start, by the rule: of the source in order; of the destination where the start says, clamped. Four to a turn,
+// behind those that are over.
+fn put_fours(rule: Rule, src: &[f64], starts: &[i64], dst: &mut [f64], limit: i64)
+    requires { ⌜ Ones (now starts) limit (length (now src)) (length (now dst)) ⌝ }
+    ensures { λ _. ⌜ now (dst .exit) ≡ inOrder (cellAt nan (ruleF64 rule) (now (src .entry)) pos (oneAt (now (starts .entry)) limit)) (length (now (src .entry))) (now (dst .entry)) ⌝ }
+{
+    let n = src.len();
+    let mut fours = n / 4;
+    let mut i = n - 4 * fours;
+    put_few(rule, src, starts, dst, limit, i);
+    while 0 < fours {
+        put_one(rule, src, starts, dst, limit, i);
+        put_one(rule, src, starts, dst, limit, i + 1);
+        put_one(rule, src, starts, dst, limit, i + 2);
+        put_one(rule, src, starts, dst, limit, i + 3);
+        i += 4;
+        fours -= 1;
+    }
+}
+
+// The same. The compiler does not move the question for the rule out of a loop of four cells to a turn, so only one rule goes by
+// it, and the compiler knows which; the others go one to a turn.
+pub fn put_ones(rule: Rule, src: &[f64], starts: &[i64], dst: &mut [f64], limit: i64)
+    requires { ⌜ Ones (now starts) limit (length (now src)) (length (now dst)) ⌝ }
+    ensures { λ _. ⌜ now (dst .exit) ≡ inOrder (cellAt nan (ruleF64 rule) (now (src .entry)) pos (oneAt (now (starts .entry)) limit)) (length (now (src .entry))) (now (dst .entry)) ⌝ }
+{
+    match rule {
+        Rule::Copy => {
+            let n = src.len();
+            put_few(rule, src, starts, dst, limit, n);
+        }
+        Rule::Add => {
+            put_fours(Rule::Add, src, starts, dst, limit);
+        }
+    }
+}
+
+// n cells by the rule, whose every step is 1: on the parts of the source and the starts that they are, and the destination from the base on.
+pub fn put_row(
+    rule: Rule,
+    src: &[f64],
+    starts: &[i64],
+    dst: &mut [f64],
+    n: usize,
+    t: i64,
+    base: i64,
+    limit: u64,
+    s: i64,
+)
+    requires { ⌜ (0 < n) × Clamped (now starts) t (pos 1) base (pos 1) s (pos 1) limit n (length (now dst)) (length (now src)) ⌝ }
+    ensures { λ _. ⌜ now (dst .exit) ≡ inOrder (cellAt nan (ruleF64 rule) (now (src .entry)) (line s (pos 1)) (clampedAt (now (starts .entry)) (line t (pos 1)) base (pos 1) limit)) n (now (dst .entry)) ⌝ }
+{
+    let l = limit as i64;
+    let a = s as usize;
+    let b = t as usize;
+    let c = base as usize;
+    let e = a + n;
+    let f = b + n;
+    let m = dst.len();
+    put_ones(rule, &src[a..e], &starts[b..f], &mut dst[c..m], l);
+}
+
+// n cells by the rule: by put_row where every step is 1, else by put_strided.
+pub fn put_run(
+    rule: Rule,
+    src: &[f64],
+    starts: &[i64],
+    dst: &mut [f64],
+    n: usize,
+    t: i64,
+    ts: i64,
+    base: i64,
+    stride: i64,
+    limit: u64,
+    s: i64,
+    ss: i64,
+)
+    requires { ⌜ Clamped (now starts) t ts base stride s ss limit n (length (now dst)) (length (now src)) ⌝ }
+    ensures { λ _. ⌜ now (dst .exit) ≡ inOrder (cellAt nan (ruleF64 rule) (now (src .entry)) (line s ss) (clampedAt (now (starts .entry)) (line t ts) base stride limit)) n (now (dst .entry)) ⌝ }
+{
+    if n == 0 {
+        return;
+    }
+    if ts == 1 {
+        if stride == 1 {
+            if ss == 1 {
+                put_row(rule, src, starts, dst, n, t, base, limit, s);
+                return;
+            }
+        }
+    }
+    put_strided(rule, src, starts, dst, n, t, ts, base, stride, limit, s, ss);
+}
