@@ -3,8 +3,8 @@ pub mod counts;
 
 use axis_lists::Numbers;
 use axis_lists::Steps;
-use gather_plan::GatherReplayAxis;
 use gather_plan::GatherPlan;
+use gather_plan::GatherReplayAxis;
 use gather_plan::Role;
 use integer::Checked;
 use layout::Layout;

@@ -68,18 +68,18 @@ module _ (p : GatherPlan) (ok : isCompiled p ≡ true) where
       → stepped ≡ unlessNone (p .«start_index_map» .count) (replicate rankLimit (pos 0)) batch
       → limits ≡ tabulate rankLimit (limitAt (extentsOf (p .operand)) (numbersOf (p .«slice_sizes»)) (numbersOf (p .«start_index_map»)))
       → _≡_ {A = GatherNumbers}
-          (record {
-            rank = p .dest .rank;
-            extents = p .dest .extents;
-            «window_steps» = window;
-            «batch_steps» = stepped;
-            «dest_steps» = p .dest .strides;
-            count = p .«start_index_map» .count;
-            offsets = p .«index_component_offsets» .entries;
-            strides = p .«index_operand_strides» .entries;
-            limits = limits;
-          })
-          (gatherNumbers g)
+      (record {
+        rank = p .dest .rank;
+        extents = p .dest .extents;
+        «window_steps» = window;
+        «batch_steps» = stepped;
+        «dest_steps» = p .dest .strides;
+        count = p .«start_index_map» .count;
+        offsets = p .«index_component_offsets» .entries;
+        strides = p .«index_operand_strides» .entries;
+        limits = limits;
+      })
+      (gatherNumbers g)
   unfolding gatherNumbers
   numbers-are window batch stepped limits ew eb es el =
       let n = ap (λ (q : GatherPlan). q .«start_index_map» .count) is in

@@ -34,14 +34,7 @@ fn unexamined(answer: Answer) -> Examined
 }
 
 // 3 for products and spans.
-fn check_numbers(
-    oe: &[u64],
-    os: &[i64],
-    ie: &[u64],
-    is: &[i64],
-    de: &[u64],
-    ds: &[i64],
-) -> Answer
+fn check_numbers(oe: &[u64], os: &[i64], ie: &[u64], is: &[i64], de: &[u64], ds: &[i64]) -> Answer
     requires { ⌜ (length (now os) ≡ length (now oe)) × (length (now is) ≡ length (now ie)) × (length (now ds) ≡ length (now de)) ⌝ }
     ensures { λ r. ⌜ r ≡ numbersRefusal (now (oe .entry)) (now (os .entry)) (now (ie .entry)) (now (is .entry)) (now (de .entry)) (now (ds .entry)) ⌝ }
 {
@@ -56,14 +49,7 @@ fn check_numbers(
 }
 
 // 1 and 2, then 3 for products and spans: what is asked before 4.
-fn check_sizes(
-    oe: &[u64],
-    os: &[i64],
-    ie: &[u64],
-    is: &[i64],
-    de: &[u64],
-    ds: &[i64],
-) -> Answer
+fn check_sizes(oe: &[u64], os: &[i64], ie: &[u64], is: &[i64], de: &[u64], ds: &[i64]) -> Answer
     ensures { λ r. ⌜ r ≡ sizesRefusal (now (oe .entry)) (now (os .entry)) (now (ie .entry)) (now (is .entry)) (now (de .entry)) (now (ds .entry)) ⌝ }
 {
     let lengths = checks::check_layouts(oe.len(), os.len(), ie.len(), is.len(), de.len(), ds.len());

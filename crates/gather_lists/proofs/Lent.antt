@@ -45,8 +45,8 @@ module _ (g : Gather) (window batch : List ℤ) (q : Found g window batch) where
       → stepped ≡ unlessNone (length map) (replicate rankLimit (pos 0)) batch
       → extents ≡ padded rankLimit 1 (g .result .extents) → dests ≡ padded rankLimit (pos 0) (g .result .strides)
       → _≡_ {A = GatherNumbers}
-          (record { rank = rank (g .result); extents = extents; «window_steps» = window; «batch_steps» = stepped; «dest_steps» = dests; count = length map; offsets = offsets .entries; strides = strides; limits = limits })
-          (gatherNumbers g)
+      (record { rank = rank (g .result); extents = extents; «window_steps» = window; «batch_steps» = stepped; «dest_steps» = dests; count = length map; offsets = offsets .entries; strides = strides; limits = limits })
+      (gatherNumbers g)
   unfolding gatherNumbers
   numbers-are offsets strides stepped dests extents limits eo es el ep ee ed =
       λ i. record {

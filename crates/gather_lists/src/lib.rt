@@ -30,7 +30,10 @@ fn numbers_on(
     ensures { λ r. ⌜ r ≡ gatherNumbers (gatherFrom (now («operand_extents» .entry)) (now («operand_strides» .entry)) (now («index_extents» .entry)) (now («index_strides» .entry)) (now («dest_extents» .entry)) (now («dest_strides» .entry)) (now («offset_dims» .entry)) (now («collapsed_slice_dims» .entry)) (now («start_index_map» .entry)) «index_vector_dim» (now («slice_sizes» .entry))) ⌝ }
 {
     let stride = axis_lists::stride_at(index_strides, index_vector_dim);
-    let index_component_offsets = components::index_component_offsets(stride, start_index_map.len());
+    let index_component_offsets = components::index_component_offsets(
+        stride,
+        start_index_map.len(),
+    );
     let offsets = index_component_offsets.entries;
     let strides = components::strides_on(start_index_map, operand_strides);
     let limits = components::limits_on(start_index_map, operand_extents, slice_sizes);

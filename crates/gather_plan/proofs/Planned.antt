@@ -44,21 +44,21 @@ module _ (g : Gather) (window batch : List ℤ) (q : Found g window batch) where
       → entries ≡ padded rankLimit (pos 0) (pick (pos 0) (take rankLimit (g .spec .start-index-map)) (g .operand .strides))
       → a ≡ heldNumbers (g .spec .offset-dims) → b ≡ heldNumbers (g .spec .collapsed-slice-dims) → c ≡ heldNumbers (g .spec .start-index-map) → d ≡ heldNumbers (g .spec .slice-sizes) → total ≡ totalOr (g .result .extents)
       → _≡_ {A = GatherPlan}
-          (record {
-            operand = x .layout;
-            index = y .layout;
-            dest = z .layout;
-            «offset_dims» = a;
-            «collapsed_slice_dims» = b;
-            «start_index_map» = c;
-            «index_vector_dim» = g .spec .index-vector-dim;
-            «slice_sizes» = d;
-            axes = axes;
-            «index_component_offsets» = offsets;
-            «index_operand_strides» = record { count = length (g .spec .start-index-map); entries = entries };
-            total = total;
-          })
-          (planOf g)
+      (record {
+        operand = x .layout;
+        index = y .layout;
+        dest = z .layout;
+        «offset_dims» = a;
+        «collapsed_slice_dims» = b;
+        «start_index_map» = c;
+        «index_vector_dim» = g .spec .index-vector-dim;
+        «slice_sizes» = d;
+        axes = axes;
+        «index_component_offsets» = offsets;
+        «index_operand_strides» = record { count = length (g .spec .start-index-map); entries = entries };
+        total = total;
+      })
+      (planOf g)
   plan-is x y z shown axes offsets entries a b c d total ex ey ez es ea eo ee e1 e2 e3 e4 et =
       let p = fits in
       let lx = made (g .operand .extents) (g .operand .strides) x ex (strides-yes _ _ (p .operand-strides)) (rank-yes _ (p .operand-rank)) in

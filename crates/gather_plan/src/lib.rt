@@ -229,7 +229,14 @@ fn plan_of(
         count: n,
         entries: batch,
     };
-    let axes = axes_of(dest_extents, dest_strides, moves, starts, offset_dims, shown);
+    let axes = axes_of(
+        dest_extents,
+        dest_strides,
+        moves,
+        starts,
+        offset_dims,
+        shown,
+    );
     let stride = axis_lists::stride_at(index_strides, index_vector_dim);
     let offsets = components::index_component_offsets(stride, start_index_map.len());
     let entries = components::strides_on(start_index_map, operand_strides);

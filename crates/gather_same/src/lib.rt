@@ -3,9 +3,9 @@ ghost use mathlib.Core.Path.{_≡_};
 ghost use Rattle.equality.specs.Same.{sameBy};
 ghost use Rattle.gather_plan.specs.Plan.{compiledAgain, heldGather};
 ghost use Rattle.gather_same.specs.Same.{sameRole, sameAxis, sameLayouts, sameSpec, sameWalk, samePlan, isCompiled};
-use gather_plan::GatherReplayAxis;
 use gather_plan::CompiledGather;
 use gather_plan::GatherPlan;
+use gather_plan::GatherReplayAxis;
 use gather_plan::Role;
 use layout::RAW_FUSED_RANK_LIMIT;
 
@@ -48,7 +48,10 @@ fn same_axis(a: GatherReplayAxis, b: GatherReplayAxis) -> bool
     )
 }
 
-fn same_axes(a: [GatherReplayAxis; RAW_FUSED_RANK_LIMIT], b: [GatherReplayAxis; RAW_FUSED_RANK_LIMIT]) -> bool
+fn same_axes(
+    a: [GatherReplayAxis; RAW_FUSED_RANK_LIMIT],
+    b: [GatherReplayAxis; RAW_FUSED_RANK_LIMIT],
+) -> bool
     ensures { λ r. ⌜ r ≡ sameBy sameAxis a b ⌝ }
 {
     let mut i: usize = 0;

@@ -77,22 +77,22 @@ module _ (p : ScatterPlan) (b w : List (List ℤ)) (ok : isCompiled p b w ≡ tr
       → us ≡ stepsAt 2 b → ws ≡ stepsAt 0 w → ds ≡ stepsAt 2 w
       → limits ≡ tabulate rankLimit (limitAt (extentsOf (p .dest)) (numbersOf (p .«window_shape»)) (numbersOf (p .«scatter_dims_to_operand_dims»)))
       → _≡_ {A = ScatterNumbers}
-          (record {
-            «batch_rank» = p .batch .rank;
-            batches = p .«batch_elems»;
-            «batch_extents» = be;
-            «index_steps» = st;
-            «update_steps» = us;
-            «window_rank» = p .window .rank;
-            «window_extents» = we;
-            «window_steps» = ws;
-            «dest_steps» = ds;
-            count = p .«scatter_dims_to_operand_dims» .count;
-            offsets = p .«index_component_offsets» .entries;
-            strides = p .«index_operand_strides» .entries;
-            limits = limits;
-          })
-          (scatterNumbers s)
+      (record {
+        «batch_rank» = p .batch .rank;
+        batches = p .«batch_elems»;
+        «batch_extents» = be;
+        «index_steps» = st;
+        «update_steps» = us;
+        «window_rank» = p .window .rank;
+        «window_extents» = we;
+        «window_steps» = ws;
+        «dest_steps» = ds;
+        count = p .«scatter_dims_to_operand_dims» .count;
+        offsets = p .«index_component_offsets» .entries;
+        strides = p .«index_operand_strides» .entries;
+        limits = limits;
+      })
+      (scatterNumbers s)
   unfolding scatterNumbers
   numbers-are be we is0 st us ws ds limits ebe ewe eis est eus ews eds el =
       let n = ap (λ (q : ScatterPlan). q .«scatter_dims_to_operand_dims» .count) is in

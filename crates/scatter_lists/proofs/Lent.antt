@@ -53,8 +53,8 @@ module _ (s : Scatter) (batch window : WindowReplay) (q : Found s batch window) 
       → limits ≡ tabulate rankLimit (limitAt (s .result .extents) (spread 1 (rank (s .result)) (others (rank (s .result)) (s .spec .inserted-window-dims)) (pick 0 (s .spec .update-window-dims) (s .updates .extents))) map)
       → batches ≡ totalOr (pick 0 (others (rank (s .updates)) (s .spec .update-window-dims)) (s .updates .extents))
       → _≡_ {A = ScatterNumbers}
-          (record { «batch_rank» = batch .rank; batches = batches; «batch_extents» = be; «index_steps» = st; «update_steps» = us; «window_rank» = window .rank; «window_extents» = we; «window_steps» = ws; «dest_steps» = ds; count = length map; offsets = offsets .entries; strides = strides; limits = limits })
-          (scatterNumbers s)
+      (record { «batch_rank» = batch .rank; batches = batches; «batch_extents» = be; «index_steps» = st; «update_steps» = us; «window_rank» = window .rank; «window_extents» = we; «window_steps» = ws; «dest_steps» = ds; count = length map; offsets = offsets .entries; strides = strides; limits = limits })
+      (scatterNumbers s)
   unfolding scatterNumbers windows windowShape windowDims batchShape scatterDims
   numbers-are be we br wr is st us ws ds offsets strides limits batches ebe ewe ebr ewr eis est eus ews eds eo es el eb =
       let rb = ebr ∙ ap (λ (r : WindowReplay). rowsOf (r .axes)) (q .batch-is) in

@@ -106,7 +106,10 @@ fn same_walks(a: ScatterPlan, b: ScatterPlan) -> bool
     let s = a.window;
     let t = b.window;
     let window = same_replay(s, t);
-    let counts = equality::both(a.batch_elems == b.batch_elems, a.window_elems == b.window_elems);
+    let counts = equality::both(
+        a.batch_elems == b.batch_elems,
+        a.window_elems == b.window_elems,
+    );
     equality::both(batch, equality::both(window, counts))
 }
 

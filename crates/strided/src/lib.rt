@@ -484,13 +484,7 @@ pub extern "C" fn strided_gather_i32(
 )
     ensures { λ _. ⌜ Gathers (pos 0) words (gatherByJob E.I32 (now (job .entry)) (now (starts .entry))) (now (operand .entry)) (now (dest .entry)) (now (dest .exit)) (now (answer .exit)) ⌝ }
 {
-    let p = job_calls::prepare_gather(
-        job,
-        Element::I32,
-        operand.len(),
-        starts.len(),
-        dest.len(),
-    );
+    let p = job_calls::prepare_gather(job, Element::I32, operand.len(), starts.len(), dest.len());
     let r = gather_move::move_i32(p, operand, starts, dest);
     *answer = words_of(r);
 }
@@ -507,13 +501,7 @@ pub extern "C" fn strided_gather_f64(
 )
     ensures { λ _. ⌜ Gathers nan words (gatherByJob E.F64 (now (job .entry)) (now (starts .entry))) (now (operand .entry)) (now (dest .entry)) (now (dest .exit)) (now (answer .exit)) ⌝ }
 {
-    let p = job_calls::prepare_gather(
-        job,
-        Element::F64,
-        operand.len(),
-        starts.len(),
-        dest.len(),
-    );
+    let p = job_calls::prepare_gather(job, Element::F64, operand.len(), starts.len(), dest.len());
     let r = gather_move::move_f64(p, operand, starts, dest);
     *answer = words_of(r);
 }
@@ -530,13 +518,7 @@ pub extern "C" fn strided_scatter_i32(
 )
     ensures { λ _. ⌜ Scatters (pos 0) addI32 words (scatterByJob E.I32 (now (job .entry)) (now (starts .entry)) (now (updates .entry))) (now (dest .entry)) (now (dest .exit)) (now (answer .exit)) ⌝ }
 {
-    let p = job_calls::prepare_scatter(
-        job,
-        Element::I32,
-        starts.len(),
-        updates.len(),
-        dest.len(),
-    );
+    let p = job_calls::prepare_scatter(job, Element::I32, starts.len(), updates.len(), dest.len());
     let r = scatter_move::move_i32(Rule::Add, p, starts, updates, dest);
     *answer = words_of(r);
 }
@@ -553,13 +535,7 @@ pub extern "C" fn strided_scatter_f64(
 )
     ensures { λ _. ⌜ Scatters nan addF64 words (scatterByJob E.F64 (now (job .entry)) (now (starts .entry)) (now (updates .entry))) (now (dest .entry)) (now (dest .exit)) (now (answer .exit)) ⌝ }
 {
-    let p = job_calls::prepare_scatter(
-        job,
-        Element::F64,
-        starts.len(),
-        updates.len(),
-        dest.len(),
-    );
+    let p = job_calls::prepare_scatter(job, Element::F64, starts.len(), updates.len(), dest.len());
     let r = scatter_move::move_f64(Rule::Add, p, starts, updates, dest);
     *answer = words_of(r);
 }
