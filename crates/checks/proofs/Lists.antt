@@ -8,6 +8,7 @@ use borrow.Author.Tests.{eqb-true, eqb-false, leb-false}
 use lib.Dec.{eqb, leb}
 use lib.ListN.{length, take, drop}
 use lib.Seq.{append-snoc}
+use Rattle.layout.specs.Layouts.{rankLimit}
 use Rattle.indexing.specs.Coordinates.{has, tabulate}
 use Rattle.indexing.specs.Axes.{Axes, or-left, or-right, or-none, axes-append}
 use Rattle.spans.proofs.Parts as P
@@ -89,11 +90,11 @@ axes-few zero (x ∷ xs) p = let h : x < 0 = p .0 in absurd (omega arith)
 axes-few (suc n) xs p = omega (arith, length-cut n xs, axes-few n (cut n xs) (cut-axes n xs p))
 
 -- ---- a part of an array of eight
-pub part-fits : {A : Type 0} (n k : ℕ) (xs : List A) → n ≡ min k 8 → length xs ≡ 8 → n ≤ length xs
-part-fits n k xs e f = P.part-fits n k 8 xs e f
+pub part-fits : {A : Type 0} (n k : ℕ) (xs : List A) → n ≡ min k rankLimit → length xs ≡ rankLimit → n ≤ length xs
+part-fits n k xs e f = P.part-fits n k rankLimit xs e f
 
-pub part-read : {A : Type 0} (n k : ℕ) (xs : List A) → n ≡ min k 8 → length xs ≡ 8 → take (n - 0) (drop 0 xs) ≡ take k xs
-part-read n k xs e f = P.part-read n k 8 xs e f
+pub part-read : {A : Type 0} (n k : ℕ) (xs : List A) → n ≡ min k rankLimit → length xs ≡ rankLimit → take (n - 0) (drop 0 xs) ≡ take k xs
+part-read n k xs e f = P.part-read n k rankLimit xs e f
 
 -- ---- entries one by one
 pub tabulate-same : {A : Type 0} (n : ℕ) (f g : ℕ → A) → ((k : ℕ) → k < n → f k ≡ g k) → tabulate n f ≡ tabulate n g

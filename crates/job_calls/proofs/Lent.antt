@@ -9,7 +9,6 @@ use Rattle.indexing.specs.Gather.{Gather}
 use Rattle.indexing.specs.Scatter.{Scatter}
 use Rattle.layout.specs.declared.Answer.{Answer}
 use Rattle.layout.specs.Answers.{isDone, orElse}
-use Rattle.layout.specs.Layouts.{rankLimit}
 use Rattle.spans.proofs.Parts as P
 use Rattle.checks.proofs.Held.{never}
 use Rattle.job.specs.declared.Element.{Element}
@@ -25,13 +24,7 @@ use Rattle.scatter_move.specs.Prepared as scatter-prepared
 use Rattle.scatter_move.specs.declared.PreparedScatter.{PreparedScatter}
 use Rattle.job_calls.specs.Jobs.{kindAnswer, elementAnswer, readRefusal, heldGather, heldScatter, jobGather, jobScatter, gatherAnswer, scatterAnswer}
 
--- ---- parts of arrays
-pub axes-fit : {A : Type 0} (n k : ℕ) (xs : List A) → n ≡ min k rankLimit → length xs ≡ rankLimit → n ≤ length xs
-axes-fit n k xs e f = P.part-fits n k rankLimit xs e f
-
-pub axes-read : {A : Type 0} (n k : ℕ) (xs : List A) → n ≡ min k rankLimit → length xs ≡ rankLimit → take (n - 0) (drop 0 xs) ≡ take k xs
-axes-read n k xs e f = P.part-read n k rankLimit xs e f
-
+-- ---- parts of a stored list
 pub list-fits : {A : Type 0} (n k : ℕ) (xs : List A) → n ≡ min k listLimit → length xs ≡ listLimit → n ≤ length xs
 list-fits n k xs e f = P.part-fits n k listLimit xs e f
 

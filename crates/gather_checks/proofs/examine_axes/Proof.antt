@@ -46,7 +46,7 @@ part-check-resets-start c = search needs
 
 part-check-resets-end : tie.Need-part-check-resets-end
 part-check-resets-end c =
-    let e : length (c .before .before .before .before .before .before .spread-picked .result) ≡ 8 = search needs in
+    let e : length (c .before .before .before .before .before .before .spread-picked .result) ≡ rankLimit = search needs in
     omega (arith, e, c .before .before .before .before .before .before .before .before .before .before .before .before .before .before .before .before .before .pre .few)
 
 sub-check-resets-2 : tie.Need-sub-check-resets-2
@@ -57,17 +57,17 @@ part-check-resets-start-2 c = search needs
 
 part-check-resets-end-2 : tie.Need-part-check-resets-end-2
 part-check-resets-end-2 c =
-    let e : length (c .before .before .before .before .before .before .before .spread-picked2 .result) ≡ 8 = search needs in
+    let e : length (c .before .before .before .before .before .before .before .spread-picked2 .result) ≡ rankLimit = search needs in
     omega (arith, e, c .before .before .before .before .before .before .before .before .before .before .before .before .before .before .before .before .before .before .before .pre .few)
 
 check-resets-requires : tie.Need-check-resets-requires
 check-resets-requires c κs =
     let s = c .before .before .before .before .before .before .before .before .before .before .before .before .before .before .before .before .before .before .before .before in
     let n = length (s .args .de .now) in
-    let q : n ≡ min n 8 = omega (arith, s .pre .few) in
-    let d : length (c .before .before .before .before .before .before .before .before .spread-picked2 .result) ≡ 8 = ap length (c .before .before .before .before .before .before .before .before .spread-picked2 .ensures) ∙ length-padded rankLimit (pos 0) _ in
-    let e : length (c .before .before .before .before .before .before .before .before .before .spread-picked .result) ≡ 8 = ap length (c .before .before .before .before .before .before .before .before .before .spread-picked .ensures) ∙ length-padded rankLimit (pos 0) _ in
-    (s .pre .dest, part-length n n 8 (c .before .before .before .before .before .before .before .before .before .spread-picked .result) q e, part-length n n 8 (c .before .before .before .before .before .before .before .before .spread-picked2 .result) q d)
+    let q : n ≡ min n rankLimit = omega (arith, s .pre .few) in
+    let d : length (c .before .before .before .before .before .before .before .before .spread-picked2 .result) ≡ rankLimit = ap length (c .before .before .before .before .before .before .before .before .spread-picked2 .ensures) ∙ length-padded rankLimit (pos 0) _ in
+    let e : length (c .before .before .before .before .before .before .before .before .before .spread-picked .result) ≡ rankLimit = ap length (c .before .before .before .before .before .before .before .before .before .spread-picked .ensures) ∙ length-padded rankLimit (pos 0) _ in
+    (s .pre .dest, part-length n n rankLimit (c .before .before .before .before .before .before .before .before .before .spread-picked .result) q e, part-length n n rankLimit (c .before .before .before .before .before .before .before .before .spread-picked2 .result) q d)
 
 or-else-requires : tie.Need-or-else-requires
 or-else-requires c κs = search needs

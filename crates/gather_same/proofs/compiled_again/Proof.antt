@@ -1,5 +1,6 @@
 use mathlib.Core.Path.{_≡_, _∙_}
 use lib.ListN.{length}
+use Rattle.layout.specs.Layouts.{rankLimit}
 use Rattle.gather_checks.specs.Refusals.{gatherFrom}
 use Rattle.gather_plan.specs.Plan.{compiledAgain}
 use Rattle.checks.proofs.Lists.{part-fits, part-read}
@@ -7,8 +8,8 @@ use borrow.Author.Needs.{needs}
 use Rattle.gather_same.proofs.compiled_again.Statement.{statement}
 use Rattle.gather_same.proofs.compiled_again.Tie as tie
 
-eights : (s : tie.Start) → (length (s .args .plan .operand .extents) ≡ 8) × (length (s .args .plan .operand .strides) ≡ 8) × (length (s .args .plan .index .extents) ≡ 8) × (length (s .args .plan .index .strides) ≡ 8) × (length (s .args .plan .dest .extents) ≡ 8) × (length (s .args .plan .dest .strides) ≡ 8) × (length (s .args .plan .«offset_dims» .entries) ≡ 8) × (length (s .args .plan .«collapsed_slice_dims» .entries) ≡ 8) × (length (s .args .plan .«start_index_map» .entries) ≡ 8) × (length (s .args .plan .«slice_sizes» .entries) ≡ 8)
-eights s = (search needs, search needs, search needs, search needs, search needs, search needs, search needs, search needs, search (needs, s .good .0 .1 .1 .1 .1 .1 .1 .1 .0), search (needs, s .good .0 .1 .1 .1 .1 .1 .1 .1 .1 .1 .0))
+lengths : (s : tie.Start) → (length (s .args .plan .operand .extents) ≡ rankLimit) × (length (s .args .plan .operand .strides) ≡ rankLimit) × (length (s .args .plan .index .extents) ≡ rankLimit) × (length (s .args .plan .index .strides) ≡ rankLimit) × (length (s .args .plan .dest .extents) ≡ rankLimit) × (length (s .args .plan .dest .strides) ≡ rankLimit) × (length (s .args .plan .«offset_dims» .entries) ≡ rankLimit) × (length (s .args .plan .«collapsed_slice_dims» .entries) ≡ rankLimit) × (length (s .args .plan .«start_index_map» .entries) ≡ rankLimit) × (length (s .args .plan .«slice_sizes» .entries) ≡ rankLimit)
+lengths s = (search needs, search needs, search needs, search needs, search needs, search needs, search needs, search needs, search (needs, s .good .0 .1 .1 .1 .1 .1 .1 .1 .0), search (needs, s .good .0 .1 .1 .1 .1 .1 .1 .1 .1 .1 .0))
 
 -- src/lib.rt:156:9
 axis-count-requires : tie.Need-axis-count-requires
@@ -48,7 +49,7 @@ part-compile-again-start c = search needs
 
 -- src/lib.rt:164:9
 part-compile-again-end : tie.Need-part-compile-again-end
-part-compile-again-end c = part-fits (c .before .before .before .before .before .before .before .axis-count .result) (c .before .before .before .before .before .before .before .before .before .before .before .before .before .before .before .before .before .before .before .before .before .before .before .before .before .args .plan .operand .rank) (c .before .before .before .before .before .before .before .before .before .before .before .before .before .before .before .before .before .before .before .before .before .before .before .before .before .args .plan .operand .extents) (c .before .before .before .before .before .before .before .axis-count .ensures) (eights (c .before .before .before .before .before .before .before .before .before .before .before .before .before .before .before .before .before .before .before .before .before .before .before .before .before) .0)
+part-compile-again-end c = part-fits (c .before .before .before .before .before .before .before .axis-count .result) (c .before .before .before .before .before .before .before .before .before .before .before .before .before .before .before .before .before .before .before .before .before .before .before .before .before .args .plan .operand .rank) (c .before .before .before .before .before .before .before .before .before .before .before .before .before .before .before .before .before .before .before .before .before .before .before .before .before .args .plan .operand .extents) (c .before .before .before .before .before .before .before .axis-count .ensures) (lengths (c .before .before .before .before .before .before .before .before .before .before .before .before .before .before .before .before .before .before .before .before .before .before .before .before .before) .0)
 
 -- src/lib.rt:165:9
 sub-compile-again-2 : tie.Need-sub-compile-again-2
@@ -60,7 +61,7 @@ part-compile-again-start-2 c = search needs
 
 -- src/lib.rt:165:9
 part-compile-again-end-2 : tie.Need-part-compile-again-end-2
-part-compile-again-end-2 c = part-fits (c .before .before .before .before .before .before .before .before .before .axis-count .result) (c .before .before .before .before .before .before .before .before .before .before .before .before .before .before .before .before .before .before .before .before .before .before .before .before .before .before .before .args .plan .operand .rank) (c .before .before .before .before .before .before .before .before .before .before .before .before .before .before .before .before .before .before .before .before .before .before .before .before .before .before .before .args .plan .operand .strides) (c .before .before .before .before .before .before .before .before .before .axis-count .ensures) (eights (c .before .before .before .before .before .before .before .before .before .before .before .before .before .before .before .before .before .before .before .before .before .before .before .before .before .before .before) .1)
+part-compile-again-end-2 c = part-fits (c .before .before .before .before .before .before .before .before .before .axis-count .result) (c .before .before .before .before .before .before .before .before .before .before .before .before .before .before .before .before .before .before .before .before .before .before .before .before .before .before .before .args .plan .operand .rank) (c .before .before .before .before .before .before .before .before .before .before .before .before .before .before .before .before .before .before .before .before .before .before .before .before .before .before .before .args .plan .operand .strides) (c .before .before .before .before .before .before .before .before .before .axis-count .ensures) (lengths (c .before .before .before .before .before .before .before .before .before .before .before .before .before .before .before .before .before .before .before .before .before .before .before .before .before .before .before) .1)
 
 -- src/lib.rt:166:9
 sub-compile-again-3 : tie.Need-sub-compile-again-3
@@ -72,7 +73,7 @@ part-compile-again-start-3 c = search needs
 
 -- src/lib.rt:166:9
 part-compile-again-end-3 : tie.Need-part-compile-again-end-3
-part-compile-again-end-3 c = part-fits (c .before .before .before .before .before .before .before .before .before .before .axis-count2 .result) (c .before .before .before .before .before .before .before .before .before .before .before .before .before .before .before .before .before .before .before .before .before .before .before .before .before .before .before .before .before .args .plan .index .rank) (c .before .before .before .before .before .before .before .before .before .before .before .before .before .before .before .before .before .before .before .before .before .before .before .before .before .before .before .before .before .args .plan .index .extents) (c .before .before .before .before .before .before .before .before .before .before .axis-count2 .ensures) (eights (c .before .before .before .before .before .before .before .before .before .before .before .before .before .before .before .before .before .before .before .before .before .before .before .before .before .before .before .before .before) .2)
+part-compile-again-end-3 c = part-fits (c .before .before .before .before .before .before .before .before .before .before .axis-count2 .result) (c .before .before .before .before .before .before .before .before .before .before .before .before .before .before .before .before .before .before .before .before .before .before .before .before .before .before .before .before .before .args .plan .index .rank) (c .before .before .before .before .before .before .before .before .before .before .before .before .before .before .before .before .before .before .before .before .before .before .before .before .before .before .before .before .before .args .plan .index .extents) (c .before .before .before .before .before .before .before .before .before .before .axis-count2 .ensures) (lengths (c .before .before .before .before .before .before .before .before .before .before .before .before .before .before .before .before .before .before .before .before .before .before .before .before .before .before .before .before .before) .2)
 
 -- src/lib.rt:167:9
 sub-compile-again-4 : tie.Need-sub-compile-again-4
@@ -84,7 +85,7 @@ part-compile-again-start-4 c = search needs
 
 -- src/lib.rt:167:9
 part-compile-again-end-4 : tie.Need-part-compile-again-end-4
-part-compile-again-end-4 c = part-fits (c .before .before .before .before .before .before .before .before .before .before .before .before .axis-count2 .result) (c .before .before .before .before .before .before .before .before .before .before .before .before .before .before .before .before .before .before .before .before .before .before .before .before .before .before .before .before .before .before .before .args .plan .index .rank) (c .before .before .before .before .before .before .before .before .before .before .before .before .before .before .before .before .before .before .before .before .before .before .before .before .before .before .before .before .before .before .before .args .plan .index .strides) (c .before .before .before .before .before .before .before .before .before .before .before .before .axis-count2 .ensures) (eights (c .before .before .before .before .before .before .before .before .before .before .before .before .before .before .before .before .before .before .before .before .before .before .before .before .before .before .before .before .before .before .before) .3)
+part-compile-again-end-4 c = part-fits (c .before .before .before .before .before .before .before .before .before .before .before .before .axis-count2 .result) (c .before .before .before .before .before .before .before .before .before .before .before .before .before .before .before .before .before .before .before .before .before .before .before .before .before .before .before .before .before .before .before .args .plan .index .rank) (c .before .before .before .before .before .before .before .before .before .before .before .before .before .before .before .before .before .before .before .before .before .before .before .before .before .before .before .before .before .before .before .args .plan .index .strides) (c .before .before .before .before .before .before .before .before .before .before .before .before .axis-count2 .ensures) (lengths (c .before .before .before .before .before .before .before .before .before .before .before .before .before .before .before .before .before .before .before .before .before .before .before .before .before .before .before .before .before .before .before) .3)
 
 -- src/lib.rt:168:9
 sub-compile-again-5 : tie.Need-sub-compile-again-5
@@ -96,7 +97,7 @@ part-compile-again-start-5 c = search needs
 
 -- src/lib.rt:168:9
 part-compile-again-end-5 : tie.Need-part-compile-again-end-5
-part-compile-again-end-5 c = part-fits (c .before .before .before .before .before .before .before .before .before .before .before .before .before .axis-count3 .result) (c .before .before .before .before .before .before .before .before .before .before .before .before .before .before .before .before .before .before .before .before .before .before .before .before .before .before .before .before .before .before .before .before .before .args .plan .dest .rank) (c .before .before .before .before .before .before .before .before .before .before .before .before .before .before .before .before .before .before .before .before .before .before .before .before .before .before .before .before .before .before .before .before .before .args .plan .dest .extents) (c .before .before .before .before .before .before .before .before .before .before .before .before .before .axis-count3 .ensures) (eights (c .before .before .before .before .before .before .before .before .before .before .before .before .before .before .before .before .before .before .before .before .before .before .before .before .before .before .before .before .before .before .before .before .before) .4)
+part-compile-again-end-5 c = part-fits (c .before .before .before .before .before .before .before .before .before .before .before .before .before .axis-count3 .result) (c .before .before .before .before .before .before .before .before .before .before .before .before .before .before .before .before .before .before .before .before .before .before .before .before .before .before .before .before .before .before .before .before .before .args .plan .dest .rank) (c .before .before .before .before .before .before .before .before .before .before .before .before .before .before .before .before .before .before .before .before .before .before .before .before .before .before .before .before .before .before .before .before .before .args .plan .dest .extents) (c .before .before .before .before .before .before .before .before .before .before .before .before .before .axis-count3 .ensures) (lengths (c .before .before .before .before .before .before .before .before .before .before .before .before .before .before .before .before .before .before .before .before .before .before .before .before .before .before .before .before .before .before .before .before .before) .4)
 
 -- src/lib.rt:169:9
 sub-compile-again-6 : tie.Need-sub-compile-again-6
@@ -108,7 +109,7 @@ part-compile-again-start-6 c = search needs
 
 -- src/lib.rt:169:9
 part-compile-again-end-6 : tie.Need-part-compile-again-end-6
-part-compile-again-end-6 c = part-fits (c .before .before .before .before .before .before .before .before .before .before .before .before .before .before .before .axis-count3 .result) (c .before .before .before .before .before .before .before .before .before .before .before .before .before .before .before .before .before .before .before .before .before .before .before .before .before .before .before .before .before .before .before .before .before .before .before .args .plan .dest .rank) (c .before .before .before .before .before .before .before .before .before .before .before .before .before .before .before .before .before .before .before .before .before .before .before .before .before .before .before .before .before .before .before .before .before .before .before .args .plan .dest .strides) (c .before .before .before .before .before .before .before .before .before .before .before .before .before .before .before .axis-count3 .ensures) (eights (c .before .before .before .before .before .before .before .before .before .before .before .before .before .before .before .before .before .before .before .before .before .before .before .before .before .before .before .before .before .before .before .before .before .before .before) .5)
+part-compile-again-end-6 c = part-fits (c .before .before .before .before .before .before .before .before .before .before .before .before .before .before .before .axis-count3 .result) (c .before .before .before .before .before .before .before .before .before .before .before .before .before .before .before .before .before .before .before .before .before .before .before .before .before .before .before .before .before .before .before .before .before .before .before .args .plan .dest .rank) (c .before .before .before .before .before .before .before .before .before .before .before .before .before .before .before .before .before .before .before .before .before .before .before .before .before .before .before .before .before .before .before .before .before .before .before .args .plan .dest .strides) (c .before .before .before .before .before .before .before .before .before .before .before .before .before .before .before .axis-count3 .ensures) (lengths (c .before .before .before .before .before .before .before .before .before .before .before .before .before .before .before .before .before .before .before .before .before .before .before .before .before .before .before .before .before .before .before .before .before .before .before) .5)
 
 -- src/lib.rt:170:9
 sub-compile-again-7 : tie.Need-sub-compile-again-7
@@ -120,7 +121,7 @@ part-compile-again-start-7 c = search needs
 
 -- src/lib.rt:170:9
 part-compile-again-end-7 : tie.Need-part-compile-again-end-7
-part-compile-again-end-7 c = part-fits (c .before .before .before .before .before .before .before .before .before .before .before .before .before .before .before .before .axis-count4 .result) (c .before .before .before .before .before .before .before .before .before .before .before .before .before .before .before .before .before .before .before .before .before .before .before .before .before .before .before .before .before .before .before .before .before .before .before .before .before .args .plan .«offset_dims» .count) (c .before .before .before .before .before .before .before .before .before .before .before .before .before .before .before .before .before .before .before .before .before .before .before .before .before .before .before .before .before .before .before .before .before .before .before .before .before .args .plan .«offset_dims» .entries) (c .before .before .before .before .before .before .before .before .before .before .before .before .before .before .before .before .axis-count4 .ensures) (eights (c .before .before .before .before .before .before .before .before .before .before .before .before .before .before .before .before .before .before .before .before .before .before .before .before .before .before .before .before .before .before .before .before .before .before .before .before .before) .6)
+part-compile-again-end-7 c = part-fits (c .before .before .before .before .before .before .before .before .before .before .before .before .before .before .before .before .axis-count4 .result) (c .before .before .before .before .before .before .before .before .before .before .before .before .before .before .before .before .before .before .before .before .before .before .before .before .before .before .before .before .before .before .before .before .before .before .before .before .before .args .plan .«offset_dims» .count) (c .before .before .before .before .before .before .before .before .before .before .before .before .before .before .before .before .before .before .before .before .before .before .before .before .before .before .before .before .before .before .before .before .before .before .before .before .before .args .plan .«offset_dims» .entries) (c .before .before .before .before .before .before .before .before .before .before .before .before .before .before .before .before .axis-count4 .ensures) (lengths (c .before .before .before .before .before .before .before .before .before .before .before .before .before .before .before .before .before .before .before .before .before .before .before .before .before .before .before .before .before .before .before .before .before .before .before .before .before) .6)
 
 -- src/lib.rt:171:9
 sub-compile-again-8 : tie.Need-sub-compile-again-8
@@ -132,7 +133,7 @@ part-compile-again-start-8 c = search needs
 
 -- src/lib.rt:171:9
 part-compile-again-end-8 : tie.Need-part-compile-again-end-8
-part-compile-again-end-8 c = part-fits (c .before .before .before .before .before .before .before .before .before .before .before .before .before .before .before .before .before .axis-count5 .result) (c .before .before .before .before .before .before .before .before .before .before .before .before .before .before .before .before .before .before .before .before .before .before .before .before .before .before .before .before .before .before .before .before .before .before .before .before .before .before .before .args .plan .«collapsed_slice_dims» .count) (c .before .before .before .before .before .before .before .before .before .before .before .before .before .before .before .before .before .before .before .before .before .before .before .before .before .before .before .before .before .before .before .before .before .before .before .before .before .before .before .args .plan .«collapsed_slice_dims» .entries) (c .before .before .before .before .before .before .before .before .before .before .before .before .before .before .before .before .before .axis-count5 .ensures) (eights (c .before .before .before .before .before .before .before .before .before .before .before .before .before .before .before .before .before .before .before .before .before .before .before .before .before .before .before .before .before .before .before .before .before .before .before .before .before .before .before) .7)
+part-compile-again-end-8 c = part-fits (c .before .before .before .before .before .before .before .before .before .before .before .before .before .before .before .before .before .axis-count5 .result) (c .before .before .before .before .before .before .before .before .before .before .before .before .before .before .before .before .before .before .before .before .before .before .before .before .before .before .before .before .before .before .before .before .before .before .before .before .before .before .before .args .plan .«collapsed_slice_dims» .count) (c .before .before .before .before .before .before .before .before .before .before .before .before .before .before .before .before .before .before .before .before .before .before .before .before .before .before .before .before .before .before .before .before .before .before .before .before .before .before .before .args .plan .«collapsed_slice_dims» .entries) (c .before .before .before .before .before .before .before .before .before .before .before .before .before .before .before .before .before .axis-count5 .ensures) (lengths (c .before .before .before .before .before .before .before .before .before .before .before .before .before .before .before .before .before .before .before .before .before .before .before .before .before .before .before .before .before .before .before .before .before .before .before .before .before .before .before) .7)
 
 -- src/lib.rt:172:9
 sub-compile-again-9 : tie.Need-sub-compile-again-9
@@ -144,7 +145,7 @@ part-compile-again-start-9 c = search needs
 
 -- src/lib.rt:172:9
 part-compile-again-end-9 : tie.Need-part-compile-again-end-9
-part-compile-again-end-9 c = part-fits (c .before .before .before .before .before .before .before .before .before .before .before .before .before .before .before .before .before .before .axis-count6 .result) (c .before .before .before .before .before .before .before .before .before .before .before .before .before .before .before .before .before .before .before .before .before .before .before .before .before .before .before .before .before .before .before .before .before .before .before .before .before .before .before .before .before .args .plan .«start_index_map» .count) (c .before .before .before .before .before .before .before .before .before .before .before .before .before .before .before .before .before .before .before .before .before .before .before .before .before .before .before .before .before .before .before .before .before .before .before .before .before .before .before .before .before .args .plan .«start_index_map» .entries) (c .before .before .before .before .before .before .before .before .before .before .before .before .before .before .before .before .before .before .axis-count6 .ensures) (eights (c .before .before .before .before .before .before .before .before .before .before .before .before .before .before .before .before .before .before .before .before .before .before .before .before .before .before .before .before .before .before .before .before .before .before .before .before .before .before .before .before .before) .8)
+part-compile-again-end-9 c = part-fits (c .before .before .before .before .before .before .before .before .before .before .before .before .before .before .before .before .before .before .axis-count6 .result) (c .before .before .before .before .before .before .before .before .before .before .before .before .before .before .before .before .before .before .before .before .before .before .before .before .before .before .before .before .before .before .before .before .before .before .before .before .before .before .before .before .before .args .plan .«start_index_map» .count) (c .before .before .before .before .before .before .before .before .before .before .before .before .before .before .before .before .before .before .before .before .before .before .before .before .before .before .before .before .before .before .before .before .before .before .before .before .before .before .before .before .before .args .plan .«start_index_map» .entries) (c .before .before .before .before .before .before .before .before .before .before .before .before .before .before .before .before .before .before .axis-count6 .ensures) (lengths (c .before .before .before .before .before .before .before .before .before .before .before .before .before .before .before .before .before .before .before .before .before .before .before .before .before .before .before .before .before .before .before .before .before .before .before .before .before .before .before .before .before) .8)
 
 -- src/lib.rt:174:9
 sub-compile-again-10 : tie.Need-sub-compile-again-10
@@ -156,7 +157,7 @@ part-compile-again-start-10 c = search needs
 
 -- src/lib.rt:174:9
 part-compile-again-end-10 : tie.Need-part-compile-again-end-10
-part-compile-again-end-10 c = part-fits (c .before .before .before .before .before .before .before .before .before .before .before .before .before .before .before .before .before .before .before .axis-count7 .result) (c .before .before .before .before .before .before .before .before .before .before .before .before .before .before .before .before .before .before .before .before .before .before .before .before .before .before .before .before .before .before .before .before .before .before .before .before .before .before .before .before .before .before .before .args .plan .«slice_sizes» .count) (c .before .before .before .before .before .before .before .before .before .before .before .before .before .before .before .before .before .before .before .before .before .before .before .before .before .before .before .before .before .before .before .before .before .before .before .before .before .before .before .before .before .before .before .args .plan .«slice_sizes» .entries) (c .before .before .before .before .before .before .before .before .before .before .before .before .before .before .before .before .before .before .before .axis-count7 .ensures) (eights (c .before .before .before .before .before .before .before .before .before .before .before .before .before .before .before .before .before .before .before .before .before .before .before .before .before .before .before .before .before .before .before .before .before .before .before .before .before .before .before .before .before .before .before) .9)
+part-compile-again-end-10 c = part-fits (c .before .before .before .before .before .before .before .before .before .before .before .before .before .before .before .before .before .before .before .axis-count7 .result) (c .before .before .before .before .before .before .before .before .before .before .before .before .before .before .before .before .before .before .before .before .before .before .before .before .before .before .before .before .before .before .before .before .before .before .before .before .before .before .before .before .before .before .before .args .plan .«slice_sizes» .count) (c .before .before .before .before .before .before .before .before .before .before .before .before .before .before .before .before .before .before .before .before .before .before .before .before .before .before .before .before .before .before .before .before .before .before .before .before .before .before .before .before .before .before .before .args .plan .«slice_sizes» .entries) (c .before .before .before .before .before .before .before .before .before .before .before .before .before .before .before .before .before .before .before .axis-count7 .ensures) (lengths (c .before .before .before .before .before .before .before .before .before .before .before .before .before .before .before .before .before .before .before .before .before .before .before .before .before .before .before .before .before .before .before .before .before .before .before .before .before .before .before .before .before .before .before) .9)
 
 -- src/lib.rt:163:5
 compile-again-requires : tie.Need-compile-again-requires
@@ -166,16 +167,16 @@ compile-again-requires c κs = search needs
 returns : tie.Need-returns
 returns c =
     let s = c .before .before .before .before .before .before .before .before .before .before .before .before .before .before .before .before .before .before .before .before .before .before .before .before .before .before .before .before .before .before .before .before .before .before .before .before .before .before .before .before .before .before .before .before .before in
-    let oe = part-read (c .before .before .before .before .before .before .before .before .before .before .before .before .before .before .before .before .before .before .before .before .before .before .before .before .before .before .before .axis-count .result) (s .args .plan .operand .rank) (s .args .plan .operand .extents) (c .before .before .before .before .before .before .before .before .before .before .before .before .before .before .before .before .before .before .before .before .before .before .before .before .before .before .before .axis-count .ensures) (eights s .0) in
-    let os = part-read (c .before .before .before .before .before .before .before .before .before .before .before .before .before .before .before .before .before .before .before .before .before .before .before .before .before .before .before .axis-count .result) (s .args .plan .operand .rank) (s .args .plan .operand .strides) (c .before .before .before .before .before .before .before .before .before .before .before .before .before .before .before .before .before .before .before .before .before .before .before .before .before .before .before .axis-count .ensures) (eights s .1) in
-    let ie = part-read (c .before .before .before .before .before .before .before .before .before .before .before .before .before .before .before .before .before .before .before .before .before .before .before .before .before .before .axis-count2 .result) (s .args .plan .index .rank) (s .args .plan .index .extents) (c .before .before .before .before .before .before .before .before .before .before .before .before .before .before .before .before .before .before .before .before .before .before .before .before .before .before .axis-count2 .ensures) (eights s .2) in
-    let is = part-read (c .before .before .before .before .before .before .before .before .before .before .before .before .before .before .before .before .before .before .before .before .before .before .before .before .before .before .axis-count2 .result) (s .args .plan .index .rank) (s .args .plan .index .strides) (c .before .before .before .before .before .before .before .before .before .before .before .before .before .before .before .before .before .before .before .before .before .before .before .before .before .before .axis-count2 .ensures) (eights s .3) in
-    let de = part-read (c .before .before .before .before .before .before .before .before .before .before .before .before .before .before .before .before .before .before .before .before .before .before .before .before .before .axis-count3 .result) (s .args .plan .dest .rank) (s .args .plan .dest .extents) (c .before .before .before .before .before .before .before .before .before .before .before .before .before .before .before .before .before .before .before .before .before .before .before .before .before .axis-count3 .ensures) (eights s .4) in
-    let ds = part-read (c .before .before .before .before .before .before .before .before .before .before .before .before .before .before .before .before .before .before .before .before .before .before .before .before .before .axis-count3 .result) (s .args .plan .dest .rank) (s .args .plan .dest .strides) (c .before .before .before .before .before .before .before .before .before .before .before .before .before .before .before .before .before .before .before .before .before .before .before .before .before .axis-count3 .ensures) (eights s .5) in
-    let od = part-read (c .before .before .before .before .before .before .before .before .before .before .before .before .before .before .before .before .before .before .before .before .before .before .before .before .axis-count4 .result) (s .args .plan .«offset_dims» .count) (s .args .plan .«offset_dims» .entries) (c .before .before .before .before .before .before .before .before .before .before .before .before .before .before .before .before .before .before .before .before .before .before .before .before .axis-count4 .ensures) (eights s .6) in
-    let cd = part-read (c .before .before .before .before .before .before .before .before .before .before .before .before .before .before .before .before .before .before .before .before .before .before .before .axis-count5 .result) (s .args .plan .«collapsed_slice_dims» .count) (s .args .plan .«collapsed_slice_dims» .entries) (c .before .before .before .before .before .before .before .before .before .before .before .before .before .before .before .before .before .before .before .before .before .before .before .axis-count5 .ensures) (eights s .7) in
-    let sm = part-read (c .before .before .before .before .before .before .before .before .before .before .before .before .before .before .before .before .before .before .before .before .before .before .axis-count6 .result) (s .args .plan .«start_index_map» .count) (s .args .plan .«start_index_map» .entries) (c .before .before .before .before .before .before .before .before .before .before .before .before .before .before .before .before .before .before .before .before .before .before .axis-count6 .ensures) (eights s .8) in
-    let ss = part-read (c .before .before .before .before .before .before .before .before .before .before .before .before .before .before .before .before .before .before .before .before .before .axis-count7 .result) (s .args .plan .«slice_sizes» .count) (s .args .plan .«slice_sizes» .entries) (c .before .before .before .before .before .before .before .before .before .before .before .before .before .before .before .before .before .before .before .before .before .axis-count7 .ensures) (eights s .9) in
+    let oe = part-read (c .before .before .before .before .before .before .before .before .before .before .before .before .before .before .before .before .before .before .before .before .before .before .before .before .before .before .before .axis-count .result) (s .args .plan .operand .rank) (s .args .plan .operand .extents) (c .before .before .before .before .before .before .before .before .before .before .before .before .before .before .before .before .before .before .before .before .before .before .before .before .before .before .before .axis-count .ensures) (lengths s .0) in
+    let os = part-read (c .before .before .before .before .before .before .before .before .before .before .before .before .before .before .before .before .before .before .before .before .before .before .before .before .before .before .before .axis-count .result) (s .args .plan .operand .rank) (s .args .plan .operand .strides) (c .before .before .before .before .before .before .before .before .before .before .before .before .before .before .before .before .before .before .before .before .before .before .before .before .before .before .before .axis-count .ensures) (lengths s .1) in
+    let ie = part-read (c .before .before .before .before .before .before .before .before .before .before .before .before .before .before .before .before .before .before .before .before .before .before .before .before .before .before .axis-count2 .result) (s .args .plan .index .rank) (s .args .plan .index .extents) (c .before .before .before .before .before .before .before .before .before .before .before .before .before .before .before .before .before .before .before .before .before .before .before .before .before .before .axis-count2 .ensures) (lengths s .2) in
+    let is = part-read (c .before .before .before .before .before .before .before .before .before .before .before .before .before .before .before .before .before .before .before .before .before .before .before .before .before .before .axis-count2 .result) (s .args .plan .index .rank) (s .args .plan .index .strides) (c .before .before .before .before .before .before .before .before .before .before .before .before .before .before .before .before .before .before .before .before .before .before .before .before .before .before .axis-count2 .ensures) (lengths s .3) in
+    let de = part-read (c .before .before .before .before .before .before .before .before .before .before .before .before .before .before .before .before .before .before .before .before .before .before .before .before .before .axis-count3 .result) (s .args .plan .dest .rank) (s .args .plan .dest .extents) (c .before .before .before .before .before .before .before .before .before .before .before .before .before .before .before .before .before .before .before .before .before .before .before .before .before .axis-count3 .ensures) (lengths s .4) in
+    let ds = part-read (c .before .before .before .before .before .before .before .before .before .before .before .before .before .before .before .before .before .before .before .before .before .before .before .before .before .axis-count3 .result) (s .args .plan .dest .rank) (s .args .plan .dest .strides) (c .before .before .before .before .before .before .before .before .before .before .before .before .before .before .before .before .before .before .before .before .before .before .before .before .before .axis-count3 .ensures) (lengths s .5) in
+    let od = part-read (c .before .before .before .before .before .before .before .before .before .before .before .before .before .before .before .before .before .before .before .before .before .before .before .before .axis-count4 .result) (s .args .plan .«offset_dims» .count) (s .args .plan .«offset_dims» .entries) (c .before .before .before .before .before .before .before .before .before .before .before .before .before .before .before .before .before .before .before .before .before .before .before .before .axis-count4 .ensures) (lengths s .6) in
+    let cd = part-read (c .before .before .before .before .before .before .before .before .before .before .before .before .before .before .before .before .before .before .before .before .before .before .before .axis-count5 .result) (s .args .plan .«collapsed_slice_dims» .count) (s .args .plan .«collapsed_slice_dims» .entries) (c .before .before .before .before .before .before .before .before .before .before .before .before .before .before .before .before .before .before .before .before .before .before .before .axis-count5 .ensures) (lengths s .7) in
+    let sm = part-read (c .before .before .before .before .before .before .before .before .before .before .before .before .before .before .before .before .before .before .before .before .before .before .axis-count6 .result) (s .args .plan .«start_index_map» .count) (s .args .plan .«start_index_map» .entries) (c .before .before .before .before .before .before .before .before .before .before .before .before .before .before .before .before .before .before .before .before .before .before .axis-count6 .ensures) (lengths s .8) in
+    let ss = part-read (c .before .before .before .before .before .before .before .before .before .before .before .before .before .before .before .before .before .before .before .before .before .axis-count7 .result) (s .args .plan .«slice_sizes» .count) (s .args .plan .«slice_sizes» .entries) (c .before .before .before .before .before .before .before .before .before .before .before .before .before .before .before .before .before .before .before .before .before .axis-count7 .ensures) (lengths s .9) in
     c .compile-again .ensures ∙ λ i. compiledAgain (gatherFrom (oe i) (os i) (ie i) (is i) (de i) (ds i) (od i) (cd i) (sm i) (s .args .plan .«index_vector_dim») (ss i))
 
 pub compiled-again-spec : {M : Type 1} → statement M

@@ -4,6 +4,7 @@ use Prim.Native.Nat.{_-_, _≤_, zero-le}
 use native.Mathlib.Omega.{arith}
 use borrow.Author.Tests.{not-true, not-false}
 use lib.ListN.{length, drop}
+use Rattle.layout.specs.Layouts.{rankLimit}
 use Rattle.equality.specs.Same.{sameBy}
 use Rattle.equality.proofs.Compare.{same-differs, same-next, same-ends}
 use Rattle.gather_same.specs.Same.{sameAxis}
@@ -12,10 +13,10 @@ use Rattle.gather_same.proofs.same_axes.Statement.{statement}
 use Rattle.gather_same.proofs.same_axes.Tie as tie
 
 abbrev Inv-loop : tie.InvT-loop
-Inv-loop a b i₀ i = (i ≤ 8) × (sameBy sameAxis (drop i a) (drop i b) ≡ sameBy sameAxis a b)
+Inv-loop a b i₀ i = (i ≤ rankLimit) × (sameBy sameAxis (drop i a) (drop i b) ≡ sameBy sameAxis a b)
 
 abbrev μ-loop : tie.MeasureT-loop
-μ-loop a b i₀ i = 8 - i
+μ-loop a b i₀ i = rankLimit - i
 
 -- src/lib.rt:56:5
 loop-holds : tie.Need-loop-holds Inv-loop μ-loop
@@ -46,8 +47,8 @@ returns : tie.Need-returns Inv-loop μ-loop
 returns c =
     let l = c .before .before .before .before .before in
     let s = l .before in
-    let e : length (s .args .t1) ≡ 8 = search needs in
-    let f : length (s .args .t2) ≡ 8 = search needs in
+    let e : length (s .args .t1) ≡ rankLimit = search needs in
+    let f : length (s .args .t2) ≡ rankLimit = search needs in
     same-differs sameAxis noAxis (s .args .t1) (s .args .t2) (l .loop .i) (omega arith) (omega arith) (sym (c .before .same-axis .ensures) ∙ not-true _ (c .if1 .taken)) ∙ l .loop .inv .1
 
 -- src/lib.rt:62:9
@@ -63,8 +64,8 @@ loop-again : tie.Need-loop-again Inv-loop μ-loop
 loop-again c =
     let l = c .before .before .before .before .before in
     let s = l .before in
-    let e : length (s .args .t1) ≡ 8 = search needs in
-    let f : length (s .args .t2) ≡ 8 = search needs in
+    let e : length (s .args .t1) ≡ rankLimit = search needs in
+    let f : length (s .args .t2) ≡ rankLimit = search needs in
     (omega arith, same-next sameAxis noAxis (s .args .t1) (s .args .t2) (l .loop .i) (omega arith) (omega arith) (sym (c .before .same-axis .ensures) ∙ not-false _ (c .if1 .left)) ∙ l .loop .inv .1)
 
 -- src/lib.rt:52:1
@@ -72,8 +73,8 @@ returns-2 : tie.Need-returns-2 Inv-loop μ-loop
 returns-2 c =
     let l = c .before in
     let s = l .before in
-    let e : length (s .args .t1) ≡ 8 = search needs in
-    let f : length (s .args .t2) ≡ 8 = search needs in
+    let e : length (s .args .t1) ≡ rankLimit = search needs in
+    let f : length (s .args .t2) ≡ rankLimit = search needs in
     same-ends sameAxis noAxis (s .args .t1) (s .args .t2) (l .loop .i) (omega arith) (omega arith) ∙ l .loop .inv .1
 
 pub same-axes-spec : {M : Type 1} → statement M
