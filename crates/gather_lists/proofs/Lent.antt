@@ -71,7 +71,7 @@ module _ (g : Gather) (a b c : ℤ) where
       and-both (sameView (h .operand) (g .operand)) _ (view-same (h .operand) (g .operand) refl refl)
       (and-both (sameView (h .indices) (g .indices)) _ (view-same (h .indices) (g .indices) refl refl) (view-same (h .result) (g .result) refl refl))
 
-  placed-answer : (on sn dn : ℕ) → orElse (compileRefusal g) (boundsRefusal (h .operand) (h .indices) (h .result) on sn dn) ≡ listsAnswer g h on sn dn
+  pub placed-answer : (on sn dn : ℕ) → orElse (compileRefusal g) (boundsRefusal (h .operand) (h .indices) (h .result) on sn dn) ≡ listsAnswer g h on sn dn
   placed-answer on sn dn = sym (ap (λ (t : Bool). orElse (compileRefusal g) (orElse (planRefusal t) (boundsRefusal (h .operand) (h .indices) (h .result) on sn dn))) same-placed)
 
   done-placed : isDone (refusalOf A.Done g) ≡ true → isDone (refusalOf A.Done h) ≡ true

@@ -11,6 +11,11 @@ use Rattle.layout.specs.declared.Answer.{Answer}
 use Rattle.layout.specs.Answers.{isDone, orElse}
 use Rattle.spans.proofs.Parts as P
 use Rattle.checks.proofs.Held.{never}
+use Rattle.calls.specs.Calls.{boundsRefusal}
+use Rattle.gather_checks.specs.Refusals.{compileRefusal as compile-gather}
+use Rattle.gather_lists.proofs.Lent.{placed-answer as gather-placed}
+use Rattle.scatter_checks.specs.Refusals.{compileRefusal as compile-scatter}
+use Rattle.scatter_lists.proofs.Lent.{placed-answer as scatter-placed}
 use Rattle.job.specs.declared.Element.{Element}
 use Rattle.job.specs.declared.Kind.{Kind}
 use Rattle.job.specs.declared.Kind.the-variants as K
@@ -75,3 +80,16 @@ module _ (e : Element) {j k : ReadJob} (same : j ≡ k) (on sn dn : ℕ) where
       let l = goes-on (readRefusal K.Scatter e j) (scatters.listsAnswer (heldScatter (j .job)) (jobScatter (j .job)) on sn dn) (ap isDone (sym f) ∙ n) in
       subst (λ (q : ReadJob). scatter-prepared.Prepares r (scatterAnswer e q on sn dn) (jobScatter (q .job)) on sn dn) same
       (record { answered = p .answered ∙ sym l; ready = λ d. p .ready (ap isDone (sym l) ∙ d) })
+
+-- ---- 8 does not come of a stored job: its views have the layouts that are compiled for, and what follows compile's refusal is 9
+pub gather-without-eight : (e : Element) (r : ReadJob) (on sn dn : ℕ)
+    → gatherAnswer e r on sn dn
+    ≡ orElse (readRefusal K.Gather e r) (orElse (compile-gather (heldGather (r .job))) (boundsRefusal (jobGather (r .job) .operand) (jobGather (r .job) .indices) (jobGather (r .job) .result) on sn dn))
+gather-without-eight e r on sn dn =
+    ap (orElse (readRefusal K.Gather e r)) (sym (gather-placed (heldGather (r .job)) (r .job .views .first .offset) (r .job .views .second .offset) (r .job .views .third .offset) on sn dn))
+
+pub scatter-without-eight : (e : Element) (r : ReadJob) (sn un dn : ℕ)
+    → scatterAnswer e r sn un dn
+    ≡ orElse (readRefusal K.Scatter e r) (orElse (compile-scatter (heldScatter (r .job))) (boundsRefusal (jobScatter (r .job) .indices) (jobScatter (r .job) .updates) (jobScatter (r .job) .result) sn un dn))
+scatter-without-eight e r sn un dn =
+    ap (orElse (readRefusal K.Scatter e r)) (sym (scatter-placed (heldScatter (r .job)) (r .job .views .first .offset) (r .job .views .second .offset) (r .job .views .third .offset) sn un dn))

@@ -85,7 +85,7 @@ module _ (s : Scatter) (a b c : ℤ) where
       and-both (sameView (h .indices) (s .indices)) _ (view-same (h .indices) (s .indices) refl refl)
       (and-both (sameView (h .updates) (s .updates)) _ (view-same (h .updates) (s .updates) refl refl) (view-same (h .result) (s .result) refl refl))
 
-  placed-answer : (sn un dn : ℕ) → orElse (compileRefusal s) (boundsRefusal (h .indices) (h .updates) (h .result) sn un dn) ≡ listsAnswer s h sn un dn
+  pub placed-answer : (sn un dn : ℕ) → orElse (compileRefusal s) (boundsRefusal (h .indices) (h .updates) (h .result) sn un dn) ≡ listsAnswer s h sn un dn
   placed-answer sn un dn = sym (ap (λ (t : Bool). orElse (compileRefusal s) (orElse (planRefusal t) (boundsRefusal (h .indices) (h .updates) (h .result) sn un dn))) same-placed)
 
   done-placed : isDone (refusalOf A.Done s) ≡ true → isDone (refusalOf A.Done h) ≡ true

@@ -1,5 +1,6 @@
 // Scatter: what a call has decided before it touches an element, and the move of elements by it, for i32 and for f64.
 ghost use mathlib.Core.Path.{_≡_};
+ghost use Prim.Native.Nat.{_<_};
 ghost use lib.Ieee.{nan};
 ghost use lib.IntN.{pos};
 ghost use lib.ListN.{length};
@@ -79,33 +80,33 @@ pub fn refused(answer: Answer) -> PreparedScatter
     }
 }
 
-// The steps of a walk's rows, on the source's side and on the destination's.
-pub fn source_steps(rows: [[i64; 4]; RAW_FUSED_RANK_LIMIT]) -> [i64; RAW_FUSED_RANK_LIMIT]
-    ensures { λ r. ⌜ r ≡ stepsAt 0 rows ⌝ }
+// Number `side` of each row: 0 is the source step, 2 the destination step.
+fn steps_at(rows: [[i64; 4]; RAW_FUSED_RANK_LIMIT], side: usize) -> [i64; RAW_FUSED_RANK_LIMIT]
+    requires { ⌜ side < 4 ⌝ }
+    ensures { λ r. ⌜ r ≡ stepsAt side rows ⌝ }
 {
     let mut out = [0i64; RAW_FUSED_RANK_LIMIT];
     let mut i: usize = 0;
     while i < RAW_FUSED_RANK_LIMIT {
         let row = rows[i];
-        let step = row[0];
+        let step = row[side];
         out[i] = step;
         i += 1;
     }
     out
 }
 
+// The steps of a walk's rows on the source's side, and on the destination's.
+pub fn source_steps(rows: [[i64; 4]; RAW_FUSED_RANK_LIMIT]) -> [i64; RAW_FUSED_RANK_LIMIT]
+    ensures { λ r. ⌜ r ≡ stepsAt 0 rows ⌝ }
+{
+    steps_at(rows, 0)
+}
+
 pub fn dest_steps(rows: [[i64; 4]; RAW_FUSED_RANK_LIMIT]) -> [i64; RAW_FUSED_RANK_LIMIT]
     ensures { λ r. ⌜ r ≡ stepsAt 2 rows ⌝ }
 {
-    let mut out = [0i64; RAW_FUSED_RANK_LIMIT];
-    let mut i: usize = 0;
-    while i < RAW_FUSED_RANK_LIMIT {
-        let row = rows[i];
-        let step = row[2];
-        out[i] = step;
-        i += 1;
-    }
-    out
+    steps_at(rows, 2)
 }
 
 // The batches of a scatter from the start's base, the updates' base and the place `at` in the part of the destination that is lent on.

@@ -18,41 +18,33 @@ Inv-loop stride count i₀ i = (i ≤ count) × (firstOf (offsetFits (toZ w64 st
 abbrev μ-loop : tie.MeasureT-loop
 μ-loop stride count i₀ i = count - i
 
--- src/lib.rt:121:5
 loop-holds : tie.Need-loop-holds Inv-loop μ-loop
 loop-holds c = (zero-le, first-starts _ _)
 
--- src/lib.rt:122:13
 check-offset-requires : tie.Need-check-offset-requires Inv-loop μ-loop
 check-offset-requires c κs = search needs
 
--- src/lib.rt:123:13
 is-done-requires : tie.Need-is-done-requires Inv-loop μ-loop
 is-done-requires c κs = search needs
 
--- src/lib.rt:124:13
 returns : tie.Need-returns Inv-loop μ-loop
 returns c =
     let l = c .before .before .before .before in
     let s = l .before in
     first-stops (offsetFits (toZ w64 (ofZ w64 (s .args .stride)))) (s .args .count) (l .loop .i) (c .before .before .check-offset .result) (c .before .is-done .result) (c .before .before .before .loop-test .taken) (c .before .before .check-offset .ensures) (c .before .is-done .ensures) (not-true _ (c .if1 .taken)) ∙ l .loop .inv .1 ∙ ap (λ (z : ℤ). firstOf (offsetFits z) (s .args .count) 0) (back (s .fits .stride))
 
--- src/lib.rt:126:9
 add-i : tie.Need-add-i Inv-loop μ-loop
 add-i c = search needs
 
--- src/lib.rt:121:5
 loop-less : tie.Need-loop-less Inv-loop μ-loop
 loop-less c = search needs
 
--- src/lib.rt:121:5
 loop-again : tie.Need-loop-again Inv-loop μ-loop
 loop-again c =
     let l = c .before .before .before .before in
     let s = l .before in
     (omega (arith, c .before .before .before .loop-test .taken), first-goes (offsetFits (toZ w64 (ofZ w64 (s .args .stride)))) (s .args .count) (l .loop .i) (c .before .before .check-offset .result) (c .before .is-done .result) (c .before .before .before .loop-test .taken) (c .before .before .check-offset .ensures) (c .before .is-done .ensures) (not-false _ (c .if1 .left)) ∙ l .loop .inv .1)
 
--- src/lib.rt:117:1
 returns-2 : tie.Need-returns-2 Inv-loop μ-loop
 returns-2 c =
     let l = c .before in

@@ -7,25 +7,20 @@ use borrow.Author.Needs.{needs}
 use Rattle.components.proofs.check_offset.Statement.{statement}
 use Rattle.components.proofs.check_offset.Tie as tie
 
--- src/lib.rt:79:9
 checked-offset-add-requires : tie.Need-checked-offset-add-requires
 checked-offset-add-requires c κs = search needs
 
--- src/lib.rt:81:29
 enum-told : tie.Need-enum-told
 enum-told c = search needs
 
--- src/lib.rt:82:30
 enum-told-2 : tie.Need-enum-told-2
 enum-told-2 c = search needs
 
--- src/lib.rt:76:1
 returns : tie.Need-returns
 returns c =
     let s = c .before .before .before in
     ap numberFits (sym (c .enum-told .given .1) ∙ c .before .before .checked-offset-add .ensures ∙ ap (λ (z : ℤ). offsetAdd (pos 0) z (s .args .component)) (back (s .fits .stride)))
 
--- src/lib.rt:76:1
 returns-2 : tie.Need-returns-2
 returns-2 c =
     let s = c .before .before .before in

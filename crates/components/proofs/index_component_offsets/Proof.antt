@@ -20,35 +20,27 @@ Inv-loop stride count n out₀ i₀ out i = (i ≤ n) × (out ≡ written (pos 0
 abbrev μ-loop : tie.MeasureT-loop
 μ-loop stride count n out₀ i₀ out i = n - i
 
--- src/lib.rt:231:9
 axis-count-requires : tie.Need-axis-count-requires Inv-loop μ-loop
 axis-count-requires c κs = search needs
 
--- src/lib.rt:234:5
 loop-holds : tie.Need-loop-holds Inv-loop μ-loop
 loop-holds c = (zero-le, refl)
 
--- src/lib.rt:235:18
 offset-value-requires : tie.Need-offset-value-requires Inv-loop μ-loop
 offset-value-requires c κs = search needs
 
--- src/lib.rt:235:9
 mul-out : tie.Need-mul-out Inv-loop μ-loop
 mul-out c = search needs
 
--- src/lib.rt:235:9
 array-set-from-out : tie.Need-array-set-from-out Inv-loop μ-loop
 array-set-from-out c = search needs
 
--- src/lib.rt:236:9
 add-i : tie.Need-add-i Inv-loop μ-loop
 add-i c = search needs
 
--- src/lib.rt:234:5
 loop-less : tie.Need-loop-less Inv-loop μ-loop
 loop-less c = search needs
 
--- src/lib.rt:234:5
 loop-again : tie.Need-loop-again Inv-loop μ-loop
 loop-again c =
     let l = c .before .before in
@@ -60,7 +52,6 @@ loop-again c =
     let k = length-tabulate n (offsetOr (toZ w64 (ofZ w64 (s .args .stride)))) in
     (omega (arith, t), one-written (pos 0) (tabulate n (offsetOr (toZ w64 (ofZ w64 (s .args .stride))))) (l .loop .out) (l .loop .i) (toZ w64 (ofZ w64 (c .offset-value .result))) (omega (arith, k, t)) (omega (arith, k, m)) (l .loop .inv .1) (back f ∙ c .offset-value .ensures ∙ sym (getD-tabulate n (offsetOr (toZ w64 (ofZ w64 (s .args .stride)))) (l .loop .i) (pos 0) t)))
 
--- src/lib.rt:228:1
 returns : tie.Need-returns Inv-loop μ-loop
 returns c =
     let l = c .before in

@@ -9,26 +9,21 @@ use borrow.Author.Needs.{needs, sfits-of}
 use Rattle.components.proofs.offset_value.Statement.{statement}
 use Rattle.components.proofs.offset_value.Tie as tie
 
--- src/lib.rt:128:9
 checked-offset-add-requires : tie.Need-checked-offset-add-requires
 checked-offset-add-requires c κs = search needs
 
--- src/lib.rt:130:23
 enum-known-offset : tie.Need-enum-known-offset
 enum-known-offset c = search needs
 
--- src/lib.rt:131:30
 enum-told : tie.Need-enum-told
 enum-told c = search needs
 
--- src/lib.rt:125:1
 returns : tie.Need-returns
 returns c =
     let s = c .before .before .before .before in
     let z : SFits w64 (c .before .offset .given .0 .0) = sfits-of (c .known-told .given .0 .1) in
     back z ∙ ap valueOf (sym (c .before .offset .given .1) ∙ c .before .before .before .checked-offset-add .ensures ∙ ap (λ (z : ℤ). offsetAdd (pos 0) z (s .args .component)) (back (s .fits .stride)))
 
--- src/lib.rt:125:1
 returns-2 : tie.Need-returns-2
 returns-2 c =
     let s = c .before .before .before in

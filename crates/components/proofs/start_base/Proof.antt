@@ -8,11 +8,9 @@ use Rattle.components.proofs.Padded.{unless-some}
 use Rattle.components.proofs.start_base.Statement.{statement}
 use Rattle.components.proofs.start_base.Tie as tie
 
--- src/lib.rt:102:1
 returns : tie.Need-returns
 returns c = sym (ap (λ (m : ℕ). unlessNone m (pos 0) (c .before .args .offset)) (c .if1 .taken))
 
--- src/lib.rt:102:1
 returns-2 : tie.Need-returns-2
 returns-2 c = back (c .before .fits .offset) ∙ sym (unless-some (c .before .args .count) (pos 0) (c .before .args .offset) (omega (arith, c .if1 .left)))
 

@@ -9,11 +9,9 @@ use Rattle.components.proofs.Padded.{unless-some}
 use Rattle.components.proofs.unless_none.Statement.{statement}
 use Rattle.components.proofs.unless_none.Tie as tie
 
--- src/lib.rt:89:1
 returns : tie.Need-returns
 returns c = sym (ap (λ (m : ℕ). unlessNone m (replicate rankLimit (pos 0)) (c .before .args .steps)) (c .if1 .taken))
 
--- src/lib.rt:89:1
 returns-2 : tie.Need-returns-2
 returns-2 c = sym (unless-some (c .before .args .count) (replicate rankLimit (pos 0)) (c .before .args .steps) (omega (arith, c .if1 .left)))
 

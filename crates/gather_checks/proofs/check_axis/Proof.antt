@@ -3,27 +3,21 @@ use borrow.Author.Needs.{needs}
 use Rattle.gather_checks.proofs.check_axis.Statement.{statement}
 use Rattle.gather_checks.proofs.check_axis.Tie as tie
 
--- src/lib.rt:89:9
 check-reset-requires : tie.Need-check-reset-requires
 check-reset-requires c κs = search needs
 
--- src/lib.rt:90:9
 check-reset-requires-2 : tie.Need-check-reset-requires-2
 check-reset-requires-2 c κs = search needs
 
--- src/lib.rt:91:9
 check-reset-requires-3 : tie.Need-check-reset-requires-3
 check-reset-requires-3 c κs = search needs
 
--- src/lib.rt:92:24
 or-else-requires : tie.Need-or-else-requires
 or-else-requires c κs = search needs
 
--- src/lib.rt:92:5
 or-else-requires-2 : tie.Need-or-else-requires-2
 or-else-requires-2 c κs = search needs
 
--- src/lib.rt:86:1
 returns : tie.Need-returns
 returns c =
     let s = c .before .before .before .before .before in

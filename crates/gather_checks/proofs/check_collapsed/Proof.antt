@@ -14,45 +14,36 @@ Inv-loop rank sizes collapsed i₀ i = (i ≤ length collapsed) × (collapsedOne
 abbrev μ-loop : tie.MeasureT-loop
 μ-loop rank sizes collapsed i₀ i = length collapsed - i
 
--- src/lib.rt:56:5
 loop-holds : tie.Need-loop-holds Inv-loop μ-loop
 loop-holds c = (zero-le, refl)
 
--- src/lib.rt:57:20
 mul-axis : tie.Need-mul-axis Inv-loop μ-loop
 mul-axis c = search needs
 
--- src/lib.rt:57:20
 shared-slice-read-axis : tie.Need-shared-slice-read-axis Inv-loop μ-loop
 shared-slice-read-axis c = search needs
 
--- src/lib.rt:58:12
 entry-at-requires : tie.Need-entry-at-requires Inv-loop μ-loop
 entry-at-requires c κs = search needs
 
--- src/lib.rt:59:13
 returns : tie.Need-returns Inv-loop μ-loop
 returns c =
     let l = c .before .before .before .before in
     let s = l .before .before .before in
     collapsed-no (s .args .rank) (s .args .sizes .now) (s .args .collapsed .now) (l .loop .i) (omega arith) (λ e. c .if1 .taken (c .before .entry-at .ensures ∙ e)) ∙ l .loop .inv .1
 
--- src/lib.rt:61:9
 add-i : tie.Need-add-i Inv-loop μ-loop
 add-i c = search needs
 
--- src/lib.rt:56:5
 loop-less : tie.Need-loop-less Inv-loop μ-loop
 loop-less c = search needs
 
--- src/lib.rt:56:5
 loop-again : tie.Need-loop-again Inv-loop μ-loop
 loop-again c =
     let l = c .before .before .before .before in
     let s = l .before .before .before in
     (omega arith, collapsed-next (s .args .rank) (s .args .sizes .now) (s .args .collapsed .now) (l .loop .i) (omega arith) (sym (c .before .entry-at .ensures) ∙ c .if1 .left) ∙ l .loop .inv .1)
 
--- src/lib.rt:52:1
 returns-2 : tie.Need-returns-2 Inv-loop μ-loop
 returns-2 c =
     let l = c .before in

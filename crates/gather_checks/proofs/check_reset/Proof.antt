@@ -6,25 +6,20 @@ use borrow.Author.Needs.{needs}
 use Rattle.gather_checks.proofs.check_reset.Statement.{statement}
 use Rattle.gather_checks.proofs.check_reset.Tie as tie
 
--- src/lib.rt:69:9
 checked-replay-reset-requires : tie.Need-checked-replay-reset-requires
 checked-replay-reset-requires c κs = search needs
 
--- src/lib.rt:71:29
 enum-told : tie.Need-enum-told
 enum-told c = search needs
 
--- src/lib.rt:72:30
 enum-told-2 : tie.Need-enum-told-2
 enum-told-2 c = search needs
 
--- src/lib.rt:66:1
 returns : tie.Need-returns
 returns c =
     let s = c .before .before .before in
     ap numberFits (sym (c .enum-told .given .1) ∙ c .before .before .checked-replay-reset .ensures ∙ ap (resetOf (s .args .extent)) (back (s .fits .step)))
 
--- src/lib.rt:66:1
 returns-2 : tie.Need-returns-2
 returns-2 c =
     let s = c .before .before .before in

@@ -5,19 +5,15 @@ use borrow.Author.Needs.{needs}
 use Rattle.gather_plan.proofs.axis_with.Statement.{statement}
 use Rattle.gather_plan.proofs.axis_with.Tie as tie
 
--- src/lib.rt:166:9
 reset-value-requires : tie.Need-reset-value-requires
 reset-value-requires c κs = search needs
 
--- src/lib.rt:167:9
 reset-value-requires-2 : tie.Need-reset-value-requires-2
 reset-value-requires-2 c κs = search needs
 
--- src/lib.rt:168:9
 reset-value-requires-3 : tie.Need-reset-value-requires-3
 reset-value-requires-3 c κs = search needs
 
--- src/lib.rt:163:1
 returns : tie.Need-returns
 returns c =
     let s = c .before .before .before in

@@ -2,11 +2,9 @@ use borrow.Author.Needs.{needs}
 use Rattle.gather_plan.proofs.refused.Statement.{statement}
 use Rattle.gather_plan.proofs.refused.Tie as tie
 
--- src/lib.rt:79:9
 no-axis-requires : tie.Need-no-axis-requires
 no-axis-requires c κs = search needs
 
--- src/lib.rt:73:1
 returns : tie.Need-returns
 returns c = rw (c .no-axis .ensures)
 

@@ -8,26 +8,21 @@ use borrow.Author.Needs.{needs, sfits-of}
 use Rattle.gather_plan.proofs.reset_value.Statement.{statement}
 use Rattle.gather_plan.proofs.reset_value.Tie as tie
 
--- src/lib.rt:117:9
 checked-replay-reset-requires : tie.Need-checked-replay-reset-requires
 checked-replay-reset-requires c κs = search needs
 
--- src/lib.rt:119:23
 enum-known-reset : tie.Need-enum-known-reset
 enum-known-reset c = search needs
 
--- src/lib.rt:120:30
 enum-told : tie.Need-enum-told
 enum-told c = search needs
 
--- src/lib.rt:114:1
 returns : tie.Need-returns
 returns c =
     let s = c .before .before .before .before in
     let z : SFits w64 (c .before .reset .given .0 .0) = sfits-of (c .known-told .given .0 .1) in
     back z ∙ ap valueOf (sym (c .before .reset .given .1) ∙ c .before .before .before .checked-replay-reset .ensures ∙ ap (resetOf (s .args .extent)) (back (s .fits .step)))
 
--- src/lib.rt:114:1
 returns-2 : tie.Need-returns-2
 returns-2 c =
     let s = c .before .before .before in

@@ -22,31 +22,24 @@ Inv-loop offset-dims axis entries n i₀ i = (i ≤ rankLimit) × (left offset-d
 abbrev μ-loop : tie.MeasureT-loop
 μ-loop offset-dims axis entries n i₀ i = rankLimit - i
 
--- src/lib.rt:152:9
 axis-count-requires : tie.Need-axis-count-requires Inv-loop μ-loop
 axis-count-requires c κs = search needs
 
--- src/lib.rt:154:5
 loop-holds : tie.Need-loop-holds Inv-loop μ-loop
 loop-holds c = (omega arith, refl)
 
--- src/lib.rt:155:12
 mul-if2 : tie.Need-mul-if2 Inv-loop μ-loop
 mul-if2 c = omega (arith, ltb-true, c .before .before .before .axis-count .ensures)
 
--- src/lib.rt:155:12
 shared-slice-read-if2 : tie.Need-shared-slice-read-if2 Inv-loop μ-loop
 shared-slice-read-if2 c = omega (arith, ltb-true, c .before .before .before .before .axis-count .ensures)
 
--- src/lib.rt:156:33
 mul-t13 : tie.Need-mul-t13 Inv-loop μ-loop
 mul-t13 c = omega (arith, ltb-true, c .before .before .before .before .before .axis-count .ensures)
 
--- src/lib.rt:156:33
 array-read-t16 : tie.Need-array-read-t16 Inv-loop μ-loop
 array-read-t16 c = omega (arith, ltb-true, c .before .before .before .before .before .axis-count .ensures)
 
--- src/lib.rt:156:13
 returns : tie.Need-returns Inv-loop μ-loop
 returns c =
     let l = c .before .before .before .before in
@@ -55,15 +48,12 @@ returns c =
     let m = l .before .axis-count .ensures in
     role-here (s .args .offset-dims .now) (s .args .shown .entries) (l .before .axis-count .result) (s .args .axis) (l .loop .i) (omega (arith, ltb-true)) (omega (arith, m, ltb-true)) (c .if2 .taken) ∙ l .loop .inv .1 ∙ whole (l .before .axis-count .result) (s .args .shown .count) (s .args .offset-dims .now) (s .args .shown .entries) (s .args .axis) g m
 
--- src/lib.rt:158:9
 add-i : tie.Need-add-i Inv-loop μ-loop
 add-i c = search needs
 
--- src/lib.rt:154:5
 loop-less : tie.Need-loop-less Inv-loop μ-loop
 loop-less c = omega (arith, ltb-true, c .before .before .before .before .before .axis-count .ensures)
 
--- src/lib.rt:154:5
 loop-again : tie.Need-loop-again Inv-loop μ-loop
 loop-again c =
     let l = c .before .before .before .before in
@@ -72,7 +62,6 @@ loop-again c =
     let m = l .before .axis-count .ensures in
     (omega (arith, ltb-true, m), role-next (s .args .offset-dims .now) (s .args .shown .entries) (l .before .axis-count .result) (s .args .axis) (l .loop .i) (omega (arith, ltb-true)) (omega (arith, m, ltb-true)) (c .if2 .left) ∙ l .loop .inv .1)
 
--- src/lib.rt:148:1
 returns-2 : tie.Need-returns-2 Inv-loop μ-loop
 returns-2 c =
     let l = c .before .before in
@@ -81,7 +70,6 @@ returns-2 c =
     let m = l .before .axis-count .ensures in
     role-past (s .args .offset-dims .now) (s .args .shown .entries) (l .before .axis-count .result) (s .args .axis) (l .loop .i) (omega (arith, m, ltb-false)) ∙ l .loop .inv .1 ∙ whole (l .before .axis-count .result) (s .args .shown .count) (s .args .offset-dims .now) (s .args .shown .entries) (s .args .axis) g m
 
--- src/lib.rt:148:1
 returns-3 : tie.Need-returns-3 Inv-loop μ-loop
 returns-3 c =
     let l = c .before in

@@ -11,159 +11,120 @@ use Rattle.gather_same.proofs.compiled_again.Tie as tie
 lengths : (s : tie.Start) → (length (s .args .plan .operand .extents) ≡ rankLimit) × (length (s .args .plan .operand .strides) ≡ rankLimit) × (length (s .args .plan .index .extents) ≡ rankLimit) × (length (s .args .plan .index .strides) ≡ rankLimit) × (length (s .args .plan .dest .extents) ≡ rankLimit) × (length (s .args .plan .dest .strides) ≡ rankLimit) × (length (s .args .plan .«offset_dims» .entries) ≡ rankLimit) × (length (s .args .plan .«collapsed_slice_dims» .entries) ≡ rankLimit) × (length (s .args .plan .«start_index_map» .entries) ≡ rankLimit) × (length (s .args .plan .«slice_sizes» .entries) ≡ rankLimit)
 lengths s = (search needs, search needs, search needs, search needs, search needs, search needs, search needs, search needs, search (needs, s .good .0 .1 .1 .1 .1 .1 .1 .1 .0), search (needs, s .good .0 .1 .1 .1 .1 .1 .1 .1 .1 .1 .0))
 
--- src/lib.rt:156:9
 axis-count-requires : tie.Need-axis-count-requires
 axis-count-requires c κs = search needs
 
--- src/lib.rt:157:9
 axis-count-requires-2 : tie.Need-axis-count-requires-2
 axis-count-requires-2 c κs = search needs
 
--- src/lib.rt:158:9
 axis-count-requires-3 : tie.Need-axis-count-requires-3
 axis-count-requires-3 c κs = search needs
 
--- src/lib.rt:159:9
 axis-count-requires-4 : tie.Need-axis-count-requires-4
 axis-count-requires-4 c κs = search needs
 
--- src/lib.rt:160:9
 axis-count-requires-5 : tie.Need-axis-count-requires-5
 axis-count-requires-5 c κs = search needs
 
--- src/lib.rt:161:9
 axis-count-requires-6 : tie.Need-axis-count-requires-6
 axis-count-requires-6 c κs = search needs
 
--- src/lib.rt:162:9
 axis-count-requires-7 : tie.Need-axis-count-requires-7
 axis-count-requires-7 c κs = search needs
 
--- src/lib.rt:164:9
 sub-compile-again : tie.Need-sub-compile-again
 sub-compile-again c = search needs
 
--- src/lib.rt:164:9
 part-compile-again-start : tie.Need-part-compile-again-start
 part-compile-again-start c = search needs
 
--- src/lib.rt:164:9
 part-compile-again-end : tie.Need-part-compile-again-end
 part-compile-again-end c = part-fits (c .before .before .before .before .before .before .before .axis-count .result) (c .before .before .before .before .before .before .before .before .before .before .before .before .before .before .before .before .before .before .before .before .before .before .before .before .before .args .plan .operand .rank) (c .before .before .before .before .before .before .before .before .before .before .before .before .before .before .before .before .before .before .before .before .before .before .before .before .before .args .plan .operand .extents) (c .before .before .before .before .before .before .before .axis-count .ensures) (lengths (c .before .before .before .before .before .before .before .before .before .before .before .before .before .before .before .before .before .before .before .before .before .before .before .before .before) .0)
 
--- src/lib.rt:165:9
 sub-compile-again-2 : tie.Need-sub-compile-again-2
 sub-compile-again-2 c = search needs
 
--- src/lib.rt:165:9
 part-compile-again-start-2 : tie.Need-part-compile-again-start-2
 part-compile-again-start-2 c = search needs
 
--- src/lib.rt:165:9
 part-compile-again-end-2 : tie.Need-part-compile-again-end-2
 part-compile-again-end-2 c = part-fits (c .before .before .before .before .before .before .before .before .before .axis-count .result) (c .before .before .before .before .before .before .before .before .before .before .before .before .before .before .before .before .before .before .before .before .before .before .before .before .before .before .before .args .plan .operand .rank) (c .before .before .before .before .before .before .before .before .before .before .before .before .before .before .before .before .before .before .before .before .before .before .before .before .before .before .before .args .plan .operand .strides) (c .before .before .before .before .before .before .before .before .before .axis-count .ensures) (lengths (c .before .before .before .before .before .before .before .before .before .before .before .before .before .before .before .before .before .before .before .before .before .before .before .before .before .before .before) .1)
 
--- src/lib.rt:166:9
 sub-compile-again-3 : tie.Need-sub-compile-again-3
 sub-compile-again-3 c = search needs
 
--- src/lib.rt:166:9
 part-compile-again-start-3 : tie.Need-part-compile-again-start-3
 part-compile-again-start-3 c = search needs
 
--- src/lib.rt:166:9
 part-compile-again-end-3 : tie.Need-part-compile-again-end-3
 part-compile-again-end-3 c = part-fits (c .before .before .before .before .before .before .before .before .before .before .axis-count2 .result) (c .before .before .before .before .before .before .before .before .before .before .before .before .before .before .before .before .before .before .before .before .before .before .before .before .before .before .before .before .before .args .plan .index .rank) (c .before .before .before .before .before .before .before .before .before .before .before .before .before .before .before .before .before .before .before .before .before .before .before .before .before .before .before .before .before .args .plan .index .extents) (c .before .before .before .before .before .before .before .before .before .before .axis-count2 .ensures) (lengths (c .before .before .before .before .before .before .before .before .before .before .before .before .before .before .before .before .before .before .before .before .before .before .before .before .before .before .before .before .before) .2)
 
--- src/lib.rt:167:9
 sub-compile-again-4 : tie.Need-sub-compile-again-4
 sub-compile-again-4 c = search needs
 
--- src/lib.rt:167:9
 part-compile-again-start-4 : tie.Need-part-compile-again-start-4
 part-compile-again-start-4 c = search needs
 
--- src/lib.rt:167:9
 part-compile-again-end-4 : tie.Need-part-compile-again-end-4
 part-compile-again-end-4 c = part-fits (c .before .before .before .before .before .before .before .before .before .before .before .before .axis-count2 .result) (c .before .before .before .before .before .before .before .before .before .before .before .before .before .before .before .before .before .before .before .before .before .before .before .before .before .before .before .before .before .before .before .args .plan .index .rank) (c .before .before .before .before .before .before .before .before .before .before .before .before .before .before .before .before .before .before .before .before .before .before .before .before .before .before .before .before .before .before .before .args .plan .index .strides) (c .before .before .before .before .before .before .before .before .before .before .before .before .axis-count2 .ensures) (lengths (c .before .before .before .before .before .before .before .before .before .before .before .before .before .before .before .before .before .before .before .before .before .before .before .before .before .before .before .before .before .before .before) .3)
 
--- src/lib.rt:168:9
 sub-compile-again-5 : tie.Need-sub-compile-again-5
 sub-compile-again-5 c = search needs
 
--- src/lib.rt:168:9
 part-compile-again-start-5 : tie.Need-part-compile-again-start-5
 part-compile-again-start-5 c = search needs
 
--- src/lib.rt:168:9
 part-compile-again-end-5 : tie.Need-part-compile-again-end-5
 part-compile-again-end-5 c = part-fits (c .before .before .before .before .before .before .before .before .before .before .before .before .before .axis-count3 .result) (c .before .before .before .before .before .before .before .before .before .before .before .before .before .before .before .before .before .before .before .before .before .before .before .before .before .before .before .before .before .before .before .before .before .args .plan .dest .rank) (c .before .before .before .before .before .before .before .before .before .before .before .before .before .before .before .before .before .before .before .before .before .before .before .before .before .before .before .before .before .before .before .before .before .args .plan .dest .extents) (c .before .before .before .before .before .before .before .before .before .before .before .before .before .axis-count3 .ensures) (lengths (c .before .before .before .before .before .before .before .before .before .before .before .before .before .before .before .before .before .before .before .before .before .before .before .before .before .before .before .before .before .before .before .before .before) .4)
 
--- src/lib.rt:169:9
 sub-compile-again-6 : tie.Need-sub-compile-again-6
 sub-compile-again-6 c = search needs
 
--- src/lib.rt:169:9
 part-compile-again-start-6 : tie.Need-part-compile-again-start-6
 part-compile-again-start-6 c = search needs
 
--- src/lib.rt:169:9
 part-compile-again-end-6 : tie.Need-part-compile-again-end-6
 part-compile-again-end-6 c = part-fits (c .before .before .before .before .before .before .before .before .before .before .before .before .before .before .before .axis-count3 .result) (c .before .before .before .before .before .before .before .before .before .before .before .before .before .before .before .before .before .before .before .before .before .before .before .before .before .before .before .before .before .before .before .before .before .before .before .args .plan .dest .rank) (c .before .before .before .before .before .before .before .before .before .before .before .before .before .before .before .before .before .before .before .before .before .before .before .before .before .before .before .before .before .before .before .before .before .before .before .args .plan .dest .strides) (c .before .before .before .before .before .before .before .before .before .before .before .before .before .before .before .axis-count3 .ensures) (lengths (c .before .before .before .before .before .before .before .before .before .before .before .before .before .before .before .before .before .before .before .before .before .before .before .before .before .before .before .before .before .before .before .before .before .before .before) .5)
 
--- src/lib.rt:170:9
 sub-compile-again-7 : tie.Need-sub-compile-again-7
 sub-compile-again-7 c = search needs
 
--- src/lib.rt:170:9
 part-compile-again-start-7 : tie.Need-part-compile-again-start-7
 part-compile-again-start-7 c = search needs
 
--- src/lib.rt:170:9
 part-compile-again-end-7 : tie.Need-part-compile-again-end-7
 part-compile-again-end-7 c = part-fits (c .before .before .before .before .before .before .before .before .before .before .before .before .before .before .before .before .axis-count4 .result) (c .before .before .before .before .before .before .before .before .before .before .before .before .before .before .before .before .before .before .before .before .before .before .before .before .before .before .before .before .before .before .before .before .before .before .before .before .before .args .plan .«offset_dims» .count) (c .before .before .before .before .before .before .before .before .before .before .before .before .before .before .before .before .before .before .before .before .before .before .before .before .before .before .before .before .before .before .before .before .before .before .before .before .before .args .plan .«offset_dims» .entries) (c .before .before .before .before .before .before .before .before .before .before .before .before .before .before .before .before .axis-count4 .ensures) (lengths (c .before .before .before .before .before .before .before .before .before .before .before .before .before .before .before .before .before .before .before .before .before .before .before .before .before .before .before .before .before .before .before .before .before .before .before .before .before) .6)
 
--- src/lib.rt:171:9
 sub-compile-again-8 : tie.Need-sub-compile-again-8
 sub-compile-again-8 c = search needs
 
--- src/lib.rt:171:9
 part-compile-again-start-8 : tie.Need-part-compile-again-start-8
 part-compile-again-start-8 c = search needs
 
--- src/lib.rt:171:9
 part-compile-again-end-8 : tie.Need-part-compile-again-end-8
 part-compile-again-end-8 c = part-fits (c .before .before .before .before .before .before .before .before .before .before .before .before .before .before .before .before .before .axis-count5 .result) (c .before .before .before .before .before .before .before .before .before .before .before .before .before .before .before .before .before .before .before .before .before .before .before .before .before .before .before .before .before .before .before .before .before .before .before .before .before .before .before .args .plan .«collapsed_slice_dims» .count) (c .before .before .before .before .before .before .before .before .before .before .before .before .before .before .before .before .before .before .before .before .before .before .before .before .before .before .before .before .before .before .before .before .before .before .before .before .before .before .before .args .plan .«collapsed_slice_dims» .entries) (c .before .before .before .before .before .before .before .before .before .before .before .before .before .before .before .before .before .axis-count5 .ensures) (lengths (c .before .before .before .before .before .before .before .before .before .before .before .before .before .before .before .before .before .before .before .before .before .before .before .before .before .before .before .before .before .before .before .before .before .before .before .before .before .before .before) .7)
 
--- src/lib.rt:172:9
 sub-compile-again-9 : tie.Need-sub-compile-again-9
 sub-compile-again-9 c = search needs
 
--- src/lib.rt:172:9
 part-compile-again-start-9 : tie.Need-part-compile-again-start-9
 part-compile-again-start-9 c = search needs
 
--- src/lib.rt:172:9
 part-compile-again-end-9 : tie.Need-part-compile-again-end-9
 part-compile-again-end-9 c = part-fits (c .before .before .before .before .before .before .before .before .before .before .before .before .before .before .before .before .before .before .axis-count6 .result) (c .before .before .before .before .before .before .before .before .before .before .before .before .before .before .before .before .before .before .before .before .before .before .before .before .before .before .before .before .before .before .before .before .before .before .before .before .before .before .before .before .before .args .plan .«start_index_map» .count) (c .before .before .before .before .before .before .before .before .before .before .before .before .before .before .before .before .before .before .before .before .before .before .before .before .before .before .before .before .before .before .before .before .before .before .before .before .before .before .before .before .before .args .plan .«start_index_map» .entries) (c .before .before .before .before .before .before .before .before .before .before .before .before .before .before .before .before .before .before .axis-count6 .ensures) (lengths (c .before .before .before .before .before .before .before .before .before .before .before .before .before .before .before .before .before .before .before .before .before .before .before .before .before .before .before .before .before .before .before .before .before .before .before .before .before .before .before .before .before) .8)
 
--- src/lib.rt:174:9
 sub-compile-again-10 : tie.Need-sub-compile-again-10
 sub-compile-again-10 c = search needs
 
--- src/lib.rt:174:9
 part-compile-again-start-10 : tie.Need-part-compile-again-start-10
 part-compile-again-start-10 c = search needs
 
--- src/lib.rt:174:9
 part-compile-again-end-10 : tie.Need-part-compile-again-end-10
 part-compile-again-end-10 c = part-fits (c .before .before .before .before .before .before .before .before .before .before .before .before .before .before .before .before .before .before .before .axis-count7 .result) (c .before .before .before .before .before .before .before .before .before .before .before .before .before .before .before .before .before .before .before .before .before .before .before .before .before .before .before .before .before .before .before .before .before .before .before .before .before .before .before .before .before .before .before .args .plan .«slice_sizes» .count) (c .before .before .before .before .before .before .before .before .before .before .before .before .before .before .before .before .before .before .before .before .before .before .before .before .before .before .before .before .before .before .before .before .before .before .before .before .before .before .before .before .before .before .before .args .plan .«slice_sizes» .entries) (c .before .before .before .before .before .before .before .before .before .before .before .before .before .before .before .before .before .before .before .axis-count7 .ensures) (lengths (c .before .before .before .before .before .before .before .before .before .before .before .before .before .before .before .before .before .before .before .before .before .before .before .before .before .before .before .before .before .before .before .before .before .before .before .before .before .before .before .before .before .before .before) .9)
 
--- src/lib.rt:163:5
 compile-again-requires : tie.Need-compile-again-requires
 compile-again-requires c κs = search needs
 
--- src/lib.rt:136:1
 returns : tie.Need-returns
 returns c =
     let s = c .before .before .before .before .before .before .before .before .before .before .before .before .before .before .before .before .before .before .before .before .before .before .before .before .before .before .before .before .before .before .before .before .before .before .before .before .before .before .before .before .before .before .before .before .before in

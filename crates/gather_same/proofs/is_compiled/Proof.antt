@@ -7,23 +7,18 @@ use borrow.Author.Needs.{needs}
 use Rattle.gather_same.proofs.is_compiled.Statement.{statement}
 use Rattle.gather_same.proofs.is_compiled.Tie as tie
 
--- src/lib.rt:183:9
 compiled-again-requires : tie.Need-compiled-again-requires
 compiled-again-requires c κs = search needs
 
--- src/lib.rt:186:9
 is-done-requires : tie.Need-is-done-requires
 is-done-requires c κs = search needs
 
--- src/lib.rt:187:9
 same-plan-requires : tie.Need-same-plan-requires
 same-plan-requires c κs = search needs
 
--- src/lib.rt:188:5
 both-requires : tie.Need-both-requires
 both-requires c κs = search needs
 
--- src/lib.rt:180:1
 returns : tie.Need-returns
 unfolding isCompiled
 returns c =

@@ -18,31 +18,24 @@ Inv-loop a b i₀ i = (i ≤ rankLimit) × (sameBy sameAxis (drop i a) (drop i b
 abbrev μ-loop : tie.MeasureT-loop
 μ-loop a b i₀ i = rankLimit - i
 
--- src/lib.rt:56:5
 loop-holds : tie.Need-loop-holds Inv-loop μ-loop
 loop-holds c = (zero-le, refl)
 
--- src/lib.rt:57:17
 mul-x : tie.Need-mul-x Inv-loop μ-loop
 mul-x c = search needs
 
--- src/lib.rt:57:17
 array-copy-out-x : tie.Need-array-copy-out-x Inv-loop μ-loop
 array-copy-out-x c = search needs
 
--- src/lib.rt:58:17
 mul-y : tie.Need-mul-y Inv-loop μ-loop
 mul-y c = search needs
 
--- src/lib.rt:58:17
 array-copy-out-y : tie.Need-array-copy-out-y Inv-loop μ-loop
 array-copy-out-y c = search needs
 
--- src/lib.rt:59:13
 same-axis-requires : tie.Need-same-axis-requires Inv-loop μ-loop
 same-axis-requires c κs = search needs
 
--- src/lib.rt:60:13
 returns : tie.Need-returns Inv-loop μ-loop
 returns c =
     let l = c .before .before .before .before .before in
@@ -51,15 +44,12 @@ returns c =
     let f : length (s .args .t2) ≡ rankLimit = search needs in
     same-differs sameAxis noAxis (s .args .t1) (s .args .t2) (l .loop .i) (omega arith) (omega arith) (sym (c .before .same-axis .ensures) ∙ not-true _ (c .if1 .taken)) ∙ l .loop .inv .1
 
--- src/lib.rt:62:9
 add-i : tie.Need-add-i Inv-loop μ-loop
 add-i c = search needs
 
--- src/lib.rt:56:5
 loop-less : tie.Need-loop-less Inv-loop μ-loop
 loop-less c = search needs
 
--- src/lib.rt:56:5
 loop-again : tie.Need-loop-again Inv-loop μ-loop
 loop-again c =
     let l = c .before .before .before .before .before in
@@ -68,7 +58,6 @@ loop-again c =
     let f : length (s .args .t2) ≡ rankLimit = search needs in
     (omega arith, same-next sameAxis noAxis (s .args .t1) (s .args .t2) (l .loop .i) (omega arith) (omega arith) (sym (c .before .same-axis .ensures) ∙ not-false _ (c .if1 .left)) ∙ l .loop .inv .1)
 
--- src/lib.rt:52:1
 returns-2 : tie.Need-returns-2 Inv-loop μ-loop
 returns-2 c =
     let l = c .before in

@@ -6,59 +6,45 @@ use borrow.Author.Needs.{needs}
 use Rattle.gather_same.proofs.same_axis.Statement.{statement}
 use Rattle.gather_same.proofs.same_axis.Tie as tie
 
--- src/lib.rt:33:9
 same-role-requires : tie.Need-same-role-requires
 same-role-requires c κs = search needs
 
--- src/lib.rt:34:9
 same-i64-requires : tie.Need-same-i64-requires
 same-i64-requires c κs = search needs
 
--- src/lib.rt:35:9
 same-i64-requires-2 : tie.Need-same-i64-requires-2
 same-i64-requires-2 c κs = search needs
 
--- src/lib.rt:36:9
 same-i64-requires-3 : tie.Need-same-i64-requires-3
 same-i64-requires-3 c κs = search needs
 
--- src/lib.rt:37:9
 same-i64-requires-4 : tie.Need-same-i64-requires-4
 same-i64-requires-4 c κs = search needs
 
--- src/lib.rt:38:9
 same-i64-requires-5 : tie.Need-same-i64-requires-5
 same-i64-requires-5 c κs = search needs
 
--- src/lib.rt:39:9
 same-i64-requires-6 : tie.Need-same-i64-requires-6
 same-i64-requires-6 c κs = search needs
 
--- src/lib.rt:46:53
 both-requires : tie.Need-both-requires
 both-requires c κs = search needs
 
--- src/lib.rt:46:35
 both-requires-2 : tie.Need-both-requires-2
 both-requires-2 c κs = search needs
 
--- src/lib.rt:46:17
 both-requires-3 : tie.Need-both-requires-3
 both-requires-3 c κs = search needs
 
--- src/lib.rt:44:13
 both-requires-4 : tie.Need-both-requires-4
 both-requires-4 c κs = search needs
 
--- src/lib.rt:42:9
 both-requires-5 : tie.Need-both-requires-5
 both-requires-5 c κs = search needs
 
--- src/lib.rt:40:5
 both-requires-6 : tie.Need-both-requires-6
 both-requires-6 c κs = search needs
 
--- src/lib.rt:28:1
 returns : tie.Need-returns
 unfolding sameAxis
 returns c =

@@ -3,27 +3,21 @@ use borrow.Author.Needs.{needs}
 use Rattle.gather_same.proofs.same_layouts.Statement.{statement}
 use Rattle.gather_same.proofs.same_layouts.Tie as tie
 
--- src/lib.rt:72:9
 same-layout-requires : tie.Need-same-layout-requires
 same-layout-requires c κs = search needs
 
--- src/lib.rt:75:9
 same-layout-requires-2 : tie.Need-same-layout-requires-2
 same-layout-requires-2 c κs = search needs
 
--- src/lib.rt:78:9
 same-layout-requires-3 : tie.Need-same-layout-requires-3
 same-layout-requires-3 c κs = search needs
 
--- src/lib.rt:79:29
 both-requires : tie.Need-both-requires
 both-requires c κs = search needs
 
--- src/lib.rt:79:5
 both-requires-2 : tie.Need-both-requires-2
 both-requires-2 c κs = search needs
 
--- src/lib.rt:67:1
 returns : tie.Need-returns
 unfolding sameLayouts
 returns c = rw (c .both2 .ensures, c .before .both .ensures, c .before .before .same-layout3 .ensures, c .before .before .before .before .before .same-layout2 .ensures, c .before .before .before .before .before .before .before .before .same-layout .ensures)

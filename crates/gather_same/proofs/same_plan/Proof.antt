@@ -3,27 +3,21 @@ use borrow.Author.Needs.{needs}
 use Rattle.gather_same.proofs.same_plan.Statement.{statement}
 use Rattle.gather_same.proofs.same_plan.Tie as tie
 
--- src/lib.rt:129:9
 same-layouts-requires : tie.Need-same-layouts-requires
 same-layouts-requires c κs = search needs
 
--- src/lib.rt:130:9
 same-spec-requires : tie.Need-same-spec-requires
 same-spec-requires c κs = search needs
 
--- src/lib.rt:131:9
 same-walk-requires : tie.Need-same-walk-requires
 same-walk-requires c κs = search needs
 
--- src/lib.rt:132:29
 both-requires : tie.Need-both-requires
 both-requires c κs = search needs
 
--- src/lib.rt:132:5
 both-requires-2 : tie.Need-both-requires-2
 both-requires-2 c κs = search needs
 
--- src/lib.rt:126:1
 returns : tie.Need-returns
 unfolding samePlan
 returns c = rw (c .both2 .ensures, c .before .both .ensures, c .before .before .same-walk .ensures, c .before .before .before .same-spec .ensures, c .before .before .before .before .same-layouts .ensures)

@@ -3,39 +3,30 @@ use borrow.Author.Needs.{needs}
 use Rattle.gather_same.proofs.same_spec.Statement.{statement}
 use Rattle.gather_same.proofs.same_spec.Tie as tie
 
--- src/lib.rt:87:9
 same-numbers-requires : tie.Need-same-numbers-requires
 same-numbers-requires c κs = search needs
 
--- src/lib.rt:90:9
 same-numbers-requires-2 : tie.Need-same-numbers-requires-2
 same-numbers-requires-2 c κs = search needs
 
--- src/lib.rt:93:9
 same-numbers-requires-3 : tie.Need-same-numbers-requires-3
 same-numbers-requires-3 c κs = search needs
 
--- src/lib.rt:96:9
 same-numbers-requires-4 : tie.Need-same-numbers-requires-4
 same-numbers-requires-4 c κs = search needs
 
--- src/lib.rt:102:33
 both-requires : tie.Need-both-requires
 both-requires c κs = search needs
 
--- src/lib.rt:102:13
 both-requires-2 : tie.Need-both-requires-2
 both-requires-2 c κs = search needs
 
--- src/lib.rt:100:9
 both-requires-3 : tie.Need-both-requires-3
 both-requires-3 c κs = search needs
 
--- src/lib.rt:98:5
 both-requires-4 : tie.Need-both-requires-4
 both-requires-4 c κs = search needs
 
--- src/lib.rt:82:1
 returns : tie.Need-returns
 unfolding sameSpec
 returns c = rw (c .both4 .ensures, c .before .both3 .ensures, c .before .before .both2 .ensures, c .before .before .before .both .ensures, c .before .before .before .before .before .before .same-numbers4 .ensures, c .before .before .before .before .before .before .before .before .before .same-numbers3 .ensures, c .before .before .before .before .before .before .before .before .before .before .before .before .same-numbers2 .ensures, c .before .before .before .before .before .before .before .before .before .before .before .before .before .before .before .same-numbers .ensures)

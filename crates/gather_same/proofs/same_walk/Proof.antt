@@ -3,31 +3,24 @@ use borrow.Author.Needs.{needs}
 use Rattle.gather_same.proofs.same_walk.Statement.{statement}
 use Rattle.gather_same.proofs.same_walk.Tie as tie
 
--- src/lib.rt:112:9
 same-axes-requires : tie.Need-same-axes-requires
 same-axes-requires c κs = search needs
 
--- src/lib.rt:115:9
 same-steps-requires : tie.Need-same-steps-requires
 same-steps-requires c κs = search needs
 
--- src/lib.rt:118:9
 same-steps-requires-2 : tie.Need-same-steps-requires-2
 same-steps-requires-2 c κs = search needs
 
--- src/lib.rt:121:33
 both-requires : tie.Need-both-requires
 both-requires c κs = search needs
 
--- src/lib.rt:121:9
 both-requires-2 : tie.Need-both-requires-2
 both-requires-2 c κs = search needs
 
--- src/lib.rt:119:5
 both-requires-3 : tie.Need-both-requires-3
 both-requires-3 c κs = search needs
 
--- src/lib.rt:107:1
 returns : tie.Need-returns
 unfolding sameWalk
 returns c = rw (c .both3 .ensures, c .before .both2 .ensures, c .before .before .both .ensures, c .before .before .before .before .before .same-steps2 .ensures, c .before .before .before .before .before .before .before .before .same-steps .ensures, c .before .before .before .before .before .before .before .before .before .before .before .same-axes .ensures)

@@ -5,23 +5,18 @@ use borrow.Author.Needs.{needs}
 use Rattle.strided.proofs.store.Statement.{statement}
 use Rattle.strided.proofs.store.Tie as tie
 
--- src/lib.rt:362:9
 is-done-requires : tie.Need-is-done-requires
 is-done-requires c κs = tt
 
--- src/lib.rt:363:9
 returns : tie.Need-returns
 returns c = let s = c .before .before .before in not-made (s .args .made) (s .args .out .now) (sym (c .before .is-done .ensures) ∙ not-true _ (c .if1 .taken))
 
--- src/lib.rt:366:5
 write-job-requires : tie.Need-write-job-requires
 write-job-requires c κs = tt
 
--- src/lib.rt:358:1
 same-length : tie.Need-same-length
 same-length c = search needs
 
--- src/lib.rt:358:1
 returns-2 : tie.Need-returns-2
 returns-2 c = let s = c .before .before .before .before .before .before .before .before in was-made (s .args .made) (s .args .out .now) _ (c .before .before .write-job .result) (sym (c .before .before .before .before .before .before .is-done .ensures) ∙ not-false _ (c .before .before .before .before .before .if1 .left)) (c .before .before .write-job .ensures)
 

@@ -4,15 +4,12 @@ use Rattle.strided.specs.Words.{words}
 use Rattle.strided.proofs.strided_read_job.Statement.{statement}
 use Rattle.strided.proofs.strided_read_job.Tie as tie
 
--- src/lib.rt:341:9
 read-job-requires : tie.Need-read-job-requires
 read-job-requires c κs = tt
 
--- src/lib.rt:343:15
 words-of-requires : tie.Need-words-of-requires
 words-of-requires c κs = tt
 
--- src/lib.rt:337:1
 returns : tie.Need-returns
 returns c = c .words-of .ensures ∙ ap (λ (r : ReadJob). words (r .answer)) (c .before .read-job .ensures)
 

@@ -14,30 +14,24 @@ use Rattle.strided.proofs.strided_write_gather_job.Tie as tie
 offsets-fit : (a : tie.Start) → SFits w64 (a .args .operand-offset) × SFits w64 (a .args .index-offset) × SFits w64 (a .args .dest-offset)
 offsets-fit a = (search needs, search needs, search needs)
 
--- src/lib.rt:393:9
 element-of-requires : tie.Need-element-of-requires
 element-of-requires c κs = tt
 
--- src/lib.rt:394:9
 make-gather-job-requires : tie.Need-make-gather-job-requires
 make-gather-job-requires c κs = tt
 
--- src/lib.rt:411:9
 listed-requires : tie.Need-listed-requires
 listed-requires c κs = tt
 
 store-requires : tie.Need-store-requires
 store-requires c κs = tt
 
--- src/lib.rt:412:15
 words-of-requires : tie.Need-words-of-requires
 words-of-requires c κs = tt
 
--- src/lib.rt:371:1
 same-length : tie.Need-same-length
 same-length c = search needs
 
--- src/lib.rt:371:1
 returns : tie.Need-returns
 returns c =
     let s = c .before .before .before .before .before .before .before .before .before .before .before .before .before .before .before .before in

@@ -15,30 +15,24 @@ use Rattle.strided.proofs.strided_write_scatter_job.Tie as tie
 offsets-fit : (a : tie.Start) → SFits w64 (a .args .index-offset) × SFits w64 (a .args .updates-offset) × SFits w64 (a .args .dest-offset)
 offsets-fit a = (search needs, search needs, search needs)
 
--- src/lib.rt:437:9
 element-of-requires : tie.Need-element-of-requires
 element-of-requires c κs = tt
 
--- src/lib.rt:438:9
 make-scatter-job-requires : tie.Need-make-scatter-job-requires
 make-scatter-job-requires c κs = tt
 
--- src/lib.rt:454:9
 listed-requires : tie.Need-listed-requires
 listed-requires c κs = tt
 
 store-requires : tie.Need-store-requires
 store-requires c κs = tt
 
--- src/lib.rt:455:15
 words-of-requires : tie.Need-words-of-requires
 words-of-requires c κs = tt
 
--- src/lib.rt:416:1
 same-length : tie.Need-same-length
 same-length c = search needs
 
--- src/lib.rt:416:1
 returns : tie.Need-returns
 returns c =
     let s = c .before .before .before .before .before .before .before .before .before .before .before .before .before .before .before in
