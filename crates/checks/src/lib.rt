@@ -41,7 +41,7 @@ pub fn check_layouts(
 pub fn check_total(extents: &[u64]) -> Answer
     ensures { λ r. ⌜ r ≡ totalFits (totalOf (now (extents .entry))) ⌝ }
 {
-    let total = spans::total_of(extents);
+    let total = spans::checked_total_len(extents);
     match total {
         CheckedU::Fits(_) => Answer::Done,
         CheckedU::Overflow => Answer::OffsetOverflow,
@@ -53,7 +53,7 @@ pub fn check_span(extents: &[u64], strides: &[i64]) -> Answer
     requires { ⌜ length (now strides) ≡ length (now extents) ⌝ }
     ensures { λ r. ⌜ r ≡ spanFits (spanned (now (extents .entry)) (now (strides .entry))) ⌝ }
 {
-    let span = spans::span_of(extents, strides);
+    let span = spans::validate_layout_span(extents, strides);
     match span {
         OffsetSpan::Fits(_, _) => Answer::Done,
         OffsetSpan::Overflow => Answer::OffsetOverflow,

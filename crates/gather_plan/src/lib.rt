@@ -127,7 +127,7 @@ fn reset_value(extent: u64, step: i64) -> i64
 fn total_value(extents: &[u64]) -> u64
     ensures { λ r. ⌜ r ≡ totalOr (now (extents .entry)) ⌝ }
 {
-    let total = spans::total_of(extents);
+    let total = spans::checked_total_len(extents);
     match total {
         CheckedU::Fits(n) => n,
         CheckedU::Overflow => 0,

@@ -17,8 +17,7 @@ fn product(extents: &[u64]) {
     printing::put(b"product of ");
     printing::put_extents(extents);
     printing::put(b": ");
-    let held = layout::padded_extents(extents);
-    match spans::checked_total_len(held, extents.len()) {
+    match spans::checked_total_len(extents) {
         CheckedU::Fits(n) => {
             printing::put_u64(n);
             printing::end_line();

@@ -27,15 +27,16 @@ use Rattle.job.specs.declared.MadeJob.{MadeJob}
 use Rattle.job.specs.Jobs.{heldList, viewOf, viewsOf, specOf, rankStored, listAtMost, viewsRefusal, listsRefusal, madeJob, jobFrom}
 use Rattle.job.specs.Made.{MadeView, MadeList, MadeSizes, Made}
 
-pub making : (kind : Kind) (element : Element) (e1 : List ℕ) (s1 : List ℤ) (o1 : ℤ) (e2 : List ℕ) (s2 : List ℤ) (o2 : ℤ) (e3 : List ℕ) (s3 : List ℤ) (o3 : ℤ) (window unit map : List ℕ) (vector : ℕ) (sizes : List16)
-    → (r : MadeJob) (x a b : Answer) (j : Job) (f g h : View) (sp : Spec) (lw lu lm : List16) → r ≡ madeJob x j → x ≡ orElse a b
-    → a ≡ viewsRefusal (length e1) (length s1) (length e2) (length s2) (length e3) (length s3) → b ≡ listsRefusal (lw .count) (lu .count) (lm .count) (sizes .count)
+pub making : (kind : Kind) (element : Element) (e1 : List ℕ) (s1 : List ℤ) (o1 : ℤ) (e2 : List ℕ) (s2 : List ℤ) (o2 : ℤ) (e3 : List ℕ) (s3 : List ℤ) (o3 : ℤ) (window unit map : List ℕ) (vector : ℕ) (sizes : List ℕ)
+    → (r : MadeJob) (x a b : Answer) (j : Job) (f g h : View) (sp : Spec) (lw lu lm ls : List16) → r ≡ madeJob x j → x ≡ orElse a b
+    → a ≡ viewsRefusal (length e1) (length s1) (length e2) (length s2) (length e3) (length s3) → b ≡ listsRefusal (lw .count) (lu .count) (lm .count) (ls .count)
     → j ≡ record { kind = kind; element = element; views = viewsOf f g h; spec = sp } → f ≡ viewOf e1 s1 o1 → g ≡ viewOf e2 s2 o2 → h ≡ viewOf e3 s3 o3
-    → sp ≡ record { «window_dims» = lw; «unit_dims» = lu; «start_map» = lm; «index_vector_dim» = vector; «slice_sizes» = sizes } → lw ≡ heldList window → lu ≡ heldList unit → lm ≡ heldList map
-    → r ≡ madeJob (orElse (viewsRefusal (length e1) (length s1) (length e2) (length s2) (length e3) (length s3)) (listsRefusal (length window) (length unit) (length map) (sizes .count))) (record { kind = kind; element = element; views = viewsOf (viewOf e1 s1 o1) (viewOf e2 s2 o2) (viewOf e3 s3 o3); spec = record { «window_dims» = heldList window; «unit_dims» = heldList unit; «start_map» = heldList map; «index_vector_dim» = vector; «slice_sizes» = sizes } })
-making kind element e1 s1 o1 e2 s2 o2 e3 s3 o3 window unit map vector sizes r x a b j f g h sp lw lu lm pr px pa pb pj pf pg ph ps pw pu pm =
-    let ss : sp ≡ record { «window_dims» = heldList window; «unit_dims» = heldList unit; «start_map» = heldList map; «index_vector_dim» = vector; «slice_sizes» = sizes } = ps ∙ (λ i. record { «window_dims» = pw i; «unit_dims» = pu i; «start_map» = pm i; «index_vector_dim» = vector; «slice_sizes» = sizes }) in
-    let bb : b ≡ listsRefusal (length window) (length unit) (length map) (sizes .count) = pb ∙ (λ i. listsRefusal (pw i .count) (pu i .count) (pm i .count) (sizes .count)) in
+    → sp ≡ record { «window_dims» = lw; «unit_dims» = lu; «start_map» = lm; «index_vector_dim» = vector; «slice_sizes» = ls } → lw ≡ heldList window → lu ≡ heldList unit → lm ≡ heldList map → ls ≡ heldList sizes
+    → r ≡ jobFrom kind element e1 s1 o1 e2 s2 o2 e3 s3 o3 window unit map vector sizes
+unfolding jobFrom
+making kind element e1 s1 o1 e2 s2 o2 e3 s3 o3 window unit map vector sizes r x a b j f g h sp lw lu lm ls pr px pa pb pj pf pg ph ps pw pu pm pz =
+    let ss : sp ≡ specOf window unit map vector sizes = ps ∙ (λ i. record { «window_dims» = pw i; «unit_dims» = pu i; «start_map» = pm i; «index_vector_dim» = vector; «slice_sizes» = pz i }) in
+    let bb : b ≡ listsRefusal (length window) (length unit) (length map) (length sizes) = pb ∙ (λ i. listsRefusal (pw i .count) (pu i .count) (pm i .count) (pz i .count)) in
     pr ∙ ap₂ madeJob (px ∙ ap₂ orElse pa bb) (pj ∙ (λ i. record { kind = kind; element = element; views = viewsOf (pf i) (pg i) (ph i); spec = ss i }))
 
 -- ---- what a job that is done tells of its parts

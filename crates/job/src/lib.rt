@@ -217,7 +217,7 @@ fn made_job(answer: Answer, job: Job) -> MadeJob
     }
 }
 
-// A job from its parts, with its slice sizes as they are held: refusals 1, 2, 5, or the job.
+// A job from its parts: refusals 1, 2, 5, or the job.
 fn make_job(
     kind: Kind,
     element: Element,
@@ -234,9 +234,9 @@ fn make_job(
     unit_dims: &[u64],
     start_map: &[u64],
     index_vector_dim: u64,
-    sizes: List16,
+    slice_sizes: &[u64],
 ) -> MadeJob
-    ensures { λ r. ⌜ r ≡ madeJob (orElse (viewsRefusal (length (now («first_extents» .entry))) (length (now («first_strides» .entry))) (length (now («second_extents» .entry))) (length (now («second_strides» .entry))) (length (now («third_extents» .entry))) (length (now («third_strides» .entry)))) (listsRefusal (length (now («window_dims» .entry))) (length (now («unit_dims» .entry))) (length (now («start_map» .entry))) (sizes .count))) (record { kind = kind; element = element; views = viewsOf (viewOf (now («first_extents» .entry)) (now («first_strides» .entry)) «first_offset») (viewOf (now («second_extents» .entry)) (now («second_strides» .entry)) «second_offset») (viewOf (now («third_extents» .entry)) (now («third_strides» .entry)) «third_offset»); spec = record { «window_dims» = heldList (now («window_dims» .entry)); «unit_dims» = heldList (now («unit_dims» .entry)); «start_map» = heldList (now («start_map» .entry)); «index_vector_dim» = «index_vector_dim»; «slice_sizes» = sizes } }) ⌝ }
+    ensures { λ r. ⌜ r ≡ jobFrom kind element (now («first_extents» .entry)) (now («first_strides» .entry)) «first_offset» (now («second_extents» .entry)) (now («second_strides» .entry)) «second_offset» (now («third_extents» .entry)) (now («third_strides» .entry)) «third_offset» (now («window_dims» .entry)) (now («unit_dims» .entry)) (now («start_map» .entry)) «index_vector_dim» (now («slice_sizes» .entry)) ⌝ }
 {
     let a = check_views(
         first_extents.len(),
@@ -252,6 +252,7 @@ fn make_job(
     let window = list_from(window_dims);
     let unit = list_from(unit_dims);
     let map = list_from(start_map);
+    let sizes = list_from(slice_sizes);
     let b = check_lists(window, unit, map, sizes);
     let spec = spec_from(window, unit, map, index_vector_dim, sizes);
     let job = job_from(kind, element, first, second, third, spec);
@@ -278,7 +279,6 @@ pub fn make_gather_job(
 ) -> MadeJob
     ensures { λ r. ⌜ r ≡ jobFrom K.Gather element (now («operand_extents» .entry)) (now («operand_strides» .entry)) «operand_offset» (now («index_extents» .entry)) (now («index_strides» .entry)) «index_offset» (now («dest_extents» .entry)) (now («dest_strides» .entry)) «dest_offset» (now («offset_dims» .entry)) (now («collapsed_slice_dims» .entry)) (now («start_index_map» .entry)) «index_vector_dim» (now («slice_sizes» .entry)) ⌝ }
 {
-    let sizes = list_from(slice_sizes);
     make_job(
         Kind::Gather,
         element,
@@ -295,7 +295,7 @@ pub fn make_gather_job(
         collapsed_slice_dims,
         start_index_map,
         index_vector_dim,
-        sizes,
+        slice_sizes,
     )
 }
 
@@ -318,7 +318,7 @@ pub fn make_scatter_job(
 ) -> MadeJob
     ensures { λ r. ⌜ r ≡ jobFrom K.Scatter element (now («index_extents» .entry)) (now («index_strides» .entry)) «index_offset» (now («update_extents» .entry)) (now («update_strides» .entry)) «update_offset» (now («dest_extents» .entry)) (now («dest_strides» .entry)) «dest_offset» (now («update_window_dims» .entry)) (now («inserted_window_dims» .entry)) (now («scatter_dims_to_operand_dims» .entry)) «index_vector_dim» [] ⌝ }
 {
-    let sizes = no_list();
+    let none = [0u64; 1];
     make_job(
         Kind::Scatter,
         element,
@@ -335,7 +335,7 @@ pub fn make_scatter_job(
         inserted_window_dims,
         scatter_dims_to_operand_dims,
         index_vector_dim,
-        sizes,
+        &none[0..0],
     )
 }
 

@@ -277,8 +277,8 @@ pub fn compile_window_replay(
 ) -> CompiledReplay
     ensures { λ r. ⌜ r ≡ compiledReplay (take rank shape) (take rank «source_strides») (take rank «dest_strides») ⌝ }
 {
-    let source_span = spans::validate_layout_span(shape, source_strides, rank);
-    let dest_span = spans::validate_layout_span(shape, dest_strides, rank);
+    let source_span = spans::held_span(shape, source_strides, rank);
+    let dest_span = spans::held_span(shape, dest_strides, rank);
     match source_span {
         OffsetSpan::Fits(source_low, source_high) => match dest_span {
             OffsetSpan::Fits(dest_low, dest_high) => {

@@ -6,9 +6,8 @@ ghost use lib.IntN.{pos};
 ghost use lib.ListN.{length};
 ghost use Rattle.indexing.specs.Scatter.{scattered};
 ghost use Rattle.runs.specs.Runs.{ruleI32, ruleF64};
-ghost use Rattle.scatter_windows.specs.Scattering.{scatteredBy, Scattering};
-ghost use Rattle.driven.specs.Driving.{Rowed};
 ghost use Rattle.calls.specs.Calls.{Does, asIs};
+ghost use Rattle.scatter_move.specs.Batches.{BatchesFrom, afterBatches};
 ghost use Rattle.scatter_move.specs.Prepared.{stepsAt, Cells, Movable};
 use layout::Answer;
 use layout::RAW_FUSED_RANK_LIMIT;
@@ -119,8 +118,8 @@ fn run_i32(
     into: &mut [i32],
     at: i64,
 )
-    requires { ⌜ Scattering (now starts) (p .numbers .offsets) (p .numbers .strides) (p .numbers .limits) (p .numbers .count) (p .index) (p .updates) at (p .numbers .«batch_extents») (p .numbers .«index_steps») (p .numbers .«update_steps») (p .numbers .«batch_rank») (p .numbers .«window_extents») (p .numbers .«window_steps») (p .numbers .«dest_steps») (p .numbers .«window_rank») (length (now source)) (length (now into)) × Rowed (p .index) (p .updates) (p .numbers .«batch_extents») (p .numbers .«index_steps») (p .numbers .«update_steps») rows (p .numbers .«batch_rank») (p .numbers .batches) (p .numbers .count) (p .numbers .«window_extents») (p .numbers .«window_rank») ⌝ }
-    ensures { λ _. ⌜ now (into .exit) ≡ scatteredBy (pos 0) (ruleI32 rule) (now (source .entry)) (now (starts .entry)) (p .numbers .offsets) (p .numbers .strides) (p .numbers .limits) (p .numbers .count) (p .index) (p .updates) at (p .numbers .«batch_extents») (p .numbers .«index_steps») (p .numbers .«update_steps») (p .numbers .«batch_rank») (p .numbers .«window_extents») (p .numbers .«window_steps») (p .numbers .«dest_steps») (p .numbers .«window_rank») (now (into .entry)) ⌝ }
+    requires { ⌜ BatchesFrom p rows (now starts) at (length (now source)) (length (now into)) ⌝ }
+    ensures { λ _. ⌜ now (into .exit) ≡ afterBatches (pos 0) (ruleI32 rule) p (now (source .entry)) (now (starts .entry)) at (now (into .entry)) ⌝ }
 {
     let numbers = p.numbers;
     let batch_extents = numbers.batch_extents;
@@ -215,8 +214,8 @@ fn run_f64(
     into: &mut [f64],
     at: i64,
 )
-    requires { ⌜ Scattering (now starts) (p .numbers .offsets) (p .numbers .strides) (p .numbers .limits) (p .numbers .count) (p .index) (p .updates) at (p .numbers .«batch_extents») (p .numbers .«index_steps») (p .numbers .«update_steps») (p .numbers .«batch_rank») (p .numbers .«window_extents») (p .numbers .«window_steps») (p .numbers .«dest_steps») (p .numbers .«window_rank») (length (now source)) (length (now into)) × Rowed (p .index) (p .updates) (p .numbers .«batch_extents») (p .numbers .«index_steps») (p .numbers .«update_steps») rows (p .numbers .«batch_rank») (p .numbers .batches) (p .numbers .count) (p .numbers .«window_extents») (p .numbers .«window_rank») ⌝ }
-    ensures { λ _. ⌜ now (into .exit) ≡ scatteredBy nan (ruleF64 rule) (now (source .entry)) (now (starts .entry)) (p .numbers .offsets) (p .numbers .strides) (p .numbers .limits) (p .numbers .count) (p .index) (p .updates) at (p .numbers .«batch_extents») (p .numbers .«index_steps») (p .numbers .«update_steps») (p .numbers .«batch_rank») (p .numbers .«window_extents») (p .numbers .«window_steps») (p .numbers .«dest_steps») (p .numbers .«window_rank») (now (into .entry)) ⌝ }
+    requires { ⌜ BatchesFrom p rows (now starts) at (length (now source)) (length (now into)) ⌝ }
+    ensures { λ _. ⌜ now (into .exit) ≡ afterBatches nan (ruleF64 rule) p (now (source .entry)) (now (starts .entry)) at (now (into .entry)) ⌝ }
 {
     let numbers = p.numbers;
     let batch_extents = numbers.batch_extents;

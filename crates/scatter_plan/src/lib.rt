@@ -93,7 +93,7 @@ fn product_value(axes: &[u64], list: &[u64]) -> u64
 {
     let sizes = scatter_checks::picked_extents(axes, list);
     let n = axes.len();
-    let total = spans::total_of(&sizes[0..n]);
+    let total = spans::checked_total_len(&sizes[0..n]);
     match total {
         CheckedU::Fits(m) => m,
         CheckedU::Overflow => 0,

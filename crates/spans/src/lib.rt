@@ -16,7 +16,7 @@ use layout::Reach;
 use layout::View;
 
 // The product of the extents, left to right.
-pub fn total_of(extents: &[u64]) -> CheckedU
+pub fn checked_total_len(extents: &[u64]) -> CheckedU
     ensures { λ r. ⌜ r ≡ totalOf (now (extents .entry)) ⌝ }
 {
     let mut acc: u64 = 1;
@@ -37,7 +37,7 @@ pub fn total_of(extents: &[u64]) -> CheckedU
 }
 
 // The lowest and the highest sum of stride times coordinate.
-pub fn span_of(extents: &[u64], strides: &[i64]) -> OffsetSpan
+pub fn validate_layout_span(extents: &[u64], strides: &[i64]) -> OffsetSpan
     requires { ⌜ length (now strides) ≡ length (now extents) ⌝ }
     ensures { λ r. ⌜ r ≡ spanned (now (extents .entry)) (now (strides .entry)) ⌝ }
 {
@@ -174,14 +174,7 @@ pub fn reach_of(extents: &[u64], strides: &[i64], offset: i64, len: usize) -> Re
     layout::cells_within(at, down, up, len)
 }
 
-pub fn checked_total_len(extents: [u64; RAW_FUSED_RANK_LIMIT], rank: usize) -> CheckedU
-    ensures { λ r. ⌜ r ≡ totalOf (take rank extents) ⌝ }
-{
-    let n = layout::axis_count(rank);
-    total_of(&extents[0..n])
-}
-
-pub fn validate_layout_span(
+pub fn held_span(
     extents: [u64; RAW_FUSED_RANK_LIMIT],
     strides: [i64; RAW_FUSED_RANK_LIMIT],
     rank: usize,
@@ -189,7 +182,7 @@ pub fn validate_layout_span(
     ensures { λ r. ⌜ r ≡ spanned (take rank extents) (take rank strides) ⌝ }
 {
     let n = layout::axis_count(rank);
-    span_of(&extents[0..n], &strides[0..n])
+    validate_layout_span(&extents[0..n], &strides[0..n])
 }
 
 pub fn has_zero(extents: [u64; RAW_FUSED_RANK_LIMIT], rank: usize) -> bool

@@ -36,7 +36,7 @@ fn span(extents: &[u64], strides: &[i64]) {
     printing::put(b":");
     let e = layout::padded_extents(extents);
     let s = layout::padded_strides(strides);
-    match spans::validate_layout_span(e, s, extents.len()) {
+    match spans::held_span(e, s, extents.len()) {
         OffsetSpan::Fits(low, high) => {
             printing::put(b" ");
             printing::put_i64(low);
@@ -187,7 +187,7 @@ fn walk_window(extents: &[u64], sources: &[i64], dests: &[i64], source_base: i64
     let shape = layout::padded_extents(extents);
     let s = layout::padded_strides(sources);
     let d = layout::padded_strides(dests);
-    match spans::checked_total_len(shape, extents.len()) {
+    match spans::checked_total_len(extents) {
         CheckedU::Fits(total) => walk_from(
             shape,
             s,

@@ -4,7 +4,7 @@ use Rattle.axis_lists.proofs.left_over.Statement.{statement}
 use Rattle.axis_lists.proofs.left_over.Tie as tie
 
 axis-count-requires : tie.Need-axis-count-requires
-axis-count-requires c κs = search needs
+axis-count-requires c κs = tt
 
 sub-result : tie.Need-sub-result
 sub-result c = search needs

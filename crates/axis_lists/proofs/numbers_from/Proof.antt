@@ -1,11 +1,10 @@
 use mathlib.Core.Path.{refl}
 use Rattle.axis_lists.proofs.Filling.{numbers-are}
-use borrow.Author.Needs.{needs}
 use Rattle.axis_lists.proofs.numbers_from.Statement.{statement}
 use Rattle.axis_lists.proofs.numbers_from.Tie as tie
 
 padded-numbers-requires : tie.Need-padded-numbers-requires
-padded-numbers-requires c κs = search needs
+padded-numbers-requires c κs = tt
 
 returns : tie.Need-returns
 returns c = numbers-are _ _ (c .before .before .args .list .now) refl (c .padded-numbers .ensures)

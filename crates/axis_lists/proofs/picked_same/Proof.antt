@@ -31,7 +31,7 @@ shared-slice-read-entry-at : tie.Need-shared-slice-read-entry-at Inv-loop μ-loo
 shared-slice-read-entry-at c = search needs
 
 entry-at-requires : tie.Need-entry-at-requires Inv-loop μ-loop
-entry-at-requires c κs = search needs
+entry-at-requires c κs = tt
 
 mul-entry-at-2 : tie.Need-mul-entry-at-2 Inv-loop μ-loop
 mul-entry-at-2 c = search needs
@@ -40,7 +40,7 @@ shared-slice-read-entry-at-2 : tie.Need-shared-slice-read-entry-at-2 Inv-loop μ
 shared-slice-read-entry-at-2 c = search needs
 
 entry-at-requires-2 : tie.Need-entry-at-requires-2 Inv-loop μ-loop
-entry-at-requires-2 c κs = search needs
+entry-at-requires-2 c κs = tt
 
 returns-2 : tie.Need-returns-2 Inv-loop μ-loop
 returns-2 c =

@@ -32,7 +32,7 @@ ones-requires : tie.Need-ones-requires Inv-loop μ-loop
 ones-requires c κs = search needs
 
 both-counts-requires : tie.Need-both-counts-requires Inv-loop μ-loop
-both-counts-requires c κs = search needs
+both-counts-requires c κs = tt
 
 loop-holds : tie.Need-loop-holds Inv-loop μ-loop
 loop-holds c =
@@ -58,7 +58,7 @@ array-read-with-number-2 : tie.Need-array-read-with-number-2 Inv-loop μ-loop
 array-read-with-number-2 c = omega (arith, c .before .loop .inv .0, c .before .loop .inv .1, c .loop-test .taken)
 
 with-number-requires : tie.Need-with-number-requires Inv-loop μ-loop
-with-number-requires c κs = search needs
+with-number-requires c κs = tt
 
 loop-less : tie.Need-loop-less Inv-loop μ-loop
 loop-less c = omega (arith, c .before .loop-test .taken)

@@ -25,10 +25,10 @@ abbrev μ-loop : tie.MeasureT-loop
 μ-loop n places axes list m out₀ i₀ out i = i
 
 axis-count-requires : tie.Need-axis-count-requires Inv-loop μ-loop
-axis-count-requires c κs = search needs
+axis-count-requires c κs = tt
 
 fewer-requires : tie.Need-fewer-requires Inv-loop μ-loop
-fewer-requires c κs = search needs
+fewer-requires c κs = tt
 
 loop-holds : tie.Need-loop-holds Inv-loop μ-loop
 loop-holds c =
@@ -51,7 +51,7 @@ shared-slice-read-stride-at : tie.Need-shared-slice-read-stride-at Inv-loop μ-l
 shared-slice-read-stride-at c = omega (arith, c .before .before .before .loop .inv .0)
 
 stride-at-requires : tie.Need-stride-at-requires Inv-loop μ-loop
-stride-at-requires c κs = search needs
+stride-at-requires c κs = tt
 
 mul-out : tie.Need-mul-out Inv-loop μ-loop
 mul-out c = search needs

@@ -29,10 +29,10 @@ abbrev μ-loop : tie.MeasureT-loop
 μ-loop n places values out₀ i₀ out i = i
 
 axis-count-requires : tie.Need-axis-count-requires Inv-loop μ-loop
-axis-count-requires c κs = search needs
+axis-count-requires c κs = tt
 
 both-counts-requires : tie.Need-both-counts-requires Inv-loop μ-loop
-both-counts-requires c κs = search needs
+both-counts-requires c κs = tt
 
 loop-holds : tie.Need-loop-holds Inv-loop μ-loop
 loop-holds c =
@@ -58,7 +58,7 @@ array-copy-out-with-step : tie.Need-array-copy-out-with-step Inv-loop μ-loop
 array-copy-out-with-step c = omega (arith, c .before .loop .inv .0, c .before .loop .inv .1, c .loop-test .taken)
 
 with-step-requires : tie.Need-with-step-requires Inv-loop μ-loop
-with-step-requires c κs = search needs
+with-step-requires c κs = tt
 
 loop-less : tie.Need-loop-less Inv-loop μ-loop
 loop-less c = omega (arith, c .before .before .loop-test .taken)

@@ -12,7 +12,7 @@ use Rattle.axis_lists.proofs.step_at.Statement.{statement}
 use Rattle.axis_lists.proofs.step_at.Tie as tie
 
 axis-count-requires : tie.Need-axis-count-requires
-axis-count-requires c κs = search needs
+axis-count-requires c κs = tt
 
 mul-result : tie.Need-mul-result
 mul-result c = search needs

@@ -10,7 +10,7 @@ use Rattle.axis_lists.proofs.strides_of.Statement.{statement}
 use Rattle.axis_lists.proofs.strides_of.Tie as tie
 
 axis-count-requires : tie.Need-axis-count-requires
-axis-count-requires c κs = search needs
+axis-count-requires c κs = tt
 
 sub-padded-strides : tie.Need-sub-padded-strides
 sub-padded-strides c = search needs
@@ -26,7 +26,7 @@ part-padded-strides-end c =
     part-fits (a .axis-count .result) (l .rank) rankLimit (l .strides) (a .axis-count .ensures) e
 
 padded-strides-requires : tie.Need-padded-strides-requires
-padded-strides-requires c κs = search needs
+padded-strides-requires c κs = tt
 
 returns : tie.Need-returns
 returns c =

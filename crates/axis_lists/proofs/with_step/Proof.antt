@@ -8,7 +8,7 @@ use Rattle.axis_lists.proofs.with_step.Statement.{statement}
 use Rattle.axis_lists.proofs.with_step.Tie as tie
 
 axis-count-requires : tie.Need-axis-count-requires
-axis-count-requires c κs = search needs
+axis-count-requires c κs = tt
 
 mul-next : tie.Need-mul-next
 mul-next c = search needs

@@ -27,7 +27,7 @@ at-most true m n e h = omega arith
 at-most false m n e h = omega arith
 
 left-over-requires : tie.Need-left-over-requires Inv-loop μ-loop
-left-over-requires c κs = search needs
+left-over-requires c κs = tt
 
 loop-holds : tie.Need-loop-holds Inv-loop μ-loop
 loop-holds c =
@@ -41,7 +41,7 @@ put-back-requires : tie.Need-put-back-requires Inv-loop μ-loop
 put-back-requires c κs = omega (arith, c .before .loop .inv .2, c .loop-test .taken)
 
 step-at-requires : tie.Need-step-at-requires Inv-loop μ-loop
-step-at-requires c κs = search needs
+step-at-requires c κs = tt
 
 mul-out : tie.Need-mul-out Inv-loop μ-loop
 mul-out c = search needs

@@ -48,7 +48,7 @@ shared-slice-copy-out-y : tie.Need-shared-slice-copy-out-y Inv-loop μ-loop
 shared-slice-copy-out-y c = search needs
 
 same-i64-requires : tie.Need-same-i64-requires Inv-loop μ-loop
-same-i64-requires c κs = search needs
+same-i64-requires c κs = tt
 
 returns-2 : tie.Need-returns-2 Inv-loop μ-loop
 returns-2 c =

@@ -1,13 +1,12 @@
-use borrow.Author.Needs.{needs}
 use Rattle.calls.proofs.Same.{extents-same, strides-same}
 use Rattle.calls.proofs.same_view.Statement.{statement}
 use Rattle.calls.proofs.same_view.Tie as tie
 
 same-extents-requires : tie.Need-same-extents-requires
-same-extents-requires c κs = search needs
+same-extents-requires c κs = tt
 
 same-strides-requires : tie.Need-same-strides-requires
-same-strides-requires c κs = search needs
+same-strides-requires c κs = tt
 
 returns : tie.Need-returns
 returns c = rw (← extents-same (c .before .before .same-extents .ensures), c .before .if1 .taken) (strides-same (c .same-strides .ensures))

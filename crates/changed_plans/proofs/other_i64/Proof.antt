@@ -5,10 +5,10 @@ use Rattle.changed_plans.proofs.other_i64.Statement.{statement}
 use Rattle.changed_plans.proofs.other_i64.Tie as tie
 
 sum-requires : tie.Need-sum-requires
-sum-requires c κs = search needs
+sum-requires c κs = tt
 
 sum-requires-2 : tie.Need-sum-requires-2
-sum-requires-2 c κs = search needs
+sum-requires-2 c κs = tt
 
 sub-result : tie.Need-sub-result
 sub-result c = rw (back (c .before .before .fits .n)) (simp znorm (simp zflat (omega (arith, known (c .before .before .fits .n)))))

@@ -22,10 +22,10 @@ loop-holds : tie.Need-loop-holds Inv-loop μ-loop
 loop-holds c = (zero-le, first-starts _ _)
 
 check-offset-requires : tie.Need-check-offset-requires Inv-loop μ-loop
-check-offset-requires c κs = search needs
+check-offset-requires c κs = tt
 
 is-done-requires : tie.Need-is-done-requires Inv-loop μ-loop
-is-done-requires c κs = search needs
+is-done-requires c κs = tt
 
 returns : tie.Need-returns Inv-loop μ-loop
 returns c =

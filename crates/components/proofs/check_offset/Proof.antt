@@ -8,7 +8,7 @@ use Rattle.components.proofs.check_offset.Statement.{statement}
 use Rattle.components.proofs.check_offset.Tie as tie
 
 checked-offset-add-requires : tie.Need-checked-offset-add-requires
-checked-offset-add-requires c κs = search needs
+checked-offset-add-requires c κs = tt
 
 enum-told : tie.Need-enum-told
 enum-told c = search needs

@@ -12,13 +12,13 @@ lengths : (s : tie.Start) → (length (s .args .layout .extents) ≡ rankLimit) 
 lengths s = (search needs, search needs, search needs)
 
 axis-count-requires : tie.Need-axis-count-requires
-axis-count-requires c κs = search needs
+axis-count-requires c κs = tt
 
 axis-count-requires-2 : tie.Need-axis-count-requires-2
-axis-count-requires-2 c κs = search needs
+axis-count-requires-2 c κs = tt
 
 axis-count-requires-3 : tie.Need-axis-count-requires-3
-axis-count-requires-3 c κs = search needs
+axis-count-requires-3 c κs = tt
 
 sub-limits-on : tie.Need-sub-limits-on
 sub-limits-on c = search needs
@@ -48,7 +48,7 @@ part-limits-on-end-3 : tie.Need-part-limits-on-end-3
 part-limits-on-end-3 c = let s = c .before .before .before .before .before .before .before .before .before .before .before in part-fits (c .before .before .before .before .before .before .axis-count2 .result) (s .args .sizes .count) (s .args .sizes .entries) (c .before .before .before .before .before .before .axis-count2 .ensures) (lengths s .1)
 
 limits-on-requires : tie.Need-limits-on-requires
-limits-on-requires c κs = search needs
+limits-on-requires c κs = tt
 
 returns : tie.Need-returns
 returns c =

@@ -22,16 +22,16 @@ loop-holds : tie.Need-loop-holds Inv-loop μ-loop
 loop-holds c = (zero-le, refl)
 
 entry-at-requires : tie.Need-entry-at-requires Inv-loop μ-loop
-entry-at-requires c κs = search needs
+entry-at-requires c κs = tt
 
 entry-at-requires-2 : tie.Need-entry-at-requires-2 Inv-loop μ-loop
-entry-at-requires-2 c κs = search needs
+entry-at-requires-2 c κs = tt
 
 entry-at-requires-3 : tie.Need-entry-at-requires-3 Inv-loop μ-loop
-entry-at-requires-3 c κs = search needs
+entry-at-requires-3 c κs = tt
 
 last-start-requires : tie.Need-last-start-requires Inv-loop μ-loop
-last-start-requires c κs = search needs
+last-start-requires c κs = tt
 
 mul-out : tie.Need-mul-out Inv-loop μ-loop
 mul-out c = search needs

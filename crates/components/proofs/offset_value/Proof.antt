@@ -10,7 +10,7 @@ use Rattle.components.proofs.offset_value.Statement.{statement}
 use Rattle.components.proofs.offset_value.Tie as tie
 
 checked-offset-add-requires : tie.Need-checked-offset-add-requires
-checked-offset-add-requires c κs = search needs
+checked-offset-add-requires c κs = tt
 
 enum-known-offset : tie.Need-enum-known-offset
 enum-known-offset c = search needs

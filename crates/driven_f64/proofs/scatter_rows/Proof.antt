@@ -30,7 +30,7 @@ module _ (o : tie.After-one-cell) where
       some-cells (take (start .args .wrank) (start .args .wextents .now)) (sym (z .has-zero2 .ensures) ∙ e .if2 .left)
 
 has-zero-requires : tie.Need-has-zero-requires
-has-zero-requires c κs = search needs
+has-zero-requires c κs = tt
 
 returns : tie.Need-returns
 returns c =
@@ -39,7 +39,7 @@ returns c =
     no-batch (a .args .starts .now) (a .args .offsets .now) (a .args .strides .now) (a .args .limits .now) (a .args .count) (a .args .t) (a .args .u) (a .args .d) (a .args .bextents .now) (a .args .ts .now) (a .args .us .now) (a .args .brank) (a .args .wextents .now) (a .args .ws .now) (a .args .ds .now) (a .args .wrank) nan (ruleF64 (a .args .rule)) (a .args .src .now) (a .args .dst .now) (sym (z .has-zero .ensures) ∙ c .if1 .taken)
 
 has-zero-requires-2 : tie.Need-has-zero-requires-2
-has-zero-requires-2 c κs = search needs
+has-zero-requires-2 c κs = tt
 
 returns-2 : tie.Need-returns-2
 returns-2 c =

@@ -44,7 +44,7 @@ array-copy-out-y : tie.Need-array-copy-out-y Inv-loop μ-loop
 array-copy-out-y c = search needs
 
 same-i64-requires : tie.Need-same-i64-requires Inv-loop μ-loop
-same-i64-requires c κs = search needs
+same-i64-requires c κs = tt
 
 returns : tie.Need-returns Inv-loop μ-loop
 returns c =

@@ -1,12 +1,11 @@
-use borrow.Author.Needs.{needs}
 use Rattle.equality.proofs.same_numbers.Statement.{statement}
 use Rattle.equality.proofs.same_numbers.Tie as tie
 
 same-u64s-requires : tie.Need-same-u64s-requires
-same-u64s-requires c κs = search needs
+same-u64s-requires c κs = tt
 
 both-requires : tie.Need-both-requires
-both-requires c κs = search needs
+both-requires c κs = tt
 
 returns : tie.Need-returns
 returns c = rw (c .both .ensures, c .before .before .before .same-u64s .ensures)

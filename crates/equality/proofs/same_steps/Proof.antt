@@ -1,12 +1,11 @@
-use borrow.Author.Needs.{needs}
 use Rattle.equality.proofs.same_steps.Statement.{statement}
 use Rattle.equality.proofs.same_steps.Tie as tie
 
 same-i64s-requires : tie.Need-same-i64s-requires
-same-i64s-requires c κs = search needs
+same-i64s-requires c κs = tt
 
 both-requires : tie.Need-both-requires
-both-requires c κs = search needs
+both-requires c κs = tt
 
 returns : tie.Need-returns
 returns c = rw (c .both .ensures, c .before .before .before .same-i64s .ensures)

@@ -5,7 +5,7 @@ use Rattle.gather.proofs.gather_f64.Statement.{statement}
 use Rattle.gather.proofs.gather_f64.Tie as tie
 
 prepare-requires : tie.Need-prepare-requires
-prepare-requires c κs = search needs
+prepare-requires c κs = tt
 
 move-f64-requires : tie.Need-move-f64-requires
 move-f64-requires c κs = movable (c .before .prepare .ensures)

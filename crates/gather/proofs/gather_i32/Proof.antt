@@ -5,7 +5,7 @@ use Rattle.gather.proofs.gather_i32.Statement.{statement}
 use Rattle.gather.proofs.gather_i32.Tie as tie
 
 prepare-requires : tie.Need-prepare-requires
-prepare-requires c κs = search needs
+prepare-requires c κs = tt
 
 move-i32-requires : tie.Need-move-i32-requires
 move-i32-requires c κs = movable (c .before .prepare .ensures)

@@ -1,19 +1,18 @@
-use borrow.Author.Needs.{needs}
 use Rattle.gather.proofs.Planned.{numbers-are}
 use Rattle.gather.proofs.numbers_of.Statement.{statement}
 use Rattle.gather.proofs.numbers_of.Tie as tie
 
 window-steps-requires : tie.Need-window-steps-requires
-window-steps-requires c κs = search needs
+window-steps-requires c κs = tt
 
 batch-steps-requires : tie.Need-batch-steps-requires
-batch-steps-requires c κs = search needs
+batch-steps-requires c κs = tt
 
 unless-none-requires : tie.Need-unless-none-requires
-unless-none-requires c κs = search needs
+unless-none-requires c κs = tt
 
 limits-of-requires : tie.Need-limits-of-requires
-limits-of-requires c κs = search needs
+limits-of-requires c κs = tt
 
 returns : tie.Need-returns
 returns c = let s = c .before .before .before .before .before .before .before .before .before .before .before .before .before .before .before in numbers-are (s .args .plan) (s .pre) _ _ _ _ (c .before .before .before .before .before .before .before .window-steps .ensures) (c .before .before .before .before .before .before .batch-steps .ensures) (c .before .before .before .before .before .unless-none .ensures) (c .before .before .before .before .limits-of .ensures)

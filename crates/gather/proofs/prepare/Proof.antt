@@ -17,31 +17,31 @@ use Rattle.gather.proofs.prepare.Statement.{statement}
 use Rattle.gather.proofs.prepare.Tie as tie
 
 plan-fits-requires : tie.Need-plan-fits-requires
-plan-fits-requires c κs = search needs
+plan-fits-requires c κs = tt
 
 check-plan-requires : tie.Need-check-plan-requires
-check-plan-requires c κs = search needs
+check-plan-requires c κs = tt
 
 view-reach-requires : tie.Need-view-reach-requires
-view-reach-requires c κs = search needs
+view-reach-requires c κs = tt
 
 view-reach-requires-2 : tie.Need-view-reach-requires-2
-view-reach-requires-2 c κs = search needs
+view-reach-requires-2 c κs = tt
 
 view-reach-requires-3 : tie.Need-view-reach-requires-3
-view-reach-requires-3 c κs = search needs
+view-reach-requires-3 c κs = tt
 
 check-bounds-requires : tie.Need-check-bounds-requires
-check-bounds-requires c κs = search needs
+check-bounds-requires c κs = tt
 
 or-else-requires : tie.Need-or-else-requires
-or-else-requires c κs = search needs
+or-else-requires c κs = tt
 
 is-done-requires : tie.Need-is-done-requires
-is-done-requires c κs = search needs
+is-done-requires c κs = tt
 
 refused-requires : tie.Need-refused-requires
-refused-requires c κs = search needs
+refused-requires c κs = tt
 
 returns : tie.Need-returns
 returns c =
@@ -57,7 +57,7 @@ numbers-of-requires c κs =
     compiled (s .args .plan) (s .args .operand) (s .args .index) (s .args .dest) (s .args .operand-len) (s .args .starts-len) (s .args .dest-len) (ap isDone (sym a) ∙ sym (c .before .is-done .ensures) ∙ not-false _ (c .if1 .left))
 
 start-base-requires : tie.Need-start-base-requires
-start-base-requires c κs = search needs
+start-base-requires c κs = tt
 
 returns-2 : tie.Need-returns-2
 unfolding gatherNumbers

@@ -1,22 +1,21 @@
 use Rattle.integer.specs.Z.{back}
-use borrow.Author.Needs.{needs}
 use Rattle.gather_checks.proofs.check_axis.Statement.{statement}
 use Rattle.gather_checks.proofs.check_axis.Tie as tie
 
 check-reset-requires : tie.Need-check-reset-requires
-check-reset-requires c κs = search needs
+check-reset-requires c κs = tt
 
 check-reset-requires-2 : tie.Need-check-reset-requires-2
-check-reset-requires-2 c κs = search needs
+check-reset-requires-2 c κs = tt
 
 check-reset-requires-3 : tie.Need-check-reset-requires-3
-check-reset-requires-3 c κs = search needs
+check-reset-requires-3 c κs = tt
 
 or-else-requires : tie.Need-or-else-requires
-or-else-requires c κs = search needs
+or-else-requires c κs = tt
 
 or-else-requires-2 : tie.Need-or-else-requires-2
-or-else-requires-2 c κs = search needs
+or-else-requires-2 c κs = tt
 
 returns : tie.Need-returns
 returns c =

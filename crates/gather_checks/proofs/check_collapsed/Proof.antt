@@ -24,7 +24,7 @@ shared-slice-read-axis : tie.Need-shared-slice-read-axis Inv-loop μ-loop
 shared-slice-read-axis c = search needs
 
 entry-at-requires : tie.Need-entry-at-requires Inv-loop μ-loop
-entry-at-requires c κs = search needs
+entry-at-requires c κs = tt
 
 returns : tie.Need-returns Inv-loop μ-loop
 returns c =

@@ -7,7 +7,7 @@ use Rattle.gather_checks.proofs.check_reset.Statement.{statement}
 use Rattle.gather_checks.proofs.check_reset.Tie as tie
 
 checked-replay-reset-requires : tie.Need-checked-replay-reset-requires
-checked-replay-reset-requires c κs = search needs
+checked-replay-reset-requires c κs = tt
 
 enum-told : tie.Need-enum-told
 enum-told c = search needs

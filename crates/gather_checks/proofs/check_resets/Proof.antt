@@ -7,10 +7,10 @@ check-axes-requires : tie.Need-check-axes-requires
 check-axes-requires c κs = search needs
 
 check-components-requires : tie.Need-check-components-requires
-check-components-requires c κs = search needs
+check-components-requires c κs = tt
 
 or-else-requires : tie.Need-or-else-requires
-or-else-requires c κs = search needs
+or-else-requires c κs = tt
 
 returns : tie.Need-returns
 returns c = rw (c .or-else .ensures, c .before .check-components .ensures, c .before .before .check-axes .ensures, back (c .before .before .before .before .fits .stride))

@@ -1,5 +1,4 @@
 use mathlib.Core.Path.{sym, ap, _∙_}
-use borrow.Author.Needs.{needs}
 use borrow.Author.Tests.{not-true, not-false}
 use Rattle.layout.specs.Answers.{isDone}
 use Rattle.layout.proofs.First.{stops, goes}
@@ -9,10 +8,10 @@ use Rattle.gather_checks.proofs.check_sizes.Statement.{statement}
 use Rattle.gather_checks.proofs.check_sizes.Tie as tie
 
 check-layouts-requires : tie.Need-check-layouts-requires
-check-layouts-requires c κs = search needs
+check-layouts-requires c κs = tt
 
 is-done-requires : tie.Need-is-done-requires
-is-done-requires c κs = search needs
+is-done-requires c κs = tt
 
 returns : tie.Need-returns
 unfolding sizesRefusal

@@ -21,13 +21,13 @@ use Rattle.gather_checks.proofs.examine_axes.Statement.{statement}
 use Rattle.gather_checks.proofs.examine_axes.Tie as tie
 
 spread-picked-requires : tie.Need-spread-picked-requires
-spread-picked-requires c κs = search needs
+spread-picked-requires c κs = tt
 
 spread-picked-requires-2 : tie.Need-spread-picked-requires-2
-spread-picked-requires-2 c κs = search needs
+spread-picked-requires-2 c κs = tt
 
 check-lists-requires : tie.Need-check-lists-requires
-check-lists-requires c κs = search needs
+check-lists-requires c κs = tt
 
 check-counts-requires : tie.Need-check-counts-requires
 check-counts-requires c κs = search needs
@@ -36,7 +36,7 @@ check-shape-requires : tie.Need-check-shape-requires
 check-shape-requires c κs = c .before .before .before .before .before .before .before .before .before .before .before .before .before .before .pre .batch
 
 stride-at-requires : tie.Need-stride-at-requires
-stride-at-requires c κs = search needs
+stride-at-requires c κs = tt
 
 sub-check-resets : tie.Need-sub-check-resets
 sub-check-resets c = search needs
@@ -70,16 +70,16 @@ check-resets-requires c κs =
     (s .pre .dest, part-length n n rankLimit (c .before .before .before .before .before .before .before .before .before .spread-picked .result) q e, part-length n n rankLimit (c .before .before .before .before .before .before .before .before .spread-picked2 .result) q d)
 
 or-else-requires : tie.Need-or-else-requires
-or-else-requires c κs = search needs
+or-else-requires c κs = tt
 
 or-else-requires-2 : tie.Need-or-else-requires-2
-or-else-requires-2 c κs = search needs
+or-else-requires-2 c κs = tt
 
 or-else-requires-3 : tie.Need-or-else-requires-3
-or-else-requires-3 c κs = search needs
+or-else-requires-3 c κs = tt
 
 or-else-requires-4 : tie.Need-or-else-requires-4
-or-else-requires-4 c κs = search needs
+or-else-requires-4 c κs = tt
 
 returns : tie.Need-returns
 unfolding examinedBy

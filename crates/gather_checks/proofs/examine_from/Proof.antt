@@ -13,16 +13,16 @@ use Rattle.gather_checks.proofs.examine_from.Statement.{statement}
 use Rattle.gather_checks.proofs.examine_from.Tie as tie
 
 other-axes-requires : tie.Need-other-axes-requires
-other-axes-requires c κs = search needs
+other-axes-requires c κs = tt
 
 slice-aggregate-other-axes : tie.Need-slice-aggregate-other-axes
 slice-aggregate-other-axes c = search needs
 
 other-axes-requires-2 : tie.Need-other-axes-requires-2
-other-axes-requires-2 c κs = search needs
+other-axes-requires-2 c κs = tt
 
 other-axes-requires-3 : tie.Need-other-axes-requires-3
-other-axes-requires-3 c κs = search needs
+other-axes-requires-3 c κs = tt
 
 sub-examine-axes : tie.Need-sub-examine-axes
 sub-examine-axes c = search needs

@@ -16,25 +16,25 @@ use Rattle.gather_lists.proofs.numbers_on.Statement.{statement}
 use Rattle.gather_lists.proofs.numbers_on.Tie as tie
 
 stride-at-requires : tie.Need-stride-at-requires
-stride-at-requires c κs = search needs
+stride-at-requires c κs = tt
 
 index-component-offsets-requires : tie.Need-index-component-offsets-requires
-index-component-offsets-requires c κs = search needs
+index-component-offsets-requires c κs = tt
 
 strides-on-requires : tie.Need-strides-on-requires
-strides-on-requires c κs = search needs
+strides-on-requires c κs = tt
 
 limits-on-requires : tie.Need-limits-on-requires
-limits-on-requires c κs = search needs
+limits-on-requires c κs = tt
 
 unless-none-requires : tie.Need-unless-none-requires
-unless-none-requires c κs = search needs
+unless-none-requires c κs = tt
 
 padded-extents-requires : tie.Need-padded-extents-requires
-padded-extents-requires c κs = search needs
+padded-extents-requires c κs = tt
 
 padded-strides-requires : tie.Need-padded-strides-requires
-padded-strides-requires c κs = search needs
+padded-strides-requires c κs = tt
 
 returns : tie.Need-returns
 returns c =

@@ -1,6 +1,5 @@
 use mathlib.Core.Path.{ap₂, _∙_}
 use mathlib.Core.Bool.{_&&_}
-use borrow.Author.Needs.{needs}
 use Rattle.integer.specs.Z.{back}
 use Rattle.calls.specs.Calls.{viewWith}
 use Rattle.gather_checks.specs.Refusals.{gatherFrom}
@@ -9,22 +8,22 @@ use Rattle.gather_lists.proofs.prepare_views.Statement.{statement}
 use Rattle.gather_lists.proofs.prepare_views.Tie as tie
 
 same-view-requires : tie.Need-same-view-requires
-same-view-requires c κs = search needs
+same-view-requires c κs = tt
 
 same-view-requires-2 : tie.Need-same-view-requires-2
-same-view-requires-2 c κs = search needs
+same-view-requires-2 c κs = tt
 
 same-view-requires-3 : tie.Need-same-view-requires-3
-same-view-requires-3 c κs = search needs
+same-view-requires-3 c κs = tt
 
 both-requires : tie.Need-both-requires
-both-requires c κs = search needs
+both-requires c κs = tt
 
 both-requires-2 : tie.Need-both-requires-2
-both-requires-2 c κs = search needs
+both-requires-2 c κs = tt
 
 prepare-requires : tie.Need-prepare-requires
-prepare-requires c κs = search needs
+prepare-requires c κs = tt
 
 returns : tie.Need-returns
 returns c =
@@ -32,13 +31,13 @@ returns c =
     same-views (gatherFrom (s .args .operand-extents .now) (s .args .operand-strides .now) (s .args .index-extents .now) (s .args .index-strides .now) (s .args .dest-extents .now) (s .args .dest-strides .now) (s .args .offset-dims .now) (s .args .collapsed-slice-dims .now) (s .args .start-index-map .now) (s .args .index-vector-dim) (s .args .slice-sizes .now)) (viewWith (s .args .operand-view-extents .now) (s .args .operand-view-strides .now) (s .args .operand-offset)) (viewWith (s .args .index-view-extents .now) (s .args .index-view-strides .now) (s .args .index-offset)) (viewWith (s .args .dest-view-extents .now) (s .args .dest-view-strides .now) (s .args .dest-offset)) (s .args .operand-len) (s .args .starts-len) (s .args .dest-len) _ (c .before .before .both2 .ensures ∙ ap₂ _&&_ (c .before .before .before .before .before .before .same-view .ensures) (c .before .before .before .both .ensures ∙ ap₂ _&&_ (c .before .before .before .before .before .same-view2 .ensures) (c .before .before .before .before .same-view3 .ensures))) (c .before .if1 .taken) (simp (back (s .fits .operand-offset), back (s .fits .index-offset), back (s .fits .dest-offset)) at (c .prepare .ensures))
 
 gather-refusal-requires : tie.Need-gather-refusal-requires
-gather-refusal-requires c κs = search needs
+gather-refusal-requires c κs = tt
 
 or-else-requires : tie.Need-or-else-requires
-or-else-requires c κs = search needs
+or-else-requires c κs = tt
 
 refused-requires : tie.Need-refused-requires
-refused-requires c κs = search needs
+refused-requires c κs = tt
 
 returns-2 : tie.Need-returns-2
 returns-2 c =

@@ -8,7 +8,7 @@ use Rattle.gather_move.proofs.move_i32.Statement.{statement}
 use Rattle.gather_move.proofs.move_i32.Tie as tie
 
 is-done-requires : tie.Need-is-done-requires
-is-done-requires c κs = search needs
+is-done-requires c κs = tt
 
 returns : tie.Need-returns
 returns c = λ k. refused (sym (c .before .is-done .ensures) ∙ not-true _ (c .if1 .taken))

@@ -6,13 +6,13 @@ use Rattle.gather_plan.proofs.axis_with.Statement.{statement}
 use Rattle.gather_plan.proofs.axis_with.Tie as tie
 
 reset-value-requires : tie.Need-reset-value-requires
-reset-value-requires c κs = search needs
+reset-value-requires c κs = tt
 
 reset-value-requires-2 : tie.Need-reset-value-requires-2
-reset-value-requires-2 c κs = search needs
+reset-value-requires-2 c κs = tt
 
 reset-value-requires-3 : tie.Need-reset-value-requires-3
-reset-value-requires-3 c κs = search needs
+reset-value-requires-3 c κs = tt
 
 returns : tie.Need-returns
 returns c =

@@ -1,9 +1,8 @@
-use borrow.Author.Needs.{needs}
 use Rattle.gather_plan.proofs.compile.Statement.{statement}
 use Rattle.gather_plan.proofs.compile.Tie as tie
 
 examine-requires : tie.Need-examine-requires
-examine-requires c κs = search needs
+examine-requires c κs = tt
 
 compiled-from-requires : tie.Need-compiled-from-requires
 compiled-from-requires c κs = c .examine .ensures .found

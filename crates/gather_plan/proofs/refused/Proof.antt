@@ -1,9 +1,8 @@
-use borrow.Author.Needs.{needs}
 use Rattle.gather_plan.proofs.refused.Statement.{statement}
 use Rattle.gather_plan.proofs.refused.Tie as tie
 
 no-axis-requires : tie.Need-no-axis-requires
-no-axis-requires c κs = search needs
+no-axis-requires c κs = tt
 
 returns : tie.Need-returns
 returns c = rw (c .no-axis .ensures)

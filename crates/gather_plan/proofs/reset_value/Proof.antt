@@ -9,7 +9,7 @@ use Rattle.gather_plan.proofs.reset_value.Statement.{statement}
 use Rattle.gather_plan.proofs.reset_value.Tie as tie
 
 checked-replay-reset-requires : tie.Need-checked-replay-reset-requires
-checked-replay-reset-requires c κs = search needs
+checked-replay-reset-requires c κs = tt
 
 enum-known-reset : tie.Need-enum-known-reset
 enum-known-reset c = search needs

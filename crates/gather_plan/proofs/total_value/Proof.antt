@@ -4,8 +4,8 @@ use Rattle.checks.specs.Values.{valueOfU}
 use Rattle.gather_plan.proofs.total_value.Statement.{statement}
 use Rattle.gather_plan.proofs.total_value.Tie as tie
 
-total-of-requires : tie.Need-total-of-requires
-total-of-requires c κs = search needs
+checked-total-len-requires : tie.Need-checked-total-len-requires
+checked-total-len-requires c κs = tt
 
 enum-known-total : tie.Need-enum-known-total
 enum-known-total c = search needs
@@ -14,11 +14,11 @@ enum-told : tie.Need-enum-told
 enum-told c = search needs
 
 returns : tie.Need-returns
-returns c = ap valueOfU (sym (c .before .total .given .1) ∙ c .before .before .before .total-of .ensures)
+returns c = ap valueOfU (sym (c .before .total .given .1) ∙ c .before .before .before .checked-total-len .ensures)
 
 returns-2 : tie.Need-returns-2
-returns-2 c = ap valueOfU (sym (c .enum-told .given .1) ∙ c .before .before .total-of .ensures)
+returns-2 c = ap valueOfU (sym (c .enum-told .given .1) ∙ c .before .before .checked-total-len .ensures)
 
 pub total-value-spec : {M : Type 1} → statement M
 total-value-spec =
-    tie.close (tie.spec total-of-requires enum-known-total enum-told returns returns-2)
+    tie.close (tie.spec checked-total-len-requires enum-known-total enum-told returns returns-2)

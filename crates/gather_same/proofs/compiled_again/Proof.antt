@@ -12,25 +12,25 @@ lengths : (s : tie.Start) → (length (s .args .plan .operand .extents) ≡ rank
 lengths s = (search needs, search needs, search needs, search needs, search needs, search needs, search needs, search needs, search (needs, s .good .0 .1 .1 .1 .1 .1 .1 .1 .0), search (needs, s .good .0 .1 .1 .1 .1 .1 .1 .1 .1 .1 .0))
 
 axis-count-requires : tie.Need-axis-count-requires
-axis-count-requires c κs = search needs
+axis-count-requires c κs = tt
 
 axis-count-requires-2 : tie.Need-axis-count-requires-2
-axis-count-requires-2 c κs = search needs
+axis-count-requires-2 c κs = tt
 
 axis-count-requires-3 : tie.Need-axis-count-requires-3
-axis-count-requires-3 c κs = search needs
+axis-count-requires-3 c κs = tt
 
 axis-count-requires-4 : tie.Need-axis-count-requires-4
-axis-count-requires-4 c κs = search needs
+axis-count-requires-4 c κs = tt
 
 axis-count-requires-5 : tie.Need-axis-count-requires-5
-axis-count-requires-5 c κs = search needs
+axis-count-requires-5 c κs = tt
 
 axis-count-requires-6 : tie.Need-axis-count-requires-6
-axis-count-requires-6 c κs = search needs
+axis-count-requires-6 c κs = tt
 
 axis-count-requires-7 : tie.Need-axis-count-requires-7
-axis-count-requires-7 c κs = search needs
+axis-count-requires-7 c κs = tt
 
 sub-compile-again : tie.Need-sub-compile-again
 sub-compile-again c = search needs
@@ -123,7 +123,7 @@ part-compile-again-end-10 : tie.Need-part-compile-again-end-10
 part-compile-again-end-10 c = part-fits (c .before .before .before .before .before .before .before .before .before .before .before .before .before .before .before .before .before .before .before .axis-count7 .result) (c .before .before .before .before .before .before .before .before .before .before .before .before .before .before .before .before .before .before .before .before .before .before .before .before .before .before .before .before .before .before .before .before .before .before .before .before .before .before .before .before .before .before .before .args .plan .«slice_sizes» .count) (c .before .before .before .before .before .before .before .before .before .before .before .before .before .before .before .before .before .before .before .before .before .before .before .before .before .before .before .before .before .before .before .before .before .before .before .before .before .before .before .before .before .before .before .args .plan .«slice_sizes» .entries) (c .before .before .before .before .before .before .before .before .before .before .before .before .before .before .before .before .before .before .before .axis-count7 .ensures) (lengths (c .before .before .before .before .before .before .before .before .before .before .before .before .before .before .before .before .before .before .before .before .before .before .before .before .before .before .before .before .before .before .before .before .before .before .before .before .before .before .before .before .before .before .before) .9)
 
 compile-again-requires : tie.Need-compile-again-requires
-compile-again-requires c κs = search needs
+compile-again-requires c κs = tt
 
 returns : tie.Need-returns
 returns c =

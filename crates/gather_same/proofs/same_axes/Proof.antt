@@ -34,7 +34,7 @@ array-copy-out-y : tie.Need-array-copy-out-y Inv-loop μ-loop
 array-copy-out-y c = search needs
 
 same-axis-requires : tie.Need-same-axis-requires Inv-loop μ-loop
-same-axis-requires c κs = search needs
+same-axis-requires c κs = tt
 
 returns : tie.Need-returns Inv-loop μ-loop
 returns c =

@@ -7,43 +7,43 @@ use Rattle.gather_same.proofs.same_axis.Statement.{statement}
 use Rattle.gather_same.proofs.same_axis.Tie as tie
 
 same-role-requires : tie.Need-same-role-requires
-same-role-requires c κs = search needs
+same-role-requires c κs = tt
 
 same-i64-requires : tie.Need-same-i64-requires
-same-i64-requires c κs = search needs
+same-i64-requires c κs = tt
 
 same-i64-requires-2 : tie.Need-same-i64-requires-2
-same-i64-requires-2 c κs = search needs
+same-i64-requires-2 c κs = tt
 
 same-i64-requires-3 : tie.Need-same-i64-requires-3
-same-i64-requires-3 c κs = search needs
+same-i64-requires-3 c κs = tt
 
 same-i64-requires-4 : tie.Need-same-i64-requires-4
-same-i64-requires-4 c κs = search needs
+same-i64-requires-4 c κs = tt
 
 same-i64-requires-5 : tie.Need-same-i64-requires-5
-same-i64-requires-5 c κs = search needs
+same-i64-requires-5 c κs = tt
 
 same-i64-requires-6 : tie.Need-same-i64-requires-6
-same-i64-requires-6 c κs = search needs
+same-i64-requires-6 c κs = tt
 
 both-requires : tie.Need-both-requires
-both-requires c κs = search needs
+both-requires c κs = tt
 
 both-requires-2 : tie.Need-both-requires-2
-both-requires-2 c κs = search needs
+both-requires-2 c κs = tt
 
 both-requires-3 : tie.Need-both-requires-3
-both-requires-3 c κs = search needs
+both-requires-3 c κs = tt
 
 both-requires-4 : tie.Need-both-requires-4
-both-requires-4 c κs = search needs
+both-requires-4 c κs = tt
 
 both-requires-5 : tie.Need-both-requires-5
-both-requires-5 c κs = search needs
+both-requires-5 c κs = tt
 
 both-requires-6 : tie.Need-both-requires-6
-both-requires-6 c κs = search needs
+both-requires-6 c κs = tt
 
 returns : tie.Need-returns
 unfolding sameAxis

@@ -1,22 +1,21 @@
 use Rattle.gather_same.specs.Same.{sameLayouts}
-use borrow.Author.Needs.{needs}
 use Rattle.gather_same.proofs.same_layouts.Statement.{statement}
 use Rattle.gather_same.proofs.same_layouts.Tie as tie
 
 same-layout-requires : tie.Need-same-layout-requires
-same-layout-requires c κs = search needs
+same-layout-requires c κs = tt
 
 same-layout-requires-2 : tie.Need-same-layout-requires-2
-same-layout-requires-2 c κs = search needs
+same-layout-requires-2 c κs = tt
 
 same-layout-requires-3 : tie.Need-same-layout-requires-3
-same-layout-requires-3 c κs = search needs
+same-layout-requires-3 c κs = tt
 
 both-requires : tie.Need-both-requires
-both-requires c κs = search needs
+both-requires c κs = tt
 
 both-requires-2 : tie.Need-both-requires-2
-both-requires-2 c κs = search needs
+both-requires-2 c κs = tt
 
 returns : tie.Need-returns
 unfolding sameLayouts

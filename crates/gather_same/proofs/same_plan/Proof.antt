@@ -1,22 +1,21 @@
 use Rattle.gather_same.specs.Same.{samePlan}
-use borrow.Author.Needs.{needs}
 use Rattle.gather_same.proofs.same_plan.Statement.{statement}
 use Rattle.gather_same.proofs.same_plan.Tie as tie
 
 same-layouts-requires : tie.Need-same-layouts-requires
-same-layouts-requires c κs = search needs
+same-layouts-requires c κs = tt
 
 same-spec-requires : tie.Need-same-spec-requires
-same-spec-requires c κs = search needs
+same-spec-requires c κs = tt
 
 same-walk-requires : tie.Need-same-walk-requires
-same-walk-requires c κs = search needs
+same-walk-requires c κs = tt
 
 both-requires : tie.Need-both-requires
-both-requires c κs = search needs
+both-requires c κs = tt
 
 both-requires-2 : tie.Need-both-requires-2
-both-requires-2 c κs = search needs
+both-requires-2 c κs = tt
 
 returns : tie.Need-returns
 unfolding samePlan

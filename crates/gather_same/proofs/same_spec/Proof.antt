@@ -1,31 +1,30 @@
 use Rattle.gather_same.specs.Same.{sameSpec}
-use borrow.Author.Needs.{needs}
 use Rattle.gather_same.proofs.same_spec.Statement.{statement}
 use Rattle.gather_same.proofs.same_spec.Tie as tie
 
 same-numbers-requires : tie.Need-same-numbers-requires
-same-numbers-requires c κs = search needs
+same-numbers-requires c κs = tt
 
 same-numbers-requires-2 : tie.Need-same-numbers-requires-2
-same-numbers-requires-2 c κs = search needs
+same-numbers-requires-2 c κs = tt
 
 same-numbers-requires-3 : tie.Need-same-numbers-requires-3
-same-numbers-requires-3 c κs = search needs
+same-numbers-requires-3 c κs = tt
 
 same-numbers-requires-4 : tie.Need-same-numbers-requires-4
-same-numbers-requires-4 c κs = search needs
+same-numbers-requires-4 c κs = tt
 
 both-requires : tie.Need-both-requires
-both-requires c κs = search needs
+both-requires c κs = tt
 
 both-requires-2 : tie.Need-both-requires-2
-both-requires-2 c κs = search needs
+both-requires-2 c κs = tt
 
 both-requires-3 : tie.Need-both-requires-3
-both-requires-3 c κs = search needs
+both-requires-3 c κs = tt
 
 both-requires-4 : tie.Need-both-requires-4
-both-requires-4 c κs = search needs
+both-requires-4 c κs = tt
 
 returns : tie.Need-returns
 unfolding sameSpec

@@ -1,25 +1,24 @@
 use Rattle.gather_same.specs.Same.{sameWalk}
-use borrow.Author.Needs.{needs}
 use Rattle.gather_same.proofs.same_walk.Statement.{statement}
 use Rattle.gather_same.proofs.same_walk.Tie as tie
 
 same-axes-requires : tie.Need-same-axes-requires
-same-axes-requires c κs = search needs
+same-axes-requires c κs = tt
 
 same-steps-requires : tie.Need-same-steps-requires
-same-steps-requires c κs = search needs
+same-steps-requires c κs = tt
 
 same-steps-requires-2 : tie.Need-same-steps-requires-2
-same-steps-requires-2 c κs = search needs
+same-steps-requires-2 c κs = tt
 
 both-requires : tie.Need-both-requires
-both-requires c κs = search needs
+both-requires c κs = tt
 
 both-requires-2 : tie.Need-both-requires-2
-both-requires-2 c κs = search needs
+both-requires-2 c κs = tt
 
 both-requires-3 : tie.Need-both-requires-3
-both-requires-3 c κs = search needs
+both-requires-3 c κs = tt
 
 returns : tie.Need-returns
 unfolding sameWalk

@@ -25,7 +25,7 @@ returns c =
     one-end _ _ _ _ _ _ _ _ _ _ _ _ _ _ _ (a .pre) (a .fits .s) (a .fits .t) (a .fits .d) (t1 .if1 .taken) (pos 0) (ruleI32 R.Copy) (a .args .src .now) (a .args .dst .now) _ (g .gather-run .ensures)
 
 has-zero-requires : tie.Need-has-zero-requires
-has-zero-requires c κs = search needs
+has-zero-requires c κs = tt
 
 returns-2 : tie.Need-returns-2
 returns-2 c =

@@ -31,7 +31,7 @@ element-copy-out-is-still-2 : tie.Need-element-copy-out-is-still-2 Inv-loop μ-l
 element-copy-out-is-still-2 c = omega (arith, c .before .before .before .pre)
 
 is-still-requires : tie.Need-is-still-requires Inv-loop μ-loop
-is-still-requires c κs = search needs
+is-still-requires c κs = tt
 
 returns : tie.Need-returns Inv-loop μ-loop
 returns c = let h = c .before .before .before .before .before in record { within = h .loop .inv .0; still = h .loop .inv .1 }

@@ -8,7 +8,7 @@ cast-put-i64 : tie.Need-cast-put-i64
 cast-put-i64 c = simp znorm (simp zflat (omega (arith, known (c .fits .n))))
 
 put-i64-requires : tie.Need-put-i64-requires
-put-i64-requires c κs = search needs
+put-i64-requires c κs = tt
 
 returns : tie.Need-returns
 returns c = search needs

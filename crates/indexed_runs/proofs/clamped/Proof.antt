@@ -1,6 +1,5 @@
 use mathlib.Core.Path.{_≡_, sym, ap, subst, _∙_}
 use native.Mathlib.Omega.{arith}
-use borrow.Author.Needs.{needs}
 use lib.IntN.{ℤ, pos}
 use mir.Syntax.{w64}
 use mir.Val.{SFits}
@@ -10,7 +9,7 @@ use Rattle.indexed_runs.proofs.clamped.Statement.{statement}
 use Rattle.indexed_runs.proofs.clamped.Tie as tie
 
 not-below-zero-requires : tie.Need-not-below-zero-requires
-not-below-zero-requires c κs = search needs
+not-below-zero-requires c κs = tt
 
 -- what is not below 0
 module _ (c : tie.After-not-below-zero) where

@@ -47,7 +47,7 @@ shared-slice-copy-out-apply : tie.Need-shared-slice-copy-out-apply
 shared-slice-copy-out-apply c = search needs
 
 apply-requires : tie.Need-apply-requires
-apply-requires c κs = search needs
+apply-requires c κs = tt
 
 mul-v : tie.Need-mul-v
 mul-v c = omega (arith, place (c .before .before .before) .below, at-start (c .before .before .before) .good .1 .1 .1 .0 .1)

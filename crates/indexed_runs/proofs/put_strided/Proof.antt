@@ -64,7 +64,7 @@ shared-slice-copy-out-x : tie.Need-shared-slice-copy-out-x Inv-loop μ-loop
 shared-slice-copy-out-x c = starts-at c .below
 
 clamp-window-start-requires : tie.Need-clamp-window-start-requires Inv-loop μ-loop
-clamp-window-start-requires c κs = search needs
+clamp-window-start-requires c κs = tt
 
 cast-c : tie.Need-cast-c Inv-loop μ-loop
 cast-c c = clamped-at c .count
@@ -104,7 +104,7 @@ shared-slice-copy-out-apply :
 shared-slice-copy-out-apply c = let d : tie.In-loop Inv-loop μ-loop = search in plain-at d .below
 
 apply-requires : tie.Need-apply-requires Inv-loop μ-loop
-apply-requires c κs = search needs
+apply-requires c κs = tt
 
 mul-v : tie.Need-mul-v Inv-loop μ-loop
 mul-v c = omega (arith, clamped-at (c .before .before .before) .below, start (c .before .before .before .before .before) .good .1 .1 .1 .0 .1)

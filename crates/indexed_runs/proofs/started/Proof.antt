@@ -60,7 +60,7 @@ element-copy-out-clamp-window-start : tie.Need-element-copy-out-clamp-window-sta
 element-copy-out-clamp-window-start c = omega (arith, start (c .before .before) .pre .few)
 
 clamp-window-start-requires : tie.Need-clamp-window-start-requires Inv-loop μ-loop
-clamp-window-start-requires c κs = search needs
+clamp-window-start-requires c κs = tt
 
 cast-k : tie.Need-cast-k Inv-loop μ-loop
 cast-k c = clamped-fits _ _ _ (start (c .before .before .before .before) .pre .small _ (c .before .before .before .before .loop-test .taken)) (c .clamp-window-start .ensures)

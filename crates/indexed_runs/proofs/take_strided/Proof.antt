@@ -65,7 +65,7 @@ shared-slice-copy-out-x : tie.Need-shared-slice-copy-out-x Inv-loop μ-loop
 shared-slice-copy-out-x c = starts-at c .below
 
 clamp-window-start-requires : tie.Need-clamp-window-start-requires Inv-loop μ-loop
-clamp-window-start-requires c κs = search needs
+clamp-window-start-requires c κs = tt
 
 cast-c : tie.Need-cast-c Inv-loop μ-loop
 cast-c c = clamped-at c .count

@@ -48,7 +48,7 @@ shared-slice-read-apply : tie.Need-shared-slice-read-apply
 shared-slice-read-apply c = search needs
 
 apply-requires : tie.Need-apply-requires
-apply-requires c κs = search needs
+apply-requires c κs = tt
 
 mul-dst : tie.Need-mul-dst
 mul-dst c = omega (arith, place (c .before .before .before) .below, at-start (c .before .before .before) .good .1 .1 .1 .0 .1)

@@ -2,7 +2,7 @@
 use mathlib.Core.Path.{_≡_, refl, _∙_}
 use Prim.Native.Nat.{_-_, _≤_}
 use native.Mathlib.Omega.{arith}
-use borrow.Author.Needs.{needs, sfits-of}
+use borrow.Author.Needs.{sfits-of}
 use lib.Ieee.{nan}
 use lib.ListN.{length, length-set}
 use lib.IntN.{pos, natAbs}
@@ -65,7 +65,7 @@ shared-slice-copy-out-x : tie.Need-shared-slice-copy-out-x Inv-loop μ-loop
 shared-slice-copy-out-x c = starts-at c .below
 
 clamp-window-start-requires : tie.Need-clamp-window-start-requires Inv-loop μ-loop
-clamp-window-start-requires c κs = search needs
+clamp-window-start-requires c κs = tt
 
 cast-c : tie.Need-cast-c Inv-loop μ-loop
 cast-c c = clamped-at c .count
@@ -105,7 +105,7 @@ shared-slice-read-apply :
 shared-slice-read-apply c = let d : tie.In-loop Inv-loop μ-loop = search in plain-at d .below
 
 apply-requires : tie.Need-apply-requires Inv-loop μ-loop
-apply-requires c κs = search needs
+apply-requires c κs = tt
 
 mul-dst : tie.Need-mul-dst Inv-loop μ-loop
 mul-dst c = omega (arith, clamped-at (c .before .before .before) .below, start (c .before .before .before .before .before) .good .1 .1 .1 .0 .1)

@@ -2,7 +2,7 @@
 use mathlib.Core.Path.{_≡_, refl, _∙_}
 use Prim.Native.Nat.{_-_, _≤_}
 use native.Mathlib.Omega.{arith}
-use borrow.Author.Needs.{needs, sfits-of}
+use borrow.Author.Needs.{sfits-of}
 use lib.Ieee.{nan}
 use lib.ListN.{length, length-set}
 use lib.IntN.{pos, natAbs}
@@ -66,7 +66,7 @@ shared-slice-copy-out-x : tie.Need-shared-slice-copy-out-x Inv-loop μ-loop
 shared-slice-copy-out-x c = starts-at c .below
 
 clamp-window-start-requires : tie.Need-clamp-window-start-requires Inv-loop μ-loop
-clamp-window-start-requires c κs = search needs
+clamp-window-start-requires c κs = tt
 
 cast-c : tie.Need-cast-c Inv-loop μ-loop
 cast-c c = clamped-at c .count

@@ -1,13 +1,12 @@
 use mathlib.Core.Path.{sym, _∙_}
-use borrow.Author.Needs.{needs}
 use Rattle.job.proofs.made_job.Statement.{statement}
 use Rattle.job.proofs.made_job.Tie as tie
 
 is-done-requires : tie.Need-is-done-requires
-is-done-requires c κs = search needs
+is-done-requires c κs = tt
 
 no-job-requires : tie.Need-no-job-requires
-no-job-requires c κs = search needs
+no-job-requires c κs = tt
 
 returns : tie.Need-returns
 returns c = rw (sym (c .before .is-done .ensures) ∙ c .if1 .taken)

@@ -1,20 +1,26 @@
 use Rattle.integer.specs.Z.{back}
-use Rattle.job.specs.Jobs.{jobFrom}
 use borrow.Author.Needs.{needs}
 use Rattle.job.proofs.make_scatter_job.Statement.{statement}
 use Rattle.job.proofs.make_scatter_job.Tie as tie
 
-no-list-requires : tie.Need-no-list-requires
-no-list-requires c κs = search needs
+sub-make-job : tie.Need-sub-make-job
+sub-make-job c = search needs
+
+part-make-job-start : tie.Need-part-make-job-start
+part-make-job-start c = search needs
+
+part-make-job-end : tie.Need-part-make-job-end
+part-make-job-end c = search needs
 
 make-job-requires : tie.Need-make-job-requires
-make-job-requires c κs = search needs
+make-job-requires c κs = tt
 
 returns : tie.Need-returns
-unfolding jobFrom
 returns c =
-    let f = c .before .before .before .before .before .before .before .before .fits in
-    simp (back (f .index-offset), back (f .update-offset), back (f .dest-offset), c .before .no-list .ensures) at (c .make-job .ensures)
+    let s : tie.Start = search in
+    simp (back (s .fits .index-offset), back (s .fits .update-offset), back (s .fits .dest-offset)) at (c .make-job .ensures)
 
 pub make-scatter-job-spec : {M : Type 1} → statement M
-make-scatter-job-spec = tie.close (tie.spec no-list-requires make-job-requires returns)
+make-scatter-job-spec =
+    tie.close
+    (tie.spec sub-make-job part-make-job-start part-make-job-end make-job-requires returns)

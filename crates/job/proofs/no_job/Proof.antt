@@ -1,18 +1,17 @@
-use borrow.Author.Needs.{needs}
 use Rattle.job.proofs.no_job.Statement.{statement}
 use Rattle.job.proofs.no_job.Tie as tie
 
 no-view-requires : tie.Need-no-view-requires
-no-view-requires c κs = search needs
+no-view-requires c κs = tt
 
 no-view-requires-2 : tie.Need-no-view-requires-2
-no-view-requires-2 c κs = search needs
+no-view-requires-2 c κs = tt
 
 no-view-requires-3 : tie.Need-no-view-requires-3
-no-view-requires-3 c κs = search needs
+no-view-requires-3 c κs = tt
 
 no-spec-requires : tie.Need-no-spec-requires
-no-spec-requires c κs = search needs
+no-spec-requires c κs = tt
 
 returns : tie.Need-returns
 returns c = rw (c .before .before .before .no-view .ensures, c .before .before .no-view2 .ensures, c .before .no-view3 .ensures, c .no-spec .ensures)

@@ -1,13 +1,12 @@
 use Rattle.integer.specs.Z.{back}
-use borrow.Author.Needs.{needs}
 use Rattle.job.proofs.view_from.Statement.{statement}
 use Rattle.job.proofs.view_from.Tie as tie
 
 padded-extents-requires : tie.Need-padded-extents-requires
-padded-extents-requires c κs = search needs
+padded-extents-requires c κs = tt
 
 padded-strides-requires : tie.Need-padded-strides-requires
-padded-strides-requires c κs = search needs
+padded-strides-requires c κs = tt
 
 returns : tie.Need-returns
 returns c = rw (c .before .padded-extents .ensures, c .padded-strides .ensures, back (c .before .before .before .fits .offset))

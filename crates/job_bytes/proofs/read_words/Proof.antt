@@ -20,7 +20,7 @@ read-number-requires : tie.Need-read-number-requires Inv-loop μ-loop
 read-number-requires c κs = search needs
 
 no-words-requires : tie.Need-no-words-requires Inv-loop μ-loop
-no-words-requires c κs = search needs
+no-words-requires c κs = tt
 
 returns : tie.Need-returns Inv-loop μ-loop
 returns c =

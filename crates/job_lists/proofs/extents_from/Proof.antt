@@ -17,7 +17,7 @@ part-padded-extents-end : tie.Need-part-padded-extents-end
 part-padded-extents-end c = search needs
 
 padded-extents-requires : tie.Need-padded-extents-requires
-padded-extents-requires c κs = search needs
+padded-extents-requires c κs = tt
 
 returns : tie.Need-returns
 returns c =

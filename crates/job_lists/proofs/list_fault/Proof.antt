@@ -1,9 +1,8 @@
-use borrow.Author.Needs.{needs}
 use Rattle.job_lists.proofs.list_fault.Statement.{statement}
 use Rattle.job_lists.proofs.list_fault.Tie as tie
 
 no-list-requires : tie.Need-no-list-requires
-no-list-requires c κs = search needs
+no-list-requires c κs = tt
 
 returns : tie.Need-returns
 returns c = rw (c .no-list .ensures)

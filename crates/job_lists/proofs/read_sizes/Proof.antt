@@ -7,13 +7,13 @@ enum-told : tie.Need-enum-told
 enum-told c = search needs
 
 read-list-requires : tie.Need-read-list-requires
-read-list-requires c κs = search needs
+read-list-requires c κs = tt
 
 enum-told-2 : tie.Need-enum-told-2
 enum-told-2 c = search needs
 
 no-list-requires : tie.Need-no-list-requires
-no-list-requires c κs = search needs
+no-list-requires c κs = tt
 
 returns : tie.Need-returns
 unfolding sizesAt

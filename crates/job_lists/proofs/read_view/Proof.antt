@@ -11,10 +11,10 @@ use Rattle.job_lists.proofs.read_view.Statement.{statement}
 use Rattle.job_lists.proofs.read_view.Tie as tie
 
 read-byte-requires : tie.Need-read-byte-requires
-read-byte-requires c κs = search needs
+read-byte-requires c κs = tt
 
 view-fault-requires : tie.Need-view-fault-requires
-view-fault-requires c κs = search needs
+view-fault-requires c κs = tt
 
 returns : tie.Need-returns
 returns c = let f1 = number-fault _ _ (c .before .before .before .read-byte .ensures) (not-true _ (c .before .if1 .taken)) in c .view-fault .ensures ∙ sym (ap heldView (view-1 _ _ _ f1))
@@ -23,7 +23,7 @@ read-words-requires : tie.Need-read-words-requires
 read-words-requires c κs = rank-words _ _ _ _ (number-read _ _ (c .before .before .read-byte .ensures) (not-false _ (c .if1 .left)))
 
 view-fault-requires-2 : tie.Need-view-fault-requires-2
-view-fault-requires-2 c κs = search needs
+view-fault-requires-2 c κs = tt
 
 returns-2 : tie.Need-returns-2
 returns-2 c =
@@ -36,7 +36,7 @@ read-words-requires-2 : tie.Need-read-words-requires-2
 read-words-requires-2 c κs = rank-words _ _ _ _ (number-read _ _ (c .before .before .before .before .before .read-byte .ensures) (not-false _ (c .before .before .before .if1 .left)))
 
 view-fault-requires-3 : tie.Need-view-fault-requires-3
-view-fault-requires-3 c κs = search needs
+view-fault-requires-3 c κs = tt
 
 returns-3 : tie.Need-returns-3
 returns-3 c =
@@ -51,7 +51,7 @@ read-number-requires : tie.Need-read-number-requires
 read-number-requires c κs = search needs
 
 view-fault-requires-4 : tie.Need-view-fault-requires-4
-view-fault-requires-4 c κs = search needs
+view-fault-requires-4 c κs = tt
 
 returns-4 : tie.Need-returns-4
 returns-4 c =
@@ -75,7 +75,7 @@ strides-from-requires c κs =
     rank-words _ _ _ _ (number-read _ _ (p12 .before .before .read-byte .ensures) (not-false _ (p12 .if1 .left)))
 
 signed-word-requires : tie.Need-signed-word-requires
-signed-word-requires c κs = search needs
+signed-word-requires c κs = tt
 
 returns-5 : tie.Need-returns-5
 returns-5 c =

@@ -33,7 +33,7 @@ array-read-signed-word : tie.Need-array-read-signed-word Inv-loop μ-loop
 array-read-signed-word c = search needs
 
 signed-word-requires : tie.Need-signed-word-requires Inv-loop μ-loop
-signed-word-requires c κs = search needs
+signed-word-requires c κs = tt
 
 mul-out : tie.Need-mul-out Inv-loop μ-loop
 mul-out c = search needs

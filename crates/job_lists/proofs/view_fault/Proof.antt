@@ -1,9 +1,8 @@
-use borrow.Author.Needs.{needs}
 use Rattle.job_lists.proofs.view_fault.Statement.{statement}
 use Rattle.job_lists.proofs.view_fault.Tie as tie
 
 no-view-requires : tie.Need-no-view-requires
-no-view-requires c κs = search needs
+no-view-requires c κs = tt
 
 returns : tie.Need-returns
 returns c = rw (c .no-view .ensures)

@@ -1,9 +1,8 @@
-use borrow.Author.Needs.{needs}
 use Rattle.job_reader.proofs.job_fault.Statement.{statement}
 use Rattle.job_reader.proofs.job_fault.Tie as tie
 
 no-job-requires : tie.Need-no-job-requires
-no-job-requires c κs = search needs
+no-job-requires c κs = tt
 
 returns : tie.Need-returns
 returns c = rw (c .no-job .ensures)

@@ -9,19 +9,19 @@ use Rattle.job_reader.proofs.read_spec.Statement.{statement}
 use Rattle.job_reader.proofs.read_spec.Tie as tie
 
 read-list-requires : tie.Need-read-list-requires
-read-list-requires c κs = search needs
+read-list-requires c κs = tt
 
 spec-fault-requires : tie.Need-spec-fault-requires
-spec-fault-requires c κs = search needs
+spec-fault-requires c κs = tt
 
 returns : tie.Need-returns
 returns c = let f1 = no-list _ _ (c .before .before .before .read-list .ensures) (not-true _ (c .before .if1 .taken)) in c .spec-fault .ensures ∙ sym (ap heldSpec (spec-1 _ _ _ _ f1))
 
 read-list-requires-2 : tie.Need-read-list-requires-2
-read-list-requires-2 c κs = search needs
+read-list-requires-2 c κs = tt
 
 spec-fault-requires-2 : tie.Need-spec-fault-requires-2
-spec-fault-requires-2 c κs = search needs
+spec-fault-requires-2 c κs = tt
 
 returns-2 : tie.Need-returns-2
 returns-2 c =
@@ -31,10 +31,10 @@ returns-2 c =
     let f1 = got-list _ _ (p6 .read-list .ensures) (not-false _ (p4 .if1 .left)) in let f2 = no-list _ _ (p3 .read-list2 .ensures) (not-true _ (c .before .if2 .taken)) in c .spec-fault2 .ensures ∙ sym (ap heldSpec (spec-2 _ _ _ _ _ _ (f1 .is) f2))
 
 read-list-requires-3 : tie.Need-read-list-requires-3
-read-list-requires-3 c κs = search needs
+read-list-requires-3 c κs = tt
 
 spec-fault-requires-3 : tie.Need-spec-fault-requires-3
-spec-fault-requires-3 c κs = search needs
+spec-fault-requires-3 c κs = tt
 
 returns-3 : tie.Need-returns-3
 returns-3 c =
@@ -49,7 +49,7 @@ read-number-requires : tie.Need-read-number-requires
 read-number-requires c κs = search needs
 
 spec-fault-requires-4 : tie.Need-spec-fault-requires-4
-spec-fault-requires-4 c κs = search needs
+spec-fault-requires-4 c κs = tt
 
 returns-4 : tie.Need-returns-4
 returns-4 c =
@@ -63,10 +63,10 @@ returns-4 c =
     let f1 = got-list _ _ (p12 .read-list .ensures) (not-false _ (p10 .if1 .left)) in let f2 = got-list _ _ (p9 .read-list2 .ensures) (not-false _ (p7 .if2 .left)) in let f3 = got-list _ _ (p6 .read-list3 .ensures) (not-false _ (p4 .if3 .left)) in let f4 = number-fault _ _ (p3 .read-number .ensures) (not-true _ (c .before .if4 .taken)) in c .spec-fault4 .ensures ∙ sym (ap heldSpec (spec-4 _ _ _ _ _ _ _ _ _ _ (f1 .is) (f2 .is) (f3 .is) f4))
 
 read-sizes-requires : tie.Need-read-sizes-requires
-read-sizes-requires c κs = search needs
+read-sizes-requires c κs = tt
 
 spec-fault-requires-5 : tie.Need-spec-fault-requires-5
-spec-fault-requires-5 c κs = search needs
+spec-fault-requires-5 c κs = tt
 
 returns-5 : tie.Need-returns-5
 returns-5 c =

@@ -1,9 +1,8 @@
-use borrow.Author.Needs.{needs}
 use Rattle.job_reader.proofs.spec_fault.Statement.{statement}
 use Rattle.job_reader.proofs.spec_fault.Tie as tie
 
 no-spec-requires : tie.Need-no-spec-requires
-no-spec-requires c κs = search needs
+no-spec-requires c κs = tt
 
 returns : tie.Need-returns
 returns c = rw (c .no-spec .ensures)

@@ -8,7 +8,7 @@ use Rattle.job_writer.proofs.list_size.Statement.{statement}
 use Rattle.job_writer.proofs.list_size.Tie as tie
 
 list-count-requires : tie.Need-list-count-requires
-list-count-requires c κs = search needs
+list-count-requires c κs = tt
 
 mul-result : tie.Need-mul-result
 mul-result c = search needs

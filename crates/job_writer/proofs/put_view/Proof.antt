@@ -11,13 +11,13 @@ use Rattle.job_writer.proofs.put_view.Statement.{statement}
 use Rattle.job_writer.proofs.put_view.Tie as tie
 
 stored-count-requires : tie.Need-stored-count-requires
-stored-count-requires c κs = search needs
+stored-count-requires c κs = tt
 
 stride-words-requires : tie.Need-stride-words-requires
-stride-words-requires c κs = search needs
+stride-words-requires c κs = tt
 
 word-of-requires : tie.Need-word-of-requires
-word-of-requires c κs = search needs
+word-of-requires c κs = tt
 
 extents-full : (c : tie.After-put-number-arg) → length (c .before .before .before .before .before .before .before .before .before .args .view .layout .extents) ≡ rankLimit
 extents-full c = search needs

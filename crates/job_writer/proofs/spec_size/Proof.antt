@@ -4,16 +4,16 @@ use Rattle.job_writer.proofs.spec_size.Statement.{statement}
 use Rattle.job_writer.proofs.spec_size.Tie as tie
 
 list-size-requires : tie.Need-list-size-requires
-list-size-requires c κs = search needs
+list-size-requires c κs = tt
 
 list-size-requires-2 : tie.Need-list-size-requires-2
-list-size-requires-2 c κs = search needs
+list-size-requires-2 c κs = tt
 
 list-size-requires-3 : tie.Need-list-size-requires-3
-list-size-requires-3 c κs = search needs
+list-size-requires-3 c κs = tt
 
 sizes-size-requires : tie.Need-sizes-size-requires
-sizes-size-requires c κs = search needs
+sizes-size-requires c κs = tt
 
 add-result : tie.Need-add-result
 add-result c = search needs

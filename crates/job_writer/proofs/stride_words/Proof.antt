@@ -30,7 +30,7 @@ array-copy-out-stride : tie.Need-array-copy-out-stride Inv-loop μ-loop
 array-copy-out-stride c = search needs
 
 word-of-requires : tie.Need-word-of-requires Inv-loop μ-loop
-word-of-requires c κs = search needs
+word-of-requires c κs = tt
 
 mul-out : tie.Need-mul-out Inv-loop μ-loop
 mul-out c = search needs

@@ -8,7 +8,7 @@ use Rattle.job_writer.proofs.view_size.Statement.{statement}
 use Rattle.job_writer.proofs.view_size.Tie as tie
 
 stored-count-requires : tie.Need-stored-count-requires
-stored-count-requires c κs = search needs
+stored-count-requires c κs = tt
 
 layout-size-requires : tie.Need-layout-size-requires
 layout-size-requires c κs = search needs

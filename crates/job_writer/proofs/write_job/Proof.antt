@@ -5,7 +5,7 @@ use Rattle.job_writer.proofs.write_job.Statement.{statement}
 use Rattle.job_writer.proofs.write_job.Tie as tie
 
 body-size-requires : tie.Need-body-size-requires
-body-size-requires c κs = search needs
+body-size-requires c κs = tt
 
 add-if1 : tie.Need-add-if1
 add-if1 c = search needs
@@ -27,7 +27,7 @@ put-number-requires-2 c κs =
     (omega (arith, p8 .body-size .ensures .is, length-body (p10 .args .job), p7 .if1 .left, c .before .before .out .given), omega arith)
 
 kind-byte-requires : tie.Need-kind-byte-requires
-kind-byte-requires c κs = search needs
+kind-byte-requires c κs = tt
 
 put-number-requires-3 : tie.Need-put-number-requires-3
 put-number-requires-3 c κs =
@@ -39,7 +39,7 @@ put-number-requires-3 c κs =
     (omega (arith, p13 .body-size .ensures .is, length-body (p15 .args .job), p12 .if1 .left, p7 .out .given, p3 .out2 .given), omega arith)
 
 element-byte-requires : tie.Need-element-byte-requires
-element-byte-requires c κs = search needs
+element-byte-requires c κs = tt
 
 put-number-requires-4 : tie.Need-put-number-requires-4
 put-number-requires-4 c κs =

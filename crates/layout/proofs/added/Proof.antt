@@ -12,7 +12,7 @@ enum-known-x : tie.Need-enum-known-x
 enum-known-x c = search needs
 
 checked-add-i64-requires : tie.Need-checked-add-i64-requires
-checked-add-i64-requires c κs = search needs
+checked-add-i64-requires c κs = tt
 
 enum-told : tie.Need-enum-told
 enum-told c = search needs

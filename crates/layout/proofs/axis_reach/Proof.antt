@@ -5,18 +5,17 @@ use Rattle.integer.specs.Z.{back}
 use Rattle.integer.specs.Defs.{checked}
 use Rattle.integer.specs.declared.Checked.{Checked}
 use Rattle.layout.specs.Spans.{andThen, reachOf}
-use borrow.Author.Needs.{needs}
 use Rattle.layout.proofs.axis_reach.Statement.{statement}
 use Rattle.layout.proofs.axis_reach.Tie as tie
 
 last-coordinate-requires : tie.Need-last-coordinate-requires
-last-coordinate-requires c κs = search needs
+last-coordinate-requires c κs = tt
 
 u64-to-i64-requires : tie.Need-u64-to-i64-requires
-u64-to-i64-requires c κs = search needs
+u64-to-i64-requires c κs = tt
 
 scaled-requires : tie.Need-scaled-requires
-scaled-requires c κs = search needs
+scaled-requires c κs = tt
 
 returns : tie.Need-returns
 unfolding reachOf

@@ -1,20 +1,19 @@
 use mathlib.Core.Path.{ap, ap₂, _∙_}
 use Prim.Native.Nat.{_*_}
 use lib.IntN.{natAbs}
-use borrow.Author.Needs.{needs}
 use Rattle.integer.specs.Z.{back}
 use Rattle.integer.specs.Defs.{checkedU}
 use Rattle.layout.proofs.axis_weight.Statement.{statement}
 use Rattle.layout.proofs.axis_weight.Tie as tie
 
 magnitude-i64-requires : tie.Need-magnitude-i64-requires
-magnitude-i64-requires c κs = search needs
+magnitude-i64-requires c κs = tt
 
 last-coordinate-requires : tie.Need-last-coordinate-requires
-last-coordinate-requires c κs = search needs
+last-coordinate-requires c κs = tt
 
 checked-mul-u64-requires : tie.Need-checked-mul-u64-requires
-checked-mul-u64-requires c κs = search needs
+checked-mul-u64-requires c κs = tt
 
 returns : tie.Need-returns
 returns c = c .checked-mul-u64 .ensures ∙ ap checkedU (ap₂ _*_ (c .before .before .magnitude-i64 .ensures ∙ ap natAbs (back (c .before .before .before .fits .stride))) (c .before .last-coordinate .ensures))

@@ -13,7 +13,7 @@ unfolding cellsWithin
 returns c = rw (c .before .before .down .given .1, lt-ltb _ _ (c .if1 .taken))
 
 sum-with-requires : tie.Need-sum-with-requires
-sum-with-requires c κs = search needs
+sum-with-requires c κs = tt
 
 enum-known-high : tie.Need-enum-known-high
 enum-known-high c = search needs

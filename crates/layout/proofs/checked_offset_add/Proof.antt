@@ -1,6 +1,5 @@
 use mathlib.Core.Path.{ap₂, _∙_}
 use lib.IntN.{ℤ, _+ℤ_, _*ℤ_}
-use borrow.Author.Needs.{needs}
 use Rattle.integer.specs.Z.{back}
 use Rattle.integer.specs.Defs.{checked}
 use Rattle.integer.specs.declared.Checked.{Checked}
@@ -9,13 +8,13 @@ use Rattle.layout.proofs.checked_offset_add.Statement.{statement}
 use Rattle.layout.proofs.checked_offset_add.Tie as tie
 
 u64-to-i64-requires : tie.Need-u64-to-i64-requires
-u64-to-i64-requires c κs = search needs
+u64-to-i64-requires c κs = tt
 
 scaled-requires : tie.Need-scaled-requires
-scaled-requires c κs = search needs
+scaled-requires c κs = tt
 
 added-requires : tie.Need-added-requires
-added-requires c κs = search needs
+added-requires c κs = tt
 
 returns : tie.Need-returns
 unfolding offsetAdd

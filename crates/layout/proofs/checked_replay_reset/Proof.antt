@@ -7,7 +7,6 @@ use Rattle.integer.specs.Defs.{checked}
 use Rattle.integer.specs.declared.Checked.{Checked}
 use Rattle.integer.specs.declared.Checked.the-variants as C
 use Rattle.layout.specs.Spans.{andThen, reachOf, resetOf}
-use borrow.Author.Needs.{needs}
 use Rattle.layout.proofs.checked_replay_reset.Statement.{statement}
 use Rattle.layout.proofs.checked_replay_reset.Tie as tie
 
@@ -21,10 +20,10 @@ not-zero zero s h = absurd (h refl)
 not-zero (suc n) s h = refl
 
 axis-reach-requires : tie.Need-axis-reach-requires
-axis-reach-requires c κs = search needs
+axis-reach-requires c κs = tt
 
 negated-requires : tie.Need-negated-requires
-negated-requires c κs = search needs
+negated-requires c κs = tt
 
 returns : tie.Need-returns
 returns c = is-zero (c .before .args .extent) (c .before .args .step) (c .if1 .taken)

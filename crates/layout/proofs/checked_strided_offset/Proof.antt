@@ -30,7 +30,7 @@ axis w =
     w .checked-offset-add .ensures ∙ ap (λ (z : ℤ). offsetAdd (toZ w64 (l .loop .offset)) z (getD (s .args .t3) (l .loop .i) 0)) (back f)
 
 axis-count-requires : tie.Need-axis-count-requires Inv-loop μ-loop
-axis-count-requires c κs = search needs
+axis-count-requires c κs = tt
 
 loop-holds : tie.Need-loop-holds Inv-loop μ-loop
 loop-holds c = (zero-le, fits-ofZ (c .before .fits .base), refl)
@@ -48,7 +48,7 @@ array-read-checked-offset-add : tie.Need-array-read-checked-offset-add Inv-loop 
 array-read-checked-offset-add c = search needs
 
 checked-offset-add-requires : tie.Need-checked-offset-add-requires Inv-loop μ-loop
-checked-offset-add-requires c κs = search needs
+checked-offset-add-requires c κs = tt
 
 enum-known-s : tie.Need-enum-known-s Inv-loop μ-loop
 enum-known-s c = search needs

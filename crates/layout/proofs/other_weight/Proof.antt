@@ -6,15 +6,14 @@ use borrow.Author.Tests.{le-leb, lt-leb}
 use Rattle.integer.specs.Z.{back}
 use Rattle.integer.specs.Defs.{checkedU}
 use Rattle.integer.specs.Machine.{checkedU-yes}
-use borrow.Author.Needs.{needs}
 use Rattle.layout.proofs.other_weight.Statement.{statement}
 use Rattle.layout.proofs.other_weight.Tie as tie
 
 magnitude-i64-requires : tie.Need-magnitude-i64-requires
-magnitude-i64-requires c κs = search needs
+magnitude-i64-requires c κs = tt
 
 axis-weight-requires : tie.Need-axis-weight-requires
-axis-weight-requires c κs = search needs
+axis-weight-requires c κs = tt
 
 returns : tie.Need-returns
 returns c = rw (c .if1 .taken) (checkedU-yes 0 (omega arith))

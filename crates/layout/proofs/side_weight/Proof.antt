@@ -6,15 +6,14 @@ use mir.Facts.{sfits-lit}
 use Rattle.integer.specs.Z.{back, less, not-less}
 use Rattle.integer.specs.Defs.{checkedU}
 use Rattle.integer.specs.Machine.{checkedU-yes, isNeg-yes, isNeg-no}
-use borrow.Author.Needs.{needs}
 use Rattle.layout.proofs.side_weight.Statement.{statement}
 use Rattle.layout.proofs.side_weight.Tie as tie
 
 axis-weight-requires : tie.Need-axis-weight-requires
-axis-weight-requires c κs = search needs
+axis-weight-requires c κs = tt
 
 axis-weight-requires-2 : tie.Need-axis-weight-requires-2
-axis-weight-requires-2 c κs = search needs
+axis-weight-requires-2 c κs = tt
 
 returns : tie.Need-returns
 returns c =

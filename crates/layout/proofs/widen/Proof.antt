@@ -30,22 +30,22 @@ unfolding widened
 never low high d s r = rw r
 
 axis-reach-requires : tie.Need-axis-reach-requires
-axis-reach-requires c κs = search needs
+axis-reach-requires c κs = tt
 
 enum-known-far : tie.Need-enum-known-far
 enum-known-far c = search needs
 
 checked-add-i64-requires : tie.Need-checked-add-i64-requires
-checked-add-i64-requires c κs = search needs
+checked-add-i64-requires c κs = tt
 
 with-low-requires : tie.Need-with-low-requires
-with-low-requires c κs = search needs
+with-low-requires c κs = tt
 
 checked-add-i64-requires-2 : tie.Need-checked-add-i64-requires-2
-checked-add-i64-requires-2 c κs = search needs
+checked-add-i64-requires-2 c κs = tt
 
 with-high-requires : tie.Need-with-high-requires
-with-high-requires c κs = search needs
+with-high-requires c κs = tt
 
 enum-told : tie.Need-enum-told
 enum-told c = search needs

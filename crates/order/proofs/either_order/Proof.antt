@@ -5,16 +5,16 @@ use Rattle.order.proofs.either_order.Statement.{statement}
 use Rattle.order.proofs.either_order.Tie as tie
 
 scatter-by-requires : tie.Need-scatter-by-requires
-scatter-by-requires c κs = search needs
+scatter-by-requires c κs = tt
 
 scatter-by-requires-2 : tie.Need-scatter-by-requires-2
-scatter-by-requires-2 c κs = search needs
+scatter-by-requires-2 c κs = tt
 
 scatter-by-requires-3 : tie.Need-scatter-by-requires-3
-scatter-by-requires-3 c κs = search needs
+scatter-by-requires-3 c κs = tt
 
 scatter-by-requires-4 : tie.Need-scatter-by-requires-4
-scatter-by-requires-4 c κs = search needs
+scatter-by-requires-4 c κs = tt
 
 same-length : tie.Need-same-length
 same-length c = search needs

@@ -5,13 +5,13 @@ use Rattle.order.proofs.gather_beside.Statement.{statement}
 use Rattle.order.proofs.gather_beside.Tie as tie
 
 gather-i32-requires : tie.Need-gather-i32-requires
-gather-i32-requires c κs = search needs
+gather-i32-requires c κs = tt
 
 scatter-by-requires : tie.Need-scatter-by-requires
-scatter-by-requires c κs = search needs
+scatter-by-requires c κs = tt
 
 gather-i32-requires-2 : tie.Need-gather-i32-requires-2
-gather-i32-requires-2 c κs = search needs
+gather-i32-requires-2 c κs = tt
 
 same-length : tie.Need-same-length
 same-length c = search needs

@@ -11,13 +11,13 @@ abbrev μ-loop : tie.MeasureT-loop
 μ-loop extents i₀ i = length extents - i
 
 open-list-requires : tie.Need-open-list-requires Inv-loop μ-loop
-open-list-requires c κs = search needs
+open-list-requires c κs = tt
 
 loop-holds : tie.Need-loop-holds Inv-loop μ-loop
 loop-holds c = search needs
 
 separate-requires : tie.Need-separate-requires Inv-loop μ-loop
-separate-requires c κs = search needs
+separate-requires c κs = tt
 
 mul-put-u64 : tie.Need-mul-put-u64 Inv-loop μ-loop
 mul-put-u64 c = search needs
@@ -26,7 +26,7 @@ shared-slice-read-put-u64 : tie.Need-shared-slice-read-put-u64 Inv-loop μ-loop
 shared-slice-read-put-u64 c = search needs
 
 put-u64-requires : tie.Need-put-u64-requires Inv-loop μ-loop
-put-u64-requires c κs = search needs
+put-u64-requires c κs = tt
 
 add-i : tie.Need-add-i Inv-loop μ-loop
 add-i c = search needs
@@ -38,7 +38,7 @@ loop-again : tie.Need-loop-again Inv-loop μ-loop
 loop-again c = search needs
 
 close-list-requires : tie.Need-close-list-requires Inv-loop μ-loop
-close-list-requires c κs = search needs
+close-list-requires c κs = tt
 
 returns : tie.Need-returns Inv-loop μ-loop
 returns c = search needs

@@ -11,13 +11,13 @@ abbrev μ-loop : tie.MeasureT-loop
 μ-loop strides i₀ i = length strides - i
 
 open-list-requires : tie.Need-open-list-requires Inv-loop μ-loop
-open-list-requires c κs = search needs
+open-list-requires c κs = tt
 
 loop-holds : tie.Need-loop-holds Inv-loop μ-loop
 loop-holds c = search needs
 
 separate-requires : tie.Need-separate-requires Inv-loop μ-loop
-separate-requires c κs = search needs
+separate-requires c κs = tt
 
 mul-put-i64 : tie.Need-mul-put-i64 Inv-loop μ-loop
 mul-put-i64 c = search needs
@@ -26,7 +26,7 @@ shared-slice-copy-out-put-i64 : tie.Need-shared-slice-copy-out-put-i64 Inv-loop 
 shared-slice-copy-out-put-i64 c = search needs
 
 put-i64-requires : tie.Need-put-i64-requires Inv-loop μ-loop
-put-i64-requires c κs = search needs
+put-i64-requires c κs = tt
 
 add-i : tie.Need-add-i Inv-loop μ-loop
 add-i c = search needs
@@ -38,7 +38,7 @@ loop-again : tie.Need-loop-again Inv-loop μ-loop
 loop-again c = search needs
 
 close-list-requires : tie.Need-close-list-requires Inv-loop μ-loop
-close-list-requires c κs = search needs
+close-list-requires c κs = tt
 
 returns : tie.Need-returns Inv-loop μ-loop
 returns c = search needs

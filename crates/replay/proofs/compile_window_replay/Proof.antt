@@ -27,11 +27,11 @@ module _ (ds : List ℕ) (ss ts : List ℤ) (x y : OffsetSpan) (ex : x ≡ spann
   unfolding compiledReplay
   stops2 a b ox oy = rw (← ex, ox, ← ey, oy)
 
-validate-layout-span-requires : tie.Need-validate-layout-span-requires
-validate-layout-span-requires c κs = search needs
+held-span-requires : tie.Need-held-span-requires
+held-span-requires c κs = tt
 
-validate-layout-span-requires-2 : tie.Need-validate-layout-span-requires-2
-validate-layout-span-requires-2 c κs = search needs
+held-span-requires-2 : tie.Need-held-span-requires-2
+held-span-requires-2 c κs = tt
 
 enum-known-source-span : tie.Need-enum-known-source-span
 enum-known-source-span c = search needs
@@ -40,19 +40,19 @@ enum-known-dest-span : tie.Need-enum-known-dest-span
 enum-known-dest-span c = search needs
 
 fuse-requires : tie.Need-fuse-requires
-fuse-requires c κs = search needs
+fuse-requires c κs = tt
 
 enum-told : tie.Need-enum-told
 enum-told c = search needs
 
 refused-replay-requires : tie.Need-refused-replay-requires
-refused-replay-requires c κs = search needs
+refused-replay-requires c κs = tt
 
 enum-told-2 : tie.Need-enum-told-2
 enum-told-2 c = search needs
 
 refused-replay-requires-2 : tie.Need-refused-replay-requires-2
-refused-replay-requires-2 c κs = search needs
+refused-replay-requires-2 c κs = tt
 
 returns : tie.Need-returns
 returns c =
@@ -68,27 +68,27 @@ returns c =
     let fd : SFits w64 (y .1 .0) = sfits-of (u .known-told2 .given .1 .0 .1) in
     c .fuse .ensures
     ∙ (λ ι. compiledBy (fused (take (s .args .rank) (s .args .shape)) (take (s .args .rank) (s .args .source-strides)) (take (s .args .rank) (s .args .dest-strides))) (theSpans (back fa ι) (back fb ι) (back fc ι) (back fd ι)))
-    ∙ passes (take (s .args .rank) (s .args .shape)) (take (s .args .rank) (s .args .source-strides)) (take (s .args .rank) (s .args .dest-strides)) (v .before .validate-layout-span .result) (v .validate-layout-span2 .result) (v .before .validate-layout-span .ensures) (v .validate-layout-span2 .ensures) (x .0) (x .1 .0) (y .0) (y .1 .0) (k .before .source-span .given .1) (u .before .dest-span .given .1)
+    ∙ passes (take (s .args .rank) (s .args .shape)) (take (s .args .rank) (s .args .source-strides)) (take (s .args .rank) (s .args .dest-strides)) (v .before .held-span .result) (v .held-span2 .result) (v .before .held-span .ensures) (v .held-span2 .ensures) (x .0) (x .1 .0) (y .0) (y .1 .0) (k .before .source-span .given .1) (u .before .dest-span .given .1)
 
 returns-2 : tie.Need-returns-2
 returns-2 c =
     let k = c .before .before .before in
     let v = k .before .before .before in
     let s = v .before .before in
-    c .refused-replay .ensures ∙ stops2 (take (s .args .rank) (s .args .shape)) (take (s .args .rank) (s .args .source-strides)) (take (s .args .rank) (s .args .dest-strides)) (v .before .validate-layout-span .result) (v .validate-layout-span2 .result) (v .before .validate-layout-span .ensures) (v .validate-layout-span2 .ensures) (k .before .source-span .given .0 .0) (k .before .source-span .given .0 .1 .0) (k .before .source-span .given .1) (c .before .enum-told .given .1)
+    c .refused-replay .ensures ∙ stops2 (take (s .args .rank) (s .args .shape)) (take (s .args .rank) (s .args .source-strides)) (take (s .args .rank) (s .args .dest-strides)) (v .before .held-span .result) (v .held-span2 .result) (v .before .held-span .ensures) (v .held-span2 .ensures) (k .before .source-span .given .0 .0) (k .before .source-span .given .0 .1 .0) (k .before .source-span .given .1) (c .before .enum-told .given .1)
 
 returns-3 : tie.Need-returns-3
 returns-3 c =
     let v = c .before .before .before in
     let s = v .before .before in
-    c .refused-replay2 .ensures ∙ stops (take (s .args .rank) (s .args .shape)) (take (s .args .rank) (s .args .source-strides)) (take (s .args .rank) (s .args .dest-strides)) (v .before .validate-layout-span .result) (v .validate-layout-span2 .result) (v .before .validate-layout-span .ensures) (v .validate-layout-span2 .ensures) (c .before .enum-told2 .given .1)
+    c .refused-replay2 .ensures ∙ stops (take (s .args .rank) (s .args .shape)) (take (s .args .rank) (s .args .source-strides)) (take (s .args .rank) (s .args .dest-strides)) (v .before .held-span .result) (v .held-span2 .result) (v .before .held-span .ensures) (v .held-span2 .ensures) (c .before .enum-told2 .given .1)
 
 pub compile-window-replay-spec : {M : Type 1} → statement M
 compile-window-replay-spec =
     tie.close
     (tie.spec
-    validate-layout-span-requires
-    validate-layout-span-requires-2
+    held-span-requires
+    held-span-requires-2
     enum-known-source-span
     enum-known-dest-span
     fuse-requires

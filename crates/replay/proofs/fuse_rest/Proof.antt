@@ -48,10 +48,10 @@ here : (j : tie.After-join Inv-loop μ-loop) → j .before .before .before .befo
 here j = omega (arith, counted (j .before .before .before .before), j .before .before .before .loop-test .taken)
 
 axis-count-requires : tie.Need-axis-count-requires Inv-loop μ-loop
-axis-count-requires c κs = search needs
+axis-count-requires c κs = tt
 
 no-axis-requires : tie.Need-no-axis-requires Inv-loop μ-loop
-no-axis-requires c κs = search needs
+no-axis-requires c κs = tt
 
 loop-holds : tie.Need-loop-holds Inv-loop μ-loop
 loop-holds c =
@@ -78,7 +78,7 @@ array-copy-out-join-2 : tie.Need-array-copy-out-join-2 Inv-loop μ-loop
 array-copy-out-join-2 c = search needs
 
 join-requires : tie.Need-join-requires Inv-loop μ-loop
-join-requires c κs = search needs
+join-requires c κs = tt
 
 add-i : tie.Need-add-i Inv-loop μ-loop
 add-i c = search needs
@@ -122,7 +122,7 @@ enum-told : tie.Need-enum-told Inv-loop μ-loop
 enum-told c = search needs
 
 refused-replay-requires : tie.Need-refused-replay-requires Inv-loop μ-loop
-refused-replay-requires c κs = search needs
+refused-replay-requires c κs = tt
 
 returns : tie.Need-returns Inv-loop μ-loop
 returns c =
@@ -141,7 +141,7 @@ add-done-replay : tie.Need-add-done-replay Inv-loop μ-loop
 add-done-replay c = search needs
 
 done-replay-requires : tie.Need-done-replay-requires Inv-loop μ-loop
-done-replay-requires c κs = search needs
+done-replay-requires c κs = tt
 
 returns-2 : tie.Need-returns-2 Inv-loop μ-loop
 returns-2 c =

@@ -29,10 +29,10 @@ made : (d : ℕ) (s s′ t t′ a a′ b b′ : ℤ) → s ≡ s′ → a ≡ a�
 made d s s′ t t′ a a′ b b′ e f g h = cc
 
 checked-replay-reset-requires : tie.Need-checked-replay-reset-requires
-checked-replay-reset-requires c κs = search needs
+checked-replay-reset-requires c κs = tt
 
 checked-replay-reset-requires-2 : tie.Need-checked-replay-reset-requires-2
-checked-replay-reset-requires-2 c κs = search needs
+checked-replay-reset-requires-2 c κs = tt
 
 enum-known-source-reset : tie.Need-enum-known-source-reset
 enum-known-source-reset c = search needs

@@ -7,16 +7,16 @@ use Rattle.replay.proofs.merge.Statement.{statement}
 use Rattle.replay.proofs.merge.Tie as tie
 
 checked-mul-u64-requires : tie.Need-checked-mul-u64-requires
-checked-mul-u64-requires c κs = search needs
+checked-mul-u64-requires c κs = tt
 
 enum-known-size : tie.Need-enum-known-size
 enum-known-size c = search needs
 
 make-axis-requires : tie.Need-make-axis-requires
-make-axis-requires c κs = search needs
+make-axis-requires c κs = tt
 
 as-merged-requires : tie.Need-as-merged-requires
-as-merged-requires c κs = search needs
+as-merged-requires c κs = tt
 
 enum-told : tie.Need-enum-told
 enum-told c = search needs

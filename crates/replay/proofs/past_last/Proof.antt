@@ -5,15 +5,14 @@ use Rattle.integer.specs.Defs.{checked}
 use Rattle.integer.specs.declared.Checked.{Checked}
 use Rattle.layout.specs.Spans.{andThen}
 use Rattle.replay.specs.Replays.{past}
-use borrow.Author.Needs.{needs}
 use Rattle.replay.proofs.past_last.Statement.{statement}
 use Rattle.replay.proofs.past_last.Tie as tie
 
 u64-to-i64-requires : tie.Need-u64-to-i64-requires
-u64-to-i64-requires c κs = search needs
+u64-to-i64-requires c κs = tt
 
 scaled-requires : tie.Need-scaled-requires
-scaled-requires c κs = search needs
+scaled-requires c κs = tt
 
 returns : tie.Need-returns
 unfolding past

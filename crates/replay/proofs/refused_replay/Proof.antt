@@ -3,12 +3,11 @@ use lib.IntN.{pos}
 use Rattle.layout.specs.Layouts.{rankLimit}
 use Rattle.layout.specs.declared.Answer.the-variants as N
 use Rattle.replay.specs.Replays.{theSpans}
-use borrow.Author.Needs.{needs}
 use Rattle.replay.proofs.refused_replay.Statement.{statement}
 use Rattle.replay.proofs.refused_replay.Tie as tie
 
 no-axis-requires : tie.Need-no-axis-requires
-no-axis-requires c κs = search needs
+no-axis-requires c κs = tt
 
 returns : tie.Need-returns
 returns c = λ ι. record { answer = N.OffsetOverflow; replay = record { rank = 0; axes = replicate rankLimit (c .no-axis .ensures ι); spans = theSpans (pos 0) (pos 0) (pos 0) (pos 0) } }

@@ -18,7 +18,7 @@ enum-told-2 : tie.Need-enum-told-2
 enum-told-2 c = search needs
 
 wrapping-add-i32-requires : tie.Need-wrapping-add-i32-requires
-wrapping-add-i32-requires c κs = search needs
+wrapping-add-i32-requires c κs = tt
 
 returns : tie.Need-returns
 returns c = let a = c .before .before in back (a .fits .u) ∙ sym (ap (λ (r : Rule). ruleI32 r (a .args .x) (a .args .u)) (c .enum-told .given .1))

@@ -35,7 +35,7 @@ shared-slice-copy-out-apply : tie.Need-shared-slice-copy-out-apply Inv-loop μ-l
 shared-slice-copy-out-apply c = omega arith
 
 apply-requires : tie.Need-apply-requires Inv-loop μ-loop
-apply-requires c κs = search needs
+apply-requires c κs = tt
 
 mul-v : tie.Need-mul-v Inv-loop μ-loop
 mul-v c = search needs

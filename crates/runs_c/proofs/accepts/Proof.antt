@@ -30,7 +30,7 @@ returns-2 : tie.Need-returns-2
 returns-2 c = let a = c .before .before in tested a _ (rank-no (a .args .rank) (a .args .extents) (a .args .ss) (a .args .ds) (a .args .s) (a .args .d) (a .args .sn) (a .args .dn) (c .before .if1 .left) (c .if2 .taken))
 
 has-zero-requires : tie.Need-has-zero-requires
-has-zero-requires c κs = search needs
+has-zero-requires c κs = tt
 
 returns-3 : tie.Need-returns-3
 returns-3 c = let z = c .before in
@@ -47,7 +47,7 @@ returns-4 c = let f = c .before in
     tested a _ (few-no (a .args .rank) (a .args .extents) (a .args .ss) (a .args .ds) (a .args .s) (a .args .d) (a .args .sn) (a .args .dn) (z .before .before .if1 .left) (z .before .if2 .left) (sym (z .has-zero .ensures) ∙ f .before .if3 .left) (sym (f .all-few .ensures) ∙ not-true _ (c .if4 .taken)))
 
 inside-requires : tie.Need-inside-requires
-inside-requires c κs = search needs
+inside-requires c κs = tt
 
 returns-5 : tie.Need-returns-5
 returns-5 c = let t = c .before in
@@ -57,7 +57,7 @@ returns-5 c = let t = c .before in
     tested a _ (source-no (a .args .rank) (a .args .extents) (a .args .ss) (a .args .ds) (a .args .s) (a .args .d) (a .args .sn) (a .args .dn) (z .before .before .if1 .left) (z .before .if2 .left) (sym (z .has-zero .ensures) ∙ f .before .if3 .left) (sym (f .all-few .ensures) ∙ not-false _ (t .before .if4 .left)) (source t ∙ not-true _ (c .if5 .taken)))
 
 inside-requires-2 : tie.Need-inside-requires-2
-inside-requires-2 c κs = search needs
+inside-requires-2 c κs = tt
 
 returns-6 : tie.Need-returns-6
 returns-6 c = let t = c .before .before in

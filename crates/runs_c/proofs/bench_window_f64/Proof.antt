@@ -3,7 +3,6 @@ use mathlib.Core.Path.{_≡_, refl, sym, subst, _∙_}
 use mathlib.Core.Bool.{true}
 use Prim.Native.Nat.{_-_, _≤_}
 use native.Mathlib.Omega.{arith}
-use borrow.Author.Needs.{needs}
 use borrow.Author.Tests.{not-true, not-false}
 use lib.Ieee.{nan}
 use lib.ListN.{length}
@@ -38,13 +37,13 @@ module _ (e : tie.Else1 Inv-loop μ-loop) where
   passed = test-is (e .before) ∙ not-false _ (e .if1 .left)
 
 accepts-requires : tie.Need-accepts-requires Inv-loop μ-loop
-accepts-requires c κs = search needs
+accepts-requires c κs = tt
 
 returns : tie.Need-returns Inv-loop μ-loop
 returns c = refused _ _ _ _ (test-is (c .before) ∙ not-true _ (c .if1 .taken))
 
 rule-of-requires : tie.Need-rule-of-requires Inv-loop μ-loop
-rule-of-requires c κs = search needs
+rule-of-requires c κs = tt
 
 loop-holds : tie.Need-loop-holds Inv-loop μ-loop
 loop-holds c = (omega arith, refl, none _ 0 _ refl)

@@ -5,18 +5,17 @@ use Rattle.integer.specs.Z.{back}
 use Rattle.layout.specs.Answers.{isDone}
 use Rattle.layout.specs.Reach.{viewReach, bufferBounds}
 use Rattle.runs_c.specs.Bench.{covers}
-use borrow.Author.Needs.{needs}
 use Rattle.runs_c.proofs.inside.Statement.{statement}
 use Rattle.runs_c.proofs.inside.Tie as tie
 
 view-reach-requires : tie.Need-view-reach-requires
-view-reach-requires c κs = search needs
+view-reach-requires c κs = tt
 
 check-reach-requires : tie.Need-check-reach-requires
-check-reach-requires c κs = search needs
+check-reach-requires c κs = tt
 
 is-done-requires : tie.Need-is-done-requires
-is-done-requires c κs = search needs
+is-done-requires c κs = tt
 
 returns : tie.Need-returns
 unfolding covers

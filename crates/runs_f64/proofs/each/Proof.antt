@@ -36,7 +36,7 @@ shared-slice-read-apply : tie.Need-shared-slice-read-apply Inv-loop μ-loop
 shared-slice-read-apply c = omega arith
 
 apply-requires : tie.Need-apply-requires Inv-loop μ-loop
-apply-requires c κs = search needs
+apply-requires c κs = tt
 
 mul-dst : tie.Need-mul-dst Inv-loop μ-loop
 mul-dst c = search needs

@@ -1,31 +1,30 @@
-use borrow.Author.Needs.{needs}
 use Rattle.scatter.proofs.Planned.{numbers-are}
 use Rattle.scatter.proofs.numbers_of.Statement.{statement}
 use Rattle.scatter.proofs.numbers_of.Tie as tie
 
 shape-of-requires : tie.Need-shape-of-requires
-shape-of-requires c κs = search needs
+shape-of-requires c κs = tt
 
 shape-of-requires-2 : tie.Need-shape-of-requires-2
-shape-of-requires-2 c κs = search needs
+shape-of-requires-2 c κs = tt
 
 source-steps-requires : tie.Need-source-steps-requires
-source-steps-requires c κs = search needs
+source-steps-requires c κs = tt
 
 unless-none-requires : tie.Need-unless-none-requires
-unless-none-requires c κs = search needs
+unless-none-requires c κs = tt
 
 dest-steps-requires : tie.Need-dest-steps-requires
-dest-steps-requires c κs = search needs
+dest-steps-requires c κs = tt
 
 source-steps-requires-2 : tie.Need-source-steps-requires-2
-source-steps-requires-2 c κs = search needs
+source-steps-requires-2 c κs = tt
 
 dest-steps-requires-2 : tie.Need-dest-steps-requires-2
-dest-steps-requires-2 c κs = search needs
+dest-steps-requires-2 c κs = tt
 
 limits-of-requires : tie.Need-limits-of-requires
-limits-of-requires c κs = search needs
+limits-of-requires c κs = tt
 
 returns : tie.Need-returns
 returns c = let s = c .before .before .before .before .before .before .before .before .before .before .before .before .before .before .before .before .before .before .before in numbers-are (s .args .plan) (s .args .batch-rows) (s .args .window-rows) (s .pre) _ _ _ _ _ _ _ _ (c .before .before .before .before .before .before .before .before .before .shape-of .ensures) (c .before .before .before .before .before .before .before .before .shape-of2 .ensures) (c .before .before .before .before .before .before .before .source-steps .ensures) (c .before .before .before .before .before .before .unless-none .ensures) (c .before .before .before .before .before .dest-steps .ensures) (c .before .before .before .before .source-steps2 .ensures) (c .before .before .before .dest-steps2 .ensures) (c .before .before .limits-of .ensures)

@@ -20,31 +20,31 @@ offsets : (s : tie.Start) → SFits w64 (s .args .index .offset) × SFits w64 (s
 offsets s = (search (needs, s .good .1 .1 .1 .0), search (needs, s .good .1 .1 .1 .1 .0), search (needs, s .good .1 .1 .1 .1 .1 .0))
 
 plan-fits-requires : tie.Need-plan-fits-requires
-plan-fits-requires c κs = search needs
+plan-fits-requires c κs = tt
 
 check-plan-requires : tie.Need-check-plan-requires
-check-plan-requires c κs = search needs
+check-plan-requires c κs = tt
 
 view-reach-requires : tie.Need-view-reach-requires
-view-reach-requires c κs = search needs
+view-reach-requires c κs = tt
 
 view-reach-requires-2 : tie.Need-view-reach-requires-2
-view-reach-requires-2 c κs = search needs
+view-reach-requires-2 c κs = tt
 
 view-reach-requires-3 : tie.Need-view-reach-requires-3
-view-reach-requires-3 c κs = search needs
+view-reach-requires-3 c κs = tt
 
 check-bounds-requires : tie.Need-check-bounds-requires
-check-bounds-requires c κs = search needs
+check-bounds-requires c κs = tt
 
 or-else-requires : tie.Need-or-else-requires
-or-else-requires c κs = search needs
+or-else-requires c κs = tt
 
 is-done-requires : tie.Need-is-done-requires
-is-done-requires c κs = search needs
+is-done-requires c κs = tt
 
 refused-requires : tie.Need-refused-requires
-refused-requires c κs = search needs
+refused-requires c κs = tt
 
 returns : tie.Need-returns
 returns c =
@@ -60,7 +60,7 @@ numbers-of-requires c κs =
     compiled (s .args .plan) (s .args .batch-rows) (s .args .window-rows) (s .args .index) (s .args .updates) (s .args .dest) (s .args .starts-len) (s .args .updates-len) (s .args .dest-len) (ap isDone (sym a) ∙ sym (c .before .is-done .ensures) ∙ not-false _ (c .if1 .left))
 
 start-base-requires : tie.Need-start-base-requires
-start-base-requires c κs = search needs
+start-base-requires c κs = tt
 
 returns-2 : tie.Need-returns-2
 unfolding scatterNumbers

@@ -1,10 +1,9 @@
 use mathlib.Core.Path.{sym, _∙_}
-use borrow.Author.Needs.{needs}
 use Rattle.scatter_checks.proofs.check_batch.Statement.{statement}
 use Rattle.scatter_checks.proofs.check_batch.Tie as tie
 
 picked-same-requires : tie.Need-picked-same-requires
-picked-same-requires c κs = search needs
+picked-same-requires c κs = tt
 
 returns : tie.Need-returns
 returns c = rw (sym (c .before .picked-same .ensures) ∙ c .if1 .taken)

@@ -25,7 +25,7 @@ part-check-total-end : tie.Need-part-check-total-end
 part-check-total-end c = search needs
 
 check-total-requires : tie.Need-check-total-requires
-check-total-requires c κs = search needs
+check-total-requires c κs = tt
 
 returns : tie.Need-returns
 returns c =

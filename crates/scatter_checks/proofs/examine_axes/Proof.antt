@@ -19,13 +19,13 @@ check-axes-requires : tie.Need-check-axes-requires
 check-axes-requires c κs = search needs
 
 or-else-requires : tie.Need-or-else-requires
-or-else-requires c κs = search needs
+or-else-requires c κs = tt
 
 is-done-requires : tie.Need-is-done-requires
-is-done-requires c κs = search needs
+is-done-requires c κs = tt
 
 unexamined-requires : tie.Need-unexamined-requires
-unexamined-requires c κs = search needs
+unexamined-requires c κs = tt
 
 -- what was answered before the walks
 before-walks : (c : tie.After-or-else) → c .or-else .result ≡ orElse (c .before .before .before .before .before .before .before .before .before .before .before .args .four) (axesRefusal (asked (c .before .before .before .before .before .before .before .before .before .before .before)))

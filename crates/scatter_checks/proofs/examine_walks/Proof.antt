@@ -44,25 +44,25 @@ walk-along-requires-2 : tie.Need-walk-along-requires-2
 walk-along-requires-2 c κs = let s = c .before .before .before .before .before .before .before .before .before .before .before .before .before in (window-few (asked s) _ _ _ (s .pre .listed) (s .pre .counted), refl, same-window (asked s) _ _ _ (s .pre .listed) (s .pre .counted))
 
 stride-at-requires : tie.Need-stride-at-requires
-stride-at-requires c κs = search needs
+stride-at-requires c κs = tt
 
 check-components-requires : tie.Need-check-components-requires
-check-components-requires c κs = search needs
+check-components-requires c κs = tt
 
 or-else-requires : tie.Need-or-else-requires
-or-else-requires c κs = search needs
+or-else-requires c κs = tt
 
 or-else-requires-2 : tie.Need-or-else-requires-2
-or-else-requires-2 c κs = search needs
+or-else-requires-2 c κs = tt
 
 or-else-requires-3 : tie.Need-or-else-requires-3
-or-else-requires-3 c κs = search needs
+or-else-requires-3 c κs = tt
 
 or-else-requires-4 : tie.Need-or-else-requires-4
-or-else-requires-4 c κs = search needs
+or-else-requires-4 c κs = tt
 
 or-else-requires-5 : tie.Need-or-else-requires-5
-or-else-requires-5 c κs = search needs
+or-else-requires-5 c κs = tt
 
 returns : tie.Need-returns
 unfolding windowShape

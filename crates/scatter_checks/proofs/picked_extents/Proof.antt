@@ -25,7 +25,7 @@ shared-slice-read-entry-at : tie.Need-shared-slice-read-entry-at Inv-loop μ-loo
 shared-slice-read-entry-at c = search needs
 
 entry-at-requires : tie.Need-entry-at-requires Inv-loop μ-loop
-entry-at-requires c κs = search needs
+entry-at-requires c κs = tt
 
 mul-out : tie.Need-mul-out Inv-loop μ-loop
 mul-out c = search needs

@@ -1,9 +1,8 @@
-use borrow.Author.Needs.{needs}
 use Rattle.scatter_checks.proofs.scatter_refusal.Statement.{statement}
 use Rattle.scatter_checks.proofs.scatter_refusal.Tie as tie
 
 examine-requires : tie.Need-examine-requires
-examine-requires c κs = search needs
+examine-requires c κs = tt
 
 returns : tie.Need-returns
 returns c = c .examine .ensures .answered

@@ -38,7 +38,7 @@ turned c =
     ∙ spread-turn 1 1 (min (s .args .n) rankLimit) (s .args .kept .now) sizes (l .loop .out) i (c .entry-at .result) (omega arith) t (l .loop .inv .0) (omega (arith, l .loop .inv .0, n, s .pre)) (l .loop .inv .1) x
 
 axis-count-requires : tie.Need-axis-count-requires Inv-loop μ-loop
-axis-count-requires c κs = search needs
+axis-count-requires c κs = tt
 
 loop-holds : tie.Need-loop-holds Inv-loop μ-loop
 loop-holds c =
@@ -62,7 +62,7 @@ shared-slice-read-entry-at : tie.Need-shared-slice-read-entry-at Inv-loop μ-loo
 shared-slice-read-entry-at c = let l = c .before .before .before in let s = l .before .before .before .before .before in omega (arith, l .loop .inv .0, s .pre)
 
 entry-at-requires : tie.Need-entry-at-requires Inv-loop μ-loop
-entry-at-requires c κs = search needs
+entry-at-requires c κs = tt
 
 mul-out : tie.Need-mul-out Inv-loop μ-loop
 mul-out c = search needs

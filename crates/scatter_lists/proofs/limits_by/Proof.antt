@@ -13,7 +13,7 @@ use Rattle.scatter_lists.proofs.limits_by.Statement.{statement}
 use Rattle.scatter_lists.proofs.limits_by.Tie as tie
 
 other-axes-requires : tie.Need-other-axes-requires
-other-axes-requires c κs = search needs
+other-axes-requires c κs = tt
 
 sub-spread-windows : tie.Need-sub-spread-windows
 sub-spread-windows c = search needs
@@ -37,7 +37,7 @@ part-limits-on-end : tie.Need-part-limits-on-end
 part-limits-on-end c = search needs
 
 limits-on-requires : tie.Need-limits-on-requires
-limits-on-requires c κs = search needs
+limits-on-requires c κs = tt
 
 returns : tie.Need-returns
 returns c =

@@ -40,7 +40,7 @@ sub-at : tie.Need-sub-at
 sub-at c = let s = c .before .before .before .before in sub-fits (s .args .p) (s .args .low) (s .args .high) (s .args .starts .now) (length (s .args .source .now)) (length (s .args .into .now)) (s .pre) (dest-fits s) (dest-room s)
 
 rows-of-requires : tie.Need-rows-of-requires
-rows-of-requires c κs = search needs
+rows-of-requires c κs = tt
 
 mul-run-f64 : tie.Need-mul-run-f64
 mul-run-f64 c = let s = c .before .before .before .before .before .before .before in omega (arith, low-high (s .args .p) (s .args .low) (s .args .high) (s .args .starts .now) (length (s .args .source .now)) (length (s .args .into .now)) (s .pre), high-in (s .args .p) (s .args .low) (s .args .high) (s .args .starts .now) (length (s .args .source .now)) (length (s .args .into .now)) (s .pre), s .good .1 .1 .1 .1 .0 .1)

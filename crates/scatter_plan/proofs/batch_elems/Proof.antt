@@ -12,7 +12,7 @@ use Rattle.scatter_plan.proofs.batch_elems.Statement.{statement}
 use Rattle.scatter_plan.proofs.batch_elems.Tie as tie
 
 other-axes-requires : tie.Need-other-axes-requires
-other-axes-requires c κs = search needs
+other-axes-requires c κs = tt
 
 sub-product-value : tie.Need-sub-product-value
 sub-product-value c = search needs

@@ -1,9 +1,8 @@
-use borrow.Author.Needs.{needs}
 use Rattle.scatter_plan.proofs.compile_again.Statement.{statement}
 use Rattle.scatter_plan.proofs.compile_again.Tie as tie
 
 examine-again-requires : tie.Need-examine-again-requires
-examine-again-requires c κs = search needs
+examine-again-requires c κs = tt
 
 compiled-from-requires : tie.Need-compiled-from-requires
 compiled-from-requires c κs = c .examine-again .ensures .found

@@ -21,34 +21,34 @@ abbrev asked : tie.Start → Scatter
 asked s = scatterFrom (s .args .index-extents .now) (s .args .index-strides .now) (s .args .updates-extents .now) (s .args .updates-strides .now) (s .args .dest-extents .now) (s .args .dest-strides .now) (s .args .window .now) (s .args .inserted .now) (s .args .map .now) (s .args .vector)
 
 make-layout-requires : tie.Need-make-layout-requires
-make-layout-requires c κs = search needs
+make-layout-requires c κs = tt
 
 make-layout-requires-2 : tie.Need-make-layout-requires-2
-make-layout-requires-2 c κs = search needs
+make-layout-requires-2 c κs = tt
 
 make-layout-requires-3 : tie.Need-make-layout-requires-3
-make-layout-requires-3 c κs = search needs
+make-layout-requires-3 c κs = tt
 
 windows-of-requires : tie.Need-windows-of-requires
 windows-of-requires c κs = let s = c .before .before .before .before .before .before .before .before .before .before .before .before in (fits (asked s) _ _ (s .pre) .dest-rank, fits (asked s) _ _ (s .pre) .window-few)
 
 stride-at-requires : tie.Need-stride-at-requires
-stride-at-requires c κs = search needs
+stride-at-requires c κs = tt
 
 index-component-offsets-requires : tie.Need-index-component-offsets-requires
-index-component-offsets-requires c κs = search needs
+index-component-offsets-requires c κs = tt
 
 strides-on-requires : tie.Need-strides-on-requires
-strides-on-requires c κs = search needs
+strides-on-requires c κs = tt
 
 numbers-from-requires : tie.Need-numbers-from-requires
-numbers-from-requires c κs = search needs
+numbers-from-requires c κs = tt
 
 numbers-from-requires-2 : tie.Need-numbers-from-requires-2
-numbers-from-requires-2 c κs = search needs
+numbers-from-requires-2 c κs = tt
 
 numbers-from-requires-3 : tie.Need-numbers-from-requires-3
-numbers-from-requires-3 c κs = search needs
+numbers-from-requires-3 c κs = tt
 
 batch-elems-requires : tie.Need-batch-elems-requires
 batch-elems-requires c κs = let s = c .before .before .before .before .before .before .before .before .before .before .before .before .before .before .before .before .before .before .before in fits (asked s) _ _ (s .pre) .updates-rank

@@ -10,27 +10,27 @@ use borrow.Author.Needs.{needs}
 use Rattle.scatter_plan.proofs.product_value.Statement.{statement}
 use Rattle.scatter_plan.proofs.product_value.Tie as tie
 
-total : (c : tie.After-total-of) → c .total-of .result ≡ totalOf (pick 0 (c .before .before .before .before .before .before .args .axes .now) (c .before .before .before .before .before .before .args .list .now))
+total : (c : tie.After-checked-total-len) → c .checked-total-len .result ≡ totalOf (pick 0 (c .before .before .before .before .before .before .args .axes .now) (c .before .before .before .before .before .before .args .list .now))
 total c =
     let x = c .before .before .before in
     let s = c .before .before .before .before .before .before in
     let n = length-pick 0 (s .args .axes .now) (s .args .list .now) in
-    c .total-of .ensures ∙ ap totalOf (filled-part 0 (length (s .args .axes .now)) (x .picked-extents .result) (pick 0 (s .args .axes .now) (s .args .list .now)) (x .picked-extents .ensures) (sym n) (omega (arith, n, s .pre)))
+    c .checked-total-len .ensures ∙ ap totalOf (filled-part 0 (length (s .args .axes .now)) (x .picked-extents .result) (pick 0 (s .args .axes .now) (s .args .list .now)) (x .picked-extents .ensures) (sym n) (omega (arith, n, s .pre)))
 
 picked-extents-requires : tie.Need-picked-extents-requires
 picked-extents-requires c κs = search needs
 
-sub-total-of : tie.Need-sub-total-of
-sub-total-of c = search needs
+sub-checked-total-len : tie.Need-sub-checked-total-len
+sub-checked-total-len c = search needs
 
-part-total-of-start : tie.Need-part-total-of-start
-part-total-of-start c = search needs
+part-checked-total-len-start : tie.Need-part-checked-total-len-start
+part-checked-total-len-start c = search needs
 
-part-total-of-end : tie.Need-part-total-of-end
-part-total-of-end c = search needs
+part-checked-total-len-end : tie.Need-part-checked-total-len-end
+part-checked-total-len-end c = search needs
 
-total-of-requires : tie.Need-total-of-requires
-total-of-requires c κs = search needs
+checked-total-len-requires : tie.Need-checked-total-len-requires
+checked-total-len-requires c κs = tt
 
 enum-known-total : tie.Need-enum-known-total
 enum-known-total c = search needs
@@ -49,10 +49,10 @@ product-value-spec =
     tie.close
     (tie.spec
     picked-extents-requires
-    sub-total-of
-    part-total-of-start
-    part-total-of-end
-    total-of-requires
+    sub-checked-total-len
+    part-checked-total-len-start
+    part-checked-total-len-end
+    checked-total-len-requires
     enum-known-total
     enum-told
     returns

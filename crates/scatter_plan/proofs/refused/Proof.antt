@@ -1,9 +1,8 @@
-use borrow.Author.Needs.{needs}
 use Rattle.scatter_plan.proofs.refused.Statement.{statement}
 use Rattle.scatter_plan.proofs.refused.Tie as tie
 
 refused-replay-requires : tie.Need-refused-replay-requires
-refused-replay-requires c κs = search needs
+refused-replay-requires c κs = tt
 
 returns : tie.Need-returns
 returns c = rw (c .before .refused-replay .ensures)

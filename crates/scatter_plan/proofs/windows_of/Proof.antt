@@ -9,21 +9,20 @@ use Rattle.layout.specs.Layouts.{rankLimit}
 use Rattle.axis_lists.specs.Held.{heldNumbers}
 use Rattle.axis_lists.proofs.Filling.{length-others}
 use Rattle.scatter_checks.proofs.Read.{held-read}
-use borrow.Author.Needs.{needs}
 use Rattle.scatter_plan.proofs.windows_of.Statement.{statement}
 use Rattle.scatter_plan.proofs.windows_of.Tie as tie
 
 other-axes-requires : tie.Need-other-axes-requires
-other-axes-requires c κs = search needs
+other-axes-requires c κs = tt
 
 numbers-from-requires : tie.Need-numbers-from-requires
-numbers-from-requires c κs = search needs
+numbers-from-requires c κs = tt
 
 pick-entries-requires : tie.Need-pick-entries-requires
-pick-entries-requires c κs = search needs
+pick-entries-requires c κs = tt
 
 spread-numbers-requires : tie.Need-spread-numbers-requires
-spread-numbers-requires c κs = search needs
+spread-numbers-requires c κs = tt
 
 returns : tie.Need-returns
 returns c =

@@ -12,22 +12,22 @@ eights : (s : tie.Start) → (length (s .args .plan .index .extents) ≡ rankLim
 eights s = (search needs, search needs, search needs, search needs, search needs, search needs, search needs, search needs, search (needs, s .good .0 .1 .1 .1 .1 .1 .1 .1 .0))
 
 axis-count-requires : tie.Need-axis-count-requires
-axis-count-requires c κs = search needs
+axis-count-requires c κs = tt
 
 axis-count-requires-2 : tie.Need-axis-count-requires-2
-axis-count-requires-2 c κs = search needs
+axis-count-requires-2 c κs = tt
 
 axis-count-requires-3 : tie.Need-axis-count-requires-3
-axis-count-requires-3 c κs = search needs
+axis-count-requires-3 c κs = tt
 
 axis-count-requires-4 : tie.Need-axis-count-requires-4
-axis-count-requires-4 c κs = search needs
+axis-count-requires-4 c κs = tt
 
 axis-count-requires-5 : tie.Need-axis-count-requires-5
-axis-count-requires-5 c κs = search needs
+axis-count-requires-5 c κs = tt
 
 axis-count-requires-6 : tie.Need-axis-count-requires-6
-axis-count-requires-6 c κs = search needs
+axis-count-requires-6 c κs = tt
 
 sub-compile-again : tie.Need-sub-compile-again
 sub-compile-again c = search needs
@@ -111,7 +111,7 @@ part-compile-again-end-9 : tie.Need-part-compile-again-end-9
 part-compile-again-end-9 c = let s = c .before .before .before .before .before .before .before .before .before .before .before .before .before .before .before .before .before .before .before .before .before .before .before .before .before .before .before .before .before .before .before .before .before .before .before .before .before .before in part-fits (c .before .before .before .before .before .before .before .before .before .before .before .before .before .before .before .before .before .axis-count6 .result) (s .args .plan .«scatter_dims_to_operand_dims» .count) (s .args .plan .«scatter_dims_to_operand_dims» .entries) (c .before .before .before .before .before .before .before .before .before .before .before .before .before .before .before .before .before .axis-count6 .ensures) (eights s .8)
 
 compile-again-requires : tie.Need-compile-again-requires
-compile-again-requires c κs = search needs
+compile-again-requires c κs = tt
 
 returns : tie.Need-returns
 returns c =

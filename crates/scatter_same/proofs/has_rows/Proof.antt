@@ -1,22 +1,21 @@
 use Rattle.scatter_same.specs.Same.{hasRows}
-use borrow.Author.Needs.{needs}
 use Rattle.scatter_same.proofs.has_rows.Statement.{statement}
 use Rattle.scatter_same.proofs.has_rows.Tie as tie
 
 rows-of-requires : tie.Need-rows-of-requires
-rows-of-requires c κs = search needs
+rows-of-requires c κs = tt
 
 rows-of-requires-2 : tie.Need-rows-of-requires-2
-rows-of-requires-2 c κs = search needs
+rows-of-requires-2 c κs = tt
 
 same-rows-requires : tie.Need-same-rows-requires
-same-rows-requires c κs = search needs
+same-rows-requires c κs = tt
 
 same-rows-requires-2 : tie.Need-same-rows-requires-2
-same-rows-requires-2 c κs = search needs
+same-rows-requires-2 c κs = tt
 
 both-requires : tie.Need-both-requires
-both-requires c κs = search needs
+both-requires c κs = tt
 
 returns : tie.Need-returns
 unfolding hasRows

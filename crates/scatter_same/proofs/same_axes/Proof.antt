@@ -35,7 +35,7 @@ array-copy-out-y : tie.Need-array-copy-out-y Inv-loop μ-loop
 array-copy-out-y c = search needs
 
 same-step-requires : tie.Need-same-step-requires Inv-loop μ-loop
-same-step-requires c κs = search needs
+same-step-requires c κs = tt
 
 returns : tie.Need-returns Inv-loop μ-loop
 returns c =

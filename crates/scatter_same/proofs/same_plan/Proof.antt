@@ -1,28 +1,27 @@
 use Rattle.scatter_same.specs.Same.{samePlan}
-use borrow.Author.Needs.{needs}
 use Rattle.scatter_same.proofs.same_plan.Statement.{statement}
 use Rattle.scatter_same.proofs.same_plan.Tie as tie
 
 same-layouts-requires : tie.Need-same-layouts-requires
-same-layouts-requires c κs = search needs
+same-layouts-requires c κs = tt
 
 same-spec-requires : tie.Need-same-spec-requires
-same-spec-requires c κs = search needs
+same-spec-requires c κs = tt
 
 same-walks-requires : tie.Need-same-walks-requires
-same-walks-requires c κs = search needs
+same-walks-requires c κs = tt
 
 same-starts-requires : tie.Need-same-starts-requires
-same-starts-requires c κs = search needs
+same-starts-requires c κs = tt
 
 both-requires : tie.Need-both-requires
-both-requires c κs = search needs
+both-requires c κs = tt
 
 both-requires-2 : tie.Need-both-requires-2
-both-requires-2 c κs = search needs
+both-requires-2 c κs = tt
 
 both-requires-3 : tie.Need-both-requires-3
-both-requires-3 c κs = search needs
+both-requires-3 c κs = tt
 
 returns : tie.Need-returns
 unfolding samePlan

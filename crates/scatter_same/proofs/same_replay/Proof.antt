@@ -1,19 +1,18 @@
 use Rattle.scatter_same.specs.Same.{sameReplay}
-use borrow.Author.Needs.{needs}
 use Rattle.scatter_same.proofs.same_replay.Statement.{statement}
 use Rattle.scatter_same.proofs.same_replay.Tie as tie
 
 same-axes-requires : tie.Need-same-axes-requires
-same-axes-requires c κs = search needs
+same-axes-requires c κs = tt
 
 same-spans-requires : tie.Need-same-spans-requires
-same-spans-requires c κs = search needs
+same-spans-requires c κs = tt
 
 both-requires : tie.Need-both-requires
-both-requires c κs = search needs
+both-requires c κs = tt
 
 both-requires-2 : tie.Need-both-requires-2
-both-requires-2 c κs = search needs
+both-requires-2 c κs = tt
 
 returns : tie.Need-returns
 unfolding sameReplay

@@ -34,7 +34,7 @@ array-copy-out-y : tie.Need-array-copy-out-y Inv-loop μ-loop
 array-copy-out-y c = search needs
 
 same-row-requires : tie.Need-same-row-requires Inv-loop μ-loop
-same-row-requires c κs = search needs
+same-row-requires c κs = tt
 
 returns : tie.Need-returns Inv-loop μ-loop
 returns c =

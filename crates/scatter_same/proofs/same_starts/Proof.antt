@@ -1,22 +1,21 @@
 use Rattle.scatter_same.specs.Same.{sameStarts}
-use borrow.Author.Needs.{needs}
 use Rattle.scatter_same.proofs.same_starts.Statement.{statement}
 use Rattle.scatter_same.proofs.same_starts.Tie as tie
 
 same-numbers-requires : tie.Need-same-numbers-requires
-same-numbers-requires c κs = search needs
+same-numbers-requires c κs = tt
 
 same-steps-requires : tie.Need-same-steps-requires
-same-steps-requires c κs = search needs
+same-steps-requires c κs = tt
 
 same-steps-requires-2 : tie.Need-same-steps-requires-2
-same-steps-requires-2 c κs = search needs
+same-steps-requires-2 c κs = tt
 
 both-requires : tie.Need-both-requires
-both-requires c κs = search needs
+both-requires c κs = tt
 
 both-requires-2 : tie.Need-both-requires-2
-both-requires-2 c κs = search needs
+both-requires-2 c κs = tt
 
 returns : tie.Need-returns
 unfolding sameStarts

@@ -1,22 +1,21 @@
 use Rattle.scatter_same.specs.Same.{sameWalks}
-use borrow.Author.Needs.{needs}
 use Rattle.scatter_same.proofs.same_walks.Statement.{statement}
 use Rattle.scatter_same.proofs.same_walks.Tie as tie
 
 same-replay-requires : tie.Need-same-replay-requires
-same-replay-requires c κs = search needs
+same-replay-requires c κs = tt
 
 same-replay-requires-2 : tie.Need-same-replay-requires-2
-same-replay-requires-2 c κs = search needs
+same-replay-requires-2 c κs = tt
 
 both-requires : tie.Need-both-requires
-both-requires c κs = search needs
+both-requires c κs = tt
 
 both-requires-2 : tie.Need-both-requires-2
-both-requires-2 c κs = search needs
+both-requires-2 c κs = tt
 
 both-requires-3 : tie.Need-both-requires-3
-both-requires-3 c κs = search needs
+both-requires-3 c κs = tt
 
 returns : tie.Need-returns
 unfolding sameWalks

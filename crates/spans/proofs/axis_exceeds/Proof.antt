@@ -31,7 +31,7 @@ shared-slice-copy-out-magnitude-i64 : tie.Need-shared-slice-copy-out-magnitude-i
 shared-slice-copy-out-magnitude-i64 c = search needs
 
 magnitude-i64-requires : tie.Need-magnitude-i64-requires
-magnitude-i64-requires c κs = search needs
+magnitude-i64-requires c κs = tt
 
 others-weight-requires : tie.Need-others-weight-requires
 others-weight-requires c κs = search needs

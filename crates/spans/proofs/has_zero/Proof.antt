@@ -7,7 +7,7 @@ use Rattle.spans.proofs.has_zero.Statement.{statement}
 use Rattle.spans.proofs.has_zero.Tie as tie
 
 axis-count-requires : tie.Need-axis-count-requires
-axis-count-requires c κs = search needs
+axis-count-requires c κs = tt
 
 sub-zero-in : tie.Need-sub-zero-in
 sub-zero-in c = search needs
@@ -19,7 +19,7 @@ part-zero-in-end : tie.Need-part-zero-in-end
 part-zero-in-end c = search needs
 
 zero-in-requires : tie.Need-zero-in-requires
-zero-in-requires c κs = search needs
+zero-in-requires c κs = tt
 
 returns : tie.Need-returns
 returns c = c .zero-in .ensures ∙ ap hasZero (part-read _ _ rankLimit _ (c .before .before .before .axis-count .ensures) (search needs))

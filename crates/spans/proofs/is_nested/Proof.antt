@@ -7,7 +7,7 @@ use Rattle.spans.proofs.is_nested.Statement.{statement}
 use Rattle.spans.proofs.is_nested.Tie as tie
 
 axis-count-requires : tie.Need-axis-count-requires
-axis-count-requires c κs = search needs
+axis-count-requires c κs = tt
 
 sub-nested-in : tie.Need-sub-nested-in
 sub-nested-in c = search needs

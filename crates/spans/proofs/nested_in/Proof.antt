@@ -16,7 +16,7 @@ abbrev μ-loop : tie.MeasureT-loop
 μ-loop extents strides i₀ i = length extents - i
 
 zero-in-requires : tie.Need-zero-in-requires Inv-loop μ-loop
-zero-in-requires c κs = search needs
+zero-in-requires c κs = tt
 
 returns : tie.Need-returns Inv-loop μ-loop
 returns c = zero-nested _ _ (sym (c .before .zero-in .ensures) ∙ c .if1 .taken)

@@ -47,10 +47,10 @@ shared-slice-copy-out-other-weight : tie.Need-shared-slice-copy-out-other-weight
 shared-slice-copy-out-other-weight c = search needs
 
 other-weight-requires : tie.Need-other-weight-requires Inv-loop μ-loop
-other-weight-requires c κs = search needs
+other-weight-requires c κs = tt
 
 sum-with-requires : tie.Need-sum-with-requires Inv-loop μ-loop
-sum-with-requires c κs = search needs
+sum-with-requires c κs = tt
 
 enum-known-s : tie.Need-enum-known-s Inv-loop μ-loop
 enum-known-s c = search needs

@@ -24,7 +24,7 @@ cast-at c =
     as-u64 (s .fits .offset) (not-less (s .fits .offset) (sfits-lit {z = pos 0} tt) (c .if1 .left))
 
 zero-in-requires : tie.Need-zero-in-requires
-zero-in-requires c κs = search needs
+zero-in-requires c κs = tt
 
 returns-2 : tie.Need-returns-2
 returns-2 c =
@@ -45,7 +45,7 @@ side-reach-requires-2 : tie.Need-side-reach-requires-2
 side-reach-requires-2 c κs = search needs
 
 cells-within-requires : tie.Need-cells-within-requires
-cells-within-requires c κs = search needs
+cells-within-requires c κs = tt
 
 returns-4 : tie.Need-returns-4
 returns-4 c =

@@ -46,10 +46,10 @@ shared-slice-copy-out-side-weight : tie.Need-shared-slice-copy-out-side-weight I
 shared-slice-copy-out-side-weight c = search needs
 
 side-weight-requires : tie.Need-side-weight-requires Inv-loop μ-loop
-side-weight-requires c κs = search needs
+side-weight-requires c κs = tt
 
 sum-with-requires : tie.Need-sum-with-requires Inv-loop μ-loop
-sum-with-requires c κs = search needs
+sum-with-requires c κs = tt
 
 enum-known-s : tie.Need-enum-known-s Inv-loop μ-loop
 enum-known-s c = search needs

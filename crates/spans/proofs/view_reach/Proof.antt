@@ -14,7 +14,7 @@ use Rattle.spans.proofs.view_reach.Statement.{statement}
 use Rattle.spans.proofs.view_reach.Tie as tie
 
 axis-count-requires : tie.Need-axis-count-requires
-axis-count-requires c κs = search needs
+axis-count-requires c κs = tt
 
 sub-reach-of : tie.Need-sub-reach-of
 sub-reach-of c = search needs

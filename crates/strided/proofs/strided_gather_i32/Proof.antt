@@ -8,13 +8,13 @@ use Rattle.strided.proofs.strided_gather_i32.Statement.{statement}
 use Rattle.strided.proofs.strided_gather_i32.Tie as tie
 
 prepare-gather-requires : tie.Need-prepare-gather-requires
-prepare-gather-requires c κs = search needs
+prepare-gather-requires c κs = tt
 
 move-i32-requires : tie.Need-move-i32-requires
 move-i32-requires c κs = movable (c .before .prepare-gather .ensures)
 
 words-of-requires : tie.Need-words-of-requires
-words-of-requires c κs = search needs
+words-of-requires c κs = tt
 
 same-length : tie.Need-same-length
 same-length c = search needs

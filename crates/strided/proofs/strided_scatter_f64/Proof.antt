@@ -9,13 +9,13 @@ use Rattle.strided.proofs.strided_scatter_f64.Statement.{statement}
 use Rattle.strided.proofs.strided_scatter_f64.Tie as tie
 
 prepare-scatter-requires : tie.Need-prepare-scatter-requires
-prepare-scatter-requires c κs = search needs
+prepare-scatter-requires c κs = tt
 
 move-f64-requires : tie.Need-move-f64-requires
 move-f64-requires c κs = movable (c .before .prepare-scatter .ensures)
 
 words-of-requires : tie.Need-words-of-requires
-words-of-requires c κs = search needs
+words-of-requires c κs = tt
 
 same-length : tie.Need-same-length
 same-length c = search needs

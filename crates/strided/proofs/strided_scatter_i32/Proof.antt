@@ -9,13 +9,13 @@ use Rattle.strided.proofs.strided_scatter_i32.Statement.{statement}
 use Rattle.strided.proofs.strided_scatter_i32.Tie as tie
 
 prepare-scatter-requires : tie.Need-prepare-scatter-requires
-prepare-scatter-requires c κs = search needs
+prepare-scatter-requires c κs = tt
 
 move-i32-requires : tie.Need-move-i32-requires
 move-i32-requires c κs = movable (c .before .prepare-scatter .ensures)
 
 words-of-requires : tie.Need-words-of-requires
-words-of-requires c κs = search needs
+words-of-requires c κs = tt
 
 same-length : tie.Need-same-length
 same-length c = search needs

@@ -23,7 +23,7 @@ walked : (s : tie.Start Inv-loop μ-loop) → Walk (toZ w64 (ofZ w64 (s .args .s
 walked s = rw (back (s .fits .source-base), back (s .fits .dest-base)) (s .pre)
 
 start-requires : tie.Need-start-requires Inv-loop μ-loop
-start-requires c κs = search needs
+start-requires c κs = tt
 
 loop-holds : tie.Need-loop-holds Inv-loop μ-loop
 loop-holds c =
@@ -32,7 +32,7 @@ loop-holds c =
     (omega arith, c .start .ensures ∙ begins (toZ w64 (ofZ w64 (s .args .source-base))) (toZ w64 (ofZ w64 (s .args .dest-base))) (s .args .shape) (s .args .rows) (s .args .rank) (s .pre .small) f)
 
 put-place-requires : tie.Need-put-place-requires Inv-loop μ-loop
-put-place-requires c κs = search needs
+put-place-requires c κs = tt
 
 step-requires : tie.Need-step-requires Inv-loop μ-loop
 step-requires c κs =
@@ -56,7 +56,7 @@ slice-aggregate-put : tie.Need-slice-aggregate-put Inv-loop μ-loop
 slice-aggregate-put c = search needs
 
 put-requires : tie.Need-put-requires Inv-loop μ-loop
-put-requires c κs = search needs
+put-requires c κs = tt
 
 returns : tie.Need-returns Inv-loop μ-loop
 returns c = search needs

@@ -10,7 +10,7 @@ abbrev μ-loop : tie.MeasureT-loop
 μ-loop rank axes count i₀ i = count - i
 
 axis-count-requires : tie.Need-axis-count-requires Inv-loop μ-loop
-axis-count-requires c κs = search needs
+axis-count-requires c κs = tt
 
 loop-holds : tie.Need-loop-holds Inv-loop μ-loop
 loop-holds c = search needs
@@ -22,7 +22,7 @@ array-copy-out-put-axis : tie.Need-array-copy-out-put-axis Inv-loop μ-loop
 array-copy-out-put-axis c = search needs
 
 put-axis-requires : tie.Need-put-axis-requires Inv-loop μ-loop
-put-axis-requires c κs = search needs
+put-axis-requires c κs = tt
 
 add-i : tie.Need-add-i Inv-loop μ-loop
 add-i c = search needs
@@ -34,7 +34,7 @@ loop-again : tie.Need-loop-again Inv-loop μ-loop
 loop-again c = search needs
 
 end-line-requires : tie.Need-end-line-requires Inv-loop μ-loop
-end-line-requires c κs = search needs
+end-line-requires c κs = tt
 
 returns : tie.Need-returns Inv-loop μ-loop
 returns c = search needs

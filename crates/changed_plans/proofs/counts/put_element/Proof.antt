@@ -8,13 +8,13 @@ slice-aggregate-put : tie.Need-slice-aggregate-put
 slice-aggregate-put c = search needs
 
 put-requires : tie.Need-put-requires
-put-requires c κs = search needs
+put-requires c κs = tt
 
 cast-put-i64 : tie.Need-cast-put-i64
 cast-put-i64 c = simp znorm (simp zflat (omega (arith, known (c .before .before .fits .n))))
 
 put-i64-requires : tie.Need-put-i64-requires
-put-i64-requires c κs = search needs
+put-i64-requires c κs = tt
 
 returns : tie.Need-returns
 returns c = search needs

@@ -20,7 +20,7 @@ shared-slice-copy-out-put-element : tie.Need-shared-slice-copy-out-put-element I
 shared-slice-copy-out-put-element c = search needs
 
 put-element-requires : tie.Need-put-element-requires Inv-loop μ-loop
-put-element-requires c κs = search needs
+put-element-requires c κs = tt
 
 add-i : tie.Need-add-i Inv-loop μ-loop
 add-i c = search needs

@@ -5,13 +5,13 @@ use Rattle.stored_cases.proofs.outcomes.parts_f64.Statement.{statement}
 use Rattle.stored_cases.proofs.outcomes.parts_f64.Tie as tie
 
 source-requires : tie.Need-source-requires
-source-requires c κs = search needs
+source-requires c κs = tt
 
 list-count-requires : tie.Need-list-count-requires
-list-count-requires c κs = search needs
+list-count-requires c κs = tt
 
 list-count-requires-2 : tie.Need-list-count-requires-2
-list-count-requires-2 c κs = search needs
+list-count-requires-2 c κs = tt
 
 returns : tie.Need-returns
 returns c = search needs
@@ -29,7 +29,7 @@ slice-aggregate-compare-f64-2 : tie.Need-slice-aggregate-compare-f64-2
 slice-aggregate-compare-f64-2 c = simp length-take (omega arith)
 
 compare-f64-requires : tie.Need-compare-f64-requires
-compare-f64-requires c κs = search needs
+compare-f64-requires c κs = tt
 
 same-length : tie.Need-same-length
 same-length c = search needs

@@ -6,7 +6,7 @@ use Rattle.stored_reader.proofs.elements.of_bits.Statement.{statement}
 use Rattle.stored_reader.proofs.elements.of_bits.Tie as tie
 
 is-nan-requires : tie.Need-is-nan-requires
-is-nan-requires c κs = search needs
+is-nan-requires c κs = tt
 
 float-from-bits-result : tie.Need-float-from-bits-result
 float-from-bits-result c = subst (λ b. T (not b)) (sym (sym (c .before .is-nan .ensures) ∙ c .if1 .left)) tt
