@@ -1,3 +1,4 @@
 pub mod PartsBack
 pub mod RoundTrip
 pub mod Making
+pub mod Stored

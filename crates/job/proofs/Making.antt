@@ -40,7 +40,7 @@ making kind element e1 s1 o1 e2 s2 o2 e3 s3 o3 window unit map vector sizes r x 
     pr ∙ ap₂ madeJob (px ∙ ap₂ orElse pa bb) (pj ∙ (λ i. record { kind = kind; element = element; views = viewsOf (pf i) (pg i) (ph i); spec = ss i }))
 
 -- ---- what a job that is done tells of its parts
-both-done : (x y : Answer) → isDone (orElse x y) ≡ true → (isDone x ≡ true) × (isDone y ≡ true)
+pub both-done : (x y : Answer) → isDone (orElse x y) ≡ true → (isDone x ≡ true) × (isDone y ≡ true)
 both-done x y e = go (isDone x) refl e
   where
     go : (t : Bool) → isDone x ≡ t → isDone (cond t y x) ≡ true → (isDone x ≡ true) × (isDone y ≡ true)
@@ -57,14 +57,14 @@ strides-done e s h = go (eqb s e) refl h
     go true q h = eqb-true s e q
     go false q h = let y : _≡_ {A = ℕ} 0 1 = cc in absurd (omega arith)
 
-rank-done : (n : ℕ) → isDone (rankStored n) ≡ true → n ≤ storedRankLimit
+pub rank-done : (n : ℕ) → isDone (rankStored n) ≡ true → n ≤ storedRankLimit
 rank-done n h = go (leb n storedRankLimit) refl h
   where
     go : (t : Bool) → leb n storedRankLimit ≡ t → isDone (cond t A.Done (A.RankTooLarge n storedRankLimit)) ≡ true → n ≤ storedRankLimit
     go true q h = leb-true n storedRankLimit q
     go false q h = let y : _≡_ {A = ℕ} 0 1 = cc in absurd (omega arith)
 
-list-done : (n : ℕ) → isDone (listAtMost n) ≡ true → n ≤ listLimit
+pub list-done : (n : ℕ) → isDone (listAtMost n) ≡ true → n ≤ listLimit
 list-done n h = go (leb n listLimit) refl h
   where
     go : (t : Bool) → leb n listLimit ≡ t → isDone (cond t A.Done (A.RankMismatch n listLimit)) ≡ true → n ≤ listLimit

@@ -64,6 +64,17 @@ viewsRefusal e1 s1 e2 s2 e3 s3 =
 unfoldable pub listsRefusal : ℕ → ℕ → ℕ → ℕ → Answer
 listsRefusal a b c d = orElse (listAtMost a) (orElse (listAtMost b) (orElse (listAtMost c) (listAtMost d)))
 
+-- the slice sizes that are stored, "which a scatter's spec has not"
+abbrev pub storedSizes : Kind → List16 → List16
+storedSizes K.Gather l = l
+storedSizes K.Scatter l = heldList []
+
+-- the same of a job by value, which has as many strides as extents
+abbrev pub jobRefusal : Job → Answer
+jobRefusal j =
+    orElse (viewsRefusal (j .views .first .layout .rank) (j .views .first .layout .rank) (j .views .second .layout .rank) (j .views .second .layout .rank) (j .views .third .layout .rank) (j .views .third .layout .rank))
+    (listsRefusal (j .spec .«window_dims» .count) (j .spec .«unit_dims» .count) (j .spec .«start_map» .count) (storedSizes (j .kind) (j .spec .«slice_sizes») .count))
+
 -- the job, or the refusal with the job of nothing in its place
 abbrev pub madeJob : Answer → Job → MadeJob
 madeJob x j = cond (isDone x) (record { answer = x; job = j }) (record { answer = x; job = noJob })

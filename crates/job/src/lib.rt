@@ -6,7 +6,7 @@ ghost use lib.ListN.{length};
 ghost use lib.IntN.{pos};
 ghost use Rattle.layout.specs.Answers.{orElse};
 ghost use Rattle.job.specs.declared.Kind.the-variants as K;
-ghost use Rattle.job.specs.Jobs.{heldList, viewOf, viewsOf, specOf, noJob, rankStored, listAtMost, viewsRefusal, listsRefusal, madeJob, jobFrom};
+ghost use Rattle.job.specs.Jobs.{heldList, viewOf, viewsOf, specOf, noJob, rankStored, listAtMost, viewsRefusal, listsRefusal, storedSizes, jobRefusal, madeJob, jobFrom};
 use job_bytes::LIST_LIMIT;
 use job_bytes::STORED_RANK_LIMIT;
 use layout::Answer;
@@ -203,6 +203,36 @@ fn check_lists(window: List16, unit: List16, map: List16, sizes: List16) -> Answ
     let c = check_list(map.count);
     let d = check_list(sizes.count);
     checks::or_else(a, checks::or_else(b, checks::or_else(c, d)))
+}
+
+// The slice sizes that are stored: of a scatter none.
+fn stored_sizes(kind: Kind, sizes: List16) -> List16
+    ensures { λ r. ⌜ r ≡ storedSizes kind sizes ⌝ }
+{
+    match kind {
+        Kind::Gather => sizes,
+        Kind::Scatter => no_list(),
+    }
+}
+
+// 2 and 5 of a job by value, whoever made it.
+pub fn job_refusal(job: Job) -> Answer
+    ensures { λ r. ⌜ r ≡ jobRefusal job ⌝ }
+{
+    let kind = job.kind;
+    let views = job.views;
+    let spec = job.spec;
+    let first = views.first.layout.rank;
+    let second = views.second.layout.rank;
+    let third = views.third.layout.rank;
+    let window = spec.window_dims;
+    let unit = spec.unit_dims;
+    let map = spec.start_map;
+    let slice_sizes = spec.slice_sizes;
+    let sizes = stored_sizes(kind, slice_sizes);
+    let a = check_views(first, first, second, second, third, third);
+    let b = check_lists(window, unit, map, sizes);
+    checks::or_else(a, b)
 }
 
 // The job, if the answer is that it is done.

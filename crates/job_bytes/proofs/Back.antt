@@ -108,7 +108,7 @@ module _ (bs : List ℕ) (at : ℕ) (a b : List ℕ) where
       }
 
 -- ---- every number of a part is below what every number of the whole is
-below-take : (n : ℕ) (k : ℕ) (bs : List ℕ) → AllBelow n bs → AllBelow n (take k bs)
+pub below-take : (n : ℕ) (k : ℕ) (bs : List ℕ) → AllBelow n bs → AllBelow n (take k bs)
 below-take n zero bs a = none
 below-take n (suc k) [] none = none
 below-take n (suc k) (b ∷ bs) (more h a) = more h (below-take n k bs a)

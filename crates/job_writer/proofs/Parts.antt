@@ -1,6 +1,6 @@
 -- Parts of a job as bytes: how many they are, and one stored behind another. Assumes nothing.
 use mathlib.Core.Path.{_≡_, refl, sym, ap, ap₂, _∙_}
-use mathlib.Core.Bool.{true, false}
+use mathlib.Core.Bool.{Bool, true, false, cond}
 use mathlib.Core.List.{List, [], _∷_, _++_, map}
 use Prim.Native.Nat.{ℕ, zero, suc, _+_, _*_, _≤_, _<_, min}
 use native.Mathlib.Omega.{arith}
@@ -10,7 +10,9 @@ use lib.Dec.{leb}
 use lib.ListN.{length, take, drop, length-append, length-take, length-map}
 use lib.Seq.{sets, length-sets, sets-eq}
 use lib.IntN.{ℤ}
+use Rattle.layout.specs.declared.Answer.{Answer}
 use Rattle.layout.specs.declared.Answer.the-variants as A
+use Rattle.layout.specs.Answers.{isDone}
 use Rattle.layout.specs.declared.View.{View}
 use Rattle.layout.specs.Layouts.{rankLimit}
 use Rattle.spans.proofs.Parts.{take-count}
@@ -21,10 +23,10 @@ use Rattle.job.specs.declared.List16.{List16}
 use Rattle.job.specs.declared.Views.{Views}
 use Rattle.job.specs.declared.Spec.{Spec}
 use Rattle.job.specs.declared.Job.{Job}
-use Rattle.job.specs.Jobs.{entriesOf}
+use Rattle.job.specs.Jobs.{entriesOf, jobRefusal}
 use Rattle.job.specs.Format.{storedExtents, storedStrides, viewBytes, listBytes, sizesBytes, specBytes, viewsBytes, bodyBytes, encoded, viewMost, listMost, viewsMost, specMost, kindByte, elementByte}
 use Rattle.job_bytes.specs.Version.{version, storedRankLimit, listLimit, stored-held}
-use Rattle.job_writer.specs.Written.{Put, Written, Sized}
+use Rattle.job_writer.specs.Written.{Put, PutJob, Written, Sized, roomRefusal}
 
 -- ---- how many bytes
 pub length-view : (v : View) → length (v .layout .extents) ≡ rankLimit → length (v .layout .strides) ≡ rankLimit → length (viewBytes v) ≡ 9 + 16 * min (v .layout .rank) storedRankLimit
@@ -157,15 +159,15 @@ unfolding encoded
 length-encoded j = omega (arith, length-append (bytesOf 4 (length (bodyBytes j))) (bodyBytes j), length-bytes 4 (length (bodyBytes j)))
 
 module _ (j : Job) (size : ℕ) (is : size ≡ length (bodyBytes j)) (before : List ℕ) where
-  pub no-room : length before < 4 + size → Written j before (A.BufferBounds 0 (4 + size)) before
+  pub no-room : length before < 4 + size → PutJob j before (A.BufferBounds 0 (4 + size)) before
   no-room h =
       let n : 4 + size ≡ length (encoded j) = omega (arith, length-encoded j) in
       let t : leb (length (encoded j)) (length before) ≡ false = lt-leb (length (encoded j)) (length before) (omega arith) in
-      record { answers = rw (t, n); leaves = rw t }
+      record { answers = rw (t, n); leaves = refl }
 
   pub put-job-is : (a b c d e after : List ℕ) (kind element k m : ℕ) → kind ≡ kindByte (j .kind) → element ≡ elementByte (j .element) → 4 + size ≤ length before
       → a ≡ sets before 0 (bytesOf 4 size) → b ≡ sets a 4 (bytesOf 1 version) → c ≡ sets b 5 (bytesOf 1 kind) → d ≡ sets c 6 (bytesOf 1 element)
-      → Put d e 7 (viewsBytes (j .views)) k → Put e after k (specBytes (j .kind) (j .spec)) m → Written j before A.Done after
+      → Put d e 7 (viewsBytes (j .views)) k → Put e after k (specBytes (j .kind) (j .spec)) m → PutJob j before A.Done after
   unfolding encoded bodyBytes
   put-job-is a b c d e after kind element k m ek ee h p q r s u v =
       let p1 : Put before a 0 (bytesOf 4 (length (bodyBytes j))) 4 = put-of (rw (← is) p) (omega (arith, length-bytes 4 (length (bodyBytes j)))) in
@@ -176,4 +178,16 @@ module _ (j : Job) (size : ℕ) (is : size ≡ length (bodyBytes j)) (before : L
       let n : 4 + size ≡ length (encoded j) = omega (arith, length-encoded j) in
       let t : leb (length (encoded j)) (length before) ≡ true = le-leb (length (encoded j)) (length before) (omega arith) in
       let w : after ≡ encoded j ++ drop (length (encoded j)) before = whole .cells ∙ sets-eq (encoded j) before 0 (omega arith) ∙ ap (λ (i : ℕ). encoded j ++ drop i before) (zero-add (length (encoded j))) in
-      record { answers = rw t; leaves = rw t w }
+      record { answers = rw t; leaves = w }
+
+-- ---- after the refusals of the job
+module _ (j : Job) (before : List ℕ) where
+  pub refused-whole : (x : Answer) → x ≡ jobRefusal j → isDone x ≡ false → Written j before x before
+  refused-whole x e h =
+      let f : isDone (jobRefusal j) ≡ false = ap isDone (sym e) ∙ h in
+      record { answers = e ∙ sym (ap (λ (t : Bool). cond t (roomRefusal j (length before)) (jobRefusal j)) f); leaves = rw h }
+
+  pub put-whole : (x : Answer) → x ≡ jobRefusal j → isDone x ≡ true → (answer : Answer) (after : List ℕ) → PutJob j before answer after → Written j before answer after
+  put-whole x e h answer after p =
+      let f : isDone (jobRefusal j) ≡ true = ap isDone (sym e) ∙ h in
+      record { answers = p .answers ∙ sym (ap (λ (t : Bool). cond t (roomRefusal j (length before)) (jobRefusal j)) f); leaves = p .leaves }

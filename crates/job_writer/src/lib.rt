@@ -1,5 +1,5 @@
-// The writer of a stored job. Of an array, the first entries count, as many as its rank or count says, or all where that is
-// larger, and of a layout no more axes than are stored: so a job that nobody made is written as the one that is read of it.
+// The writer of a stored job. Of an array, the first entries count, as many as its rank or count says; a job with more axes or
+// entries than are stored is refused.
 ghost use mathlib.Core.Path.{_≡_};
 ghost use mathlib.Core.List.{map};
 ghost use Prim.Native.Nat.{_+_, _*_, _≤_, min};
@@ -7,7 +7,7 @@ ghost use lib.ListN.{length};
 ghost use Rattle.job_bytes.specs.Fields.{wordOf};
 ghost use Rattle.job.specs.Format.{kindByte, elementByte, viewBytes, listBytes, sizesBytes, specBytes, viewsBytes, bodyBytes, viewMost, listMost, viewsMost, specMost};
 ghost use Rattle.job_bytes.specs.Version.{storedRankLimit, listLimit};
-ghost use Rattle.job_writer.specs.Written.{Put, Written, Sized};
+ghost use Rattle.job_writer.specs.Written.{Put, PutJob, Written, Sized};
 use job::Element;
 use job::Job;
 use job::Kind;
@@ -213,8 +213,8 @@ fn put_spec(out: &mut [u8], at: usize, kind: Kind, spec: Spec) -> usize
 }
 
 // Writes the job from the first byte on, or refuses by 9 with the bytes that are needed. Of a scatter no slice sizes are written.
-pub fn write_job(job: Job, out: &mut [u8]) -> Answer
-    ensures { λ r. ⌜ Written job (now (out .entry)) r (now (out .exit)) ⌝ }
+fn put_job(job: Job, out: &mut [u8]) -> Answer
+    ensures { λ r. ⌜ PutJob job (now (out .entry)) r (now (out .exit)) ⌝ }
 {
     let size = body_size(job);
     if out.len() < 4 + size {
@@ -231,4 +231,15 @@ pub fn write_job(job: Job, out: &mut [u8]) -> Answer
     let next = put_views(out, 7, views);
     put_spec(out, next, kind, spec);
     Answer::Done
+}
+
+// The same after 2 and 5, whoever made the job.
+pub fn write_job(job: Job, out: &mut [u8]) -> Answer
+    ensures { λ r. ⌜ Written job (now (out .entry)) r (now (out .exit)) ⌝ }
+{
+    let refusal = job::job_refusal(job);
+    if !layout::is_done(refusal) {
+        return refusal;
+    }
+    put_job(job, out)
 }

@@ -1,29 +1,29 @@
 -- Stored jobs as they are exported. Definitions only.
 use mathlib.Core.Path.{_≡_}
 use mathlib.Core.Bool.{cond}
-use mathlib.Core.List.{List, _++_}
+use mathlib.Core.List.{List}
 use Prim.Native.Nat.{ℕ}
-use lib.Dec.{leb, eqb}
-use lib.ListN.{length, drop}
+use lib.Dec.{eqb}
+use lib.ListN.{length}
 use Rattle.layout.specs.declared.Answer.{Answer}
 use Rattle.layout.specs.declared.Answer.the-variants as A
-use Rattle.layout.specs.Answers.{isDone, orElse}
+use Rattle.layout.specs.Answers.{orElse}
 use Rattle.job.specs.declared.MadeJob.{MadeJob}
 use Rattle.job.specs.Jobs.{noJob}
-use Rattle.job.specs.Format.{encoded}
+use Rattle.job_writer.specs.Written.{writtenAnswer, writtenLeft}
 use Rattle.strided.specs.Words.{words}
 
 -- "element byte 1 i32 or 2 f64": a job of any other element is refused by 10, at that byte, before all else
 abbrev pub elementListed : ℕ → MadeJob → MadeJob
 elementListed e m = cond (eqb e 1) m (cond (eqb e 2) m (record { answer = A.JobBytes 6; job = noJob }))
 
--- the refusal by which a job was not made, then 9, given the bytes that are lent
+-- the refusal by which a job was not made, then the writer's, given the bytes that are lent
 abbrev pub storedAnswer : MadeJob → ℕ → Answer
-storedAnswer m room = orElse (m .answer) (cond (leb (length (encoded (m .job))) room) A.Done (A.BufferBounds 0 (length (encoded (m .job)))))
+storedAnswer m room = orElse (m .answer) (writtenAnswer (m .job) room)
 
--- what the lent bytes then hold: the job's bytes in front, "bytes past a written job stay"; a refusal changes no byte
+-- what the lent bytes then hold
 abbrev pub storedLeft : MadeJob → List ℕ → List ℕ
-storedLeft m before = cond (isDone (storedAnswer m (length before))) (encoded (m .job) ++ drop (length (encoded (m .job))) before) before
+storedLeft m before = writtenLeft (storedAnswer m (length before)) (m .job) before
 
 -- a job made and written, the answer not yet in words
 pub record Stored (m : MadeJob) (before after : List ℕ) (answer : Answer) : Type 0 where
