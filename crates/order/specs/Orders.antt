@@ -10,10 +10,11 @@ use mir.Syntax.{w32}
 use mir.Val.{SFits}
 use Rattle.integer.specs.Defs.{wrap32}
 use Rattle.indexing.specs.Gather.{gathered}
-use Rattle.indexing.specs.Scatter.{Update, placedUpdates, combined, landing, addI32}
+use Rattle.indexing.specs.Scatter.{Update, placedUpdates, combined, landing, addI32, scatteredI32}
 use Rattle.indexing.specs.Sums.{total, added}
 use Rattle.indexing.specs.Demand3.{Unseen}
 use Rattle.layout.specs.declared.Answer.{Answer}
+use Rattle.layout.specs.declared.Answer.the-variants as A
 use Rattle.layout.specs.Answers.{isDone}
 use Rattle.calls.specs.Calls.{GatherCall, ScatterCall}
 
@@ -30,6 +31,20 @@ putBy c n = cond (isDone (c .answer n)) (updatesOf c) []
 abbrev pub putOn : List (Update ℤ) → List ℤ → List ℤ
 putOn us grid = combined addI32 (pos 0) us grid
 
+-- a scatter of a call on a grid, as `scattered` has it
+abbrev pub doneBy : ScatterCall ℤ → List ℤ → List ℤ
+doneBy c grid = scatteredI32 (c .scatter) (c .starts) (c .updates) grid
+
+-- BOTH ACCEPTED, on grids that were equal: all four are told that it is done; both orders leave the same grid, and each cell is its sum
+pub record BothDone {B : Type 0} (says : Answer → B) (north south : ScatterCall ℤ) (grid one other : List ℤ) (a b c d : B) : Type 0 where
+  pub answers : (a ≡ says A.Done) × (b ≡ says A.Done) × (c ≡ says A.Done) × (d ≡ says A.Done)
+  pub one-left : one ≡ doneBy south (doneBy north grid)
+  pub other-left : other ≡ doneBy north (doneBy south grid)
+  pub same-grids : one ≡ other
+  pub each-cell : (i : ℕ) → i < length grid → getD one i (pos 0) ≡ added (getD grid i (pos 0)) (landing (pos i) (updatesOf north) ++ landing (pos i) (updatesOf south))
+  -- where the cell holds an i32, the sum written out
+  pub each-sum : (i : ℕ) → i < length grid → SFits w32 (getD grid i (pos 0)) → getD one i (pos 0) ≡ wrap32 (getD grid i (pos 0) +ℤ (total (landing (pos i) (updatesOf north)) +ℤ total (landing (pos i) (updatesOf south))))
+
 -- TWO SHIPS, ONE GRID: North and then South on the grid `one`, South and then North on the grid `other`, which held `grid` and `grid′` before
 pub record EitherOrder {B : Type 0} (says : Answer → B) (north south : ScatterCall ℤ) (grid grid′ one other : List ℤ) (a b c d : B) : Type 0 where
   -- the four answers, and the two grids, are those of the runs
@@ -45,9 +60,16 @@ pub record EitherOrder {B : Type 0} (says : Answer → B) (north south : Scatter
   pub same-grids : grid ≡ grid′ → one ≡ other
   -- every cell is its old value plus, modulo 2^32, every update of either that lands on it; a cell that nothing lands on keeps its value
   pub each-cell : (i : ℕ) → i < length grid → getD one i (pos 0) ≡ added (getD grid i (pos 0)) (landing (pos i) (putBy north (length grid)) ++ landing (pos i) (putBy south (length grid)))
-  -- both accepted, and the cell an i32: the sum written out
-  pub each-sum : isDone (north .answer (length grid)) ≡ true → isDone (south .answer (length grid)) ≡ true → (i : ℕ) → i < length grid → SFits w32 (getD grid i (pos 0))
-      → getD one i (pos 0) ≡ wrap32 (getD grid i (pos 0) +ℤ (total (landing (pos i) (updatesOf north)) +ℤ total (landing (pos i) (updatesOf south))))
+  -- both accepted
+  pub both-done : grid ≡ grid′ → isDone (north .answer (length grid)) ≡ true → isDone (south .answer (length grid)) ≡ true → BothDone says north south grid one other a b c d
+
+-- ALL ACCEPTED, on destinations that were equal, South landing on nothing that is read: all three are told that it is done, and both gathers leave what
+-- the gather reads of the grid as it was
+pub record AllDone {B : Type 0} (says : Answer → B) (g : GatherCall) (south : ScatterCall ℤ) (grid after into one other : List ℤ) (a b c : B) : Type 0 where
+  pub answers : (a ≡ says A.Done) × (b ≡ says A.Done) × (c ≡ says A.Done)
+  pub grid-left : after ≡ doneBy south grid
+  pub one-left : one ≡ gathered (pos 0) (g .gather) (g .starts) grid into
+  pub other-left : other ≡ one
 
 -- A GATHER BESIDE A SCATTER: one gather from the grid as it stands, South's scatter on that grid, and the same gather again, into `into` and `into′`,
 -- which then hold `one` and `other`; the grid, `grid` before, is `after`
@@ -61,3 +83,6 @@ pub record GatherBeside {B : Type 0} (says : Answer → B) (g : GatherCall) (sou
   pub other-left : other ≡ cond (isDone (g .answer (length grid) (length into′))) (gathered (pos 0) (g .gather) (g .starts) after into′) into′
   -- if South, where it is accepted, lands on no element that the gather reads, the gather hands back the same and the destinations are equal, as whole slices
   pub same : into ≡ into′ → (isDone (south .answer (length grid)) ≡ true → Unseen (g .gather) (g .starts) (south .scatter) (south .starts)) → (a ≡ c) × (one ≡ other)
+  -- all accepted
+  pub all-done : into ≡ into′ → isDone (g .answer (length grid) (length into)) ≡ true → isDone (south .answer (length grid)) ≡ true → Unseen (g .gather) (g .starts) (south .scatter) (south .starts)
+      → AllDone says g south grid after into one other a b c
