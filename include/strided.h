@@ -12,7 +12,10 @@
 
    A view is a layout (extents and strides of equal length, in elements, at most STRIDED_RANK_LIMIT axes) with an offset into
    its slice. Coordinates go first axis fastest. Axis lists are those of StableHLO's gather and scatter. Starts are clamped, in
-   a gather and in a scatter. An i32 sum wraps modulo 2^32; f64 adds round one by one, in order. */
+   a gather and in a scatter. An i32 sum wraps modulo 2^32; f64 adds round one by one, in order.
+
+   No function takes a plan: a call compiles what it is given, lists or a stored job, and runs it. So the half of 8 that
+   refuses a plan which compile did not make has no place here; it is in the calls with a plan, for Rattle programs. */
 #ifndef STRIDED_H
 #define STRIDED_H
 
@@ -36,7 +39,7 @@ enum {
     STRIDED_RANK_MISMATCH = 5,          /* a and b: two counts that differ */
     STRIDED_INVALID_AXIS = 6,           /* a: the axis; b: the rank */
     STRIDED_SHAPE_MISMATCH = 7,         /* a and b: the ranks of the given and of the expected shape */
-    STRIDED_PLAN_LAYOUT_MISMATCH = 8,   /* a call's layout is not the plan's */
+    STRIDED_PLAN_LAYOUT_MISMATCH = 8,   /* a call's layout is not the one that is compiled for */
     STRIDED_BUFFER_BOUNDS = 9,          /* a: the view, from 1; or a: 0, b: the bytes that a writer needs */
     STRIDED_JOB_BYTES = 10              /* a: the place in a stored job, from 0 */
 };

@@ -104,10 +104,10 @@ module _ {B : Type 0} (says : Answer → B) where
       let aa : c ≡ says (g .answer (length grid) (length into′)) = q .answered ∙ ap (λ (n : ℕ). says (g .answer n (length into′))) ln in
       let tl : other ≡ cond (isDone (g .answer (length grid) (length into′))) (gathered (pos 0) (g .gather) (g .starts) after into′) into′ = q .left ∙ ap (λ (n : ℕ). cond (isDone (g .answer n (length into′))) (gathered (pos 0) (g .gather) (g .starts) after into′) into′) ln in
       let same-as : into ≡ into′ → (isDone (south .answer (length grid)) ≡ true → Unseen (g .gather) (g .starts) (south .scatter) (south .starts)) → (a ≡ c) × (one ≡ other) = λ e u. (
-            let sa : g .answer (length grid) (length into) ≡ g .answer (length grid) (length into′) = ap (λ (l : List ℤ). g .answer (length grid) (length l)) e in
-            let sg : gathered (pos 0) (g .gather) (g .starts) grid into ≡ gathered (pos 0) (g .gather) (g .starts) after into′ =
-            sym (unseen-updates (isDone (south .answer (length grid))) g south grid into u) ∙ ap₂ (λ (x l : List ℤ). gathered (pos 0) (g .gather) (g .starts) x l) (sym gl) e in
-            (p .answered ∙ ap says sa ∙ sym aa, p .left ∙ (λ j. cond (isDone (sa j)) (sg j) (e j)) ∙ sym tl)) in
+      let sa : g .answer (length grid) (length into) ≡ g .answer (length grid) (length into′) = ap (λ (l : List ℤ). g .answer (length grid) (length l)) e in
+      let sg : gathered (pos 0) (g .gather) (g .starts) grid into ≡ gathered (pos 0) (g .gather) (g .starts) after into′ =
+      sym (unseen-updates (isDone (south .answer (length grid))) g south grid into u) ∙ ap₂ (λ (x l : List ℤ). gathered (pos 0) (g .gather) (g .starts) x l) (sym gl) e in
+      (p .answered ∙ ap says sa ∙ sym aa, p .left ∙ (λ j. cond (isDone (sa j)) (sg j) (e j)) ∙ sym tl)) in
       record {
         before-answer = p .answered;
         south-answer = w .answered;

@@ -1,5 +1,6 @@
 // Forged plans: each field of a compiled plan changed in turn, arrays past their counts as well. A call with such a plan is
-// refused by 8 and leaves the destination as it was. The gather is document 01's: operand 10 20 30 40 50, windows of 2.
+// refused by 8 and leaves the destination as it was. The gather is document 01's: operand 10 20 30 40 50, windows of 2. Last, a
+// plan whose two cells share an element, compiled with 4 not tried: it is accepted, and the last cell stays.
 use changed_plans::Field;
 use changed_plans::counts;
 use changed_plans::counts::Counts;
@@ -213,6 +214,37 @@ fn refused() {
     refused_plan_on_scalars(plan);
 }
 
+// Operand 3 4, one cell for each start, into a destination [2] with stride 0.
+fn shared_again() -> CompiledGather {
+    gather_plan::compile_again(&[2], &[1], &[2], &[1], &[2], &[0], &[], &[0], &[0], 1, &[1])
+}
+
+fn shared_compiled() -> CompiledGather {
+    gather_plan::compile(&[2], &[1], &[2], &[1], &[2], &[0], &[], &[0], &[0], 1, &[1])
+}
+
+fn call_shared(plan: GatherPlan, into: &mut [i32]) -> Answer {
+    let operand = view(&[2], &[1]);
+    let index = view(&[2], &[1]);
+    let dest = view(&[2], &[0]);
+    gather::gather_i32(plan, operand, index, dest, &[3, 4], &[0, 1], into)
+}
+
+fn shared() {
+    let compiled = shared_compiled();
+    let answer = compiled.answer;
+    counts::put_with(
+        b"compile of 3 4 into [2] with stride 0: answer ",
+        layout::number(answer),
+    );
+    printing::end_line();
+    let again = shared_again();
+    let plan = again.plan;
+    let mut into = [9i32];
+    let called = call_shared(plan, &mut into);
+    counts::put_called(b"the plan with 4 not tried", called, &into);
+}
+
 fn main() {
     let compiled = compile(2);
     let plan = compiled.plan;
@@ -221,4 +253,5 @@ fn main() {
     spec(plan);
     walk(plan);
     refused();
+    shared();
 }
