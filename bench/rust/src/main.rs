@@ -9,6 +9,7 @@ mod lean;
 mod measure;
 mod original;
 mod plain;
+mod stored;
 
 // `gather_plan` and `inline`.
 include!(concat!(env!("OUT_DIR"), "/original.rs"));
@@ -26,7 +27,8 @@ pub use stubs::{INLINE_RANK, RAW_FUSED_RANK_LIMIT};
 
 use job::Job;
 use measure::measure;
-use original::{Gather, Scatter};
+use original::{Gather, Kind, Scatter};
+use stored::{StoredGather, StoredScatter};
 
 fn main() {
     let rounds = std::env::var("BENCH_ROUNDS")
@@ -39,6 +41,10 @@ fn main() {
     println!("|---|---|---|---|---|---|---|---|");
     gathers(rounds, &some);
     scatters(rounds, &some);
+    for (name, job) in small() {
+        stored::<StoredGather>("gather", name, &job, rounds, &some);
+        stored::<StoredScatter>("scatter", name, &job, rounds, &some);
+    }
 }
 
 /// The windows that are measured for gathers and for scatters.
@@ -69,10 +75,27 @@ fn windows() -> Vec<(&'static str, Job)> {
             "8×8×8×8, 256 starts, strides of 2",
             Job::windows(&rank_four, &[8, 8, 8, 8], 256).apart(2),
         ),
+    ]
+    .into_iter()
+    .chain(small())
+    .collect()
+}
+
+/// Windows of one start, where deciding takes most of the time.
+fn small() -> Vec<(&'static str, Job)> {
+    vec![
         ("1×1, 1 start", Job::windows(&[100, 100], &[1, 1], 1)),
         ("5×2, 1 start", Job::windows(&[100, 100], &[5, 2], 1)),
         ("10×10, 1 start", Job::windows(&[100, 100], &[10, 10], 1)),
     ]
+}
+
+fn stored<K: Kind>(kind: &str, name: &str, job: &Job, rounds: usize, some: &str) {
+    let name = format!("{kind} {name}, stored job");
+    if name.contains(some) {
+        measure::<i32, K>(&name, job, rounds);
+        measure::<f64, K>(&name, job, rounds);
+    }
 }
 
 fn gathers(rounds: usize, some: &str) {
