@@ -2,13 +2,14 @@
 use mathlib.Core.Bool.{cond, _&&_}
 use mathlib.Core.List.{List, [], _∷_, map}
 use Prim.Native.Nat.{ℕ, _*_}
-use lib.ListN.{length, replicate}
+use lib.ListN.{length, getD, replicate}
 use lib.IntN.{ℤ, pos, _*ℤ_}
 use Rattle.integer.specs.Defs.{checked, checkedU, eqZ}
 use Rattle.integer.specs.declared.Checked.{Checked}
 use Rattle.integer.specs.declared.Checked.the-variants as C
 use Rattle.integer.specs.declared.CheckedU.{CheckedU}
 use Rattle.integer.specs.declared.CheckedU.the-variants as U
+use Rattle.indexing.specs.Coordinates.{tabulate}
 use Rattle.layout.specs.declared.Answer.the-variants as N
 use Rattle.layout.specs.declared.OffsetSpan.{OffsetSpan}
 use Rattle.layout.specs.declared.OffsetSpan.the-variants as S
@@ -108,12 +109,16 @@ noAxis = theAxis 1 (pos 0) (pos 0) (pos 0) (pos 0)
 abbrev pub theSpans : ℤ → ℤ → ℤ → ℤ → ReplaySpans
 theSpans a b c d = record { «source_low» = a; «source_high» = b; «dest_low» = c; «dest_high» = d }
 
+abbrev pub extents : List WindowReplayAxis → List ℕ
+extents = map (λ (a : WindowReplayAxis). a .extent)
+
+-- the walk keeps rank, extents and spans; its axes stand beside it
 abbrev pub doneReplay : ℕ → List WindowReplayAxis → ReplaySpans → CompiledReplay
-doneReplay n axes spans = record { answer = N.Done; replay = record { rank = n; axes = axes; spans = spans } }
+doneReplay n axes spans = record { answer = N.Done; replay = record { rank = n; extents = extents axes; spans = spans }; axes = axes }
 
 -- where it is refused, by 3, the walk of no axes stands in its place
 abbrev pub refusedReplay : CompiledReplay
-refusedReplay = record { answer = N.OffsetOverflow; replay = record { rank = 0; axes = replicate rankLimit noAxis; spans = theSpans (pos 0) (pos 0) (pos 0) (pos 0) } }
+refusedReplay = record { answer = N.OffsetOverflow; replay = record { rank = 0; extents = replicate rankLimit 1; spans = theSpans (pos 0) (pos 0) (pos 0) (pos 0) }; axes = replicate rankLimit noAxis }
 
 -- the merged axes, or the refusal, with these spans
 abbrev pub compiledBy : Merged → ReplaySpans → CompiledReplay
@@ -130,10 +135,7 @@ afterSpans S.Overflow y f = refusedReplay
 unfoldable pub compiledReplay : List ℕ → List ℤ → List ℤ → CompiledReplay
 compiledReplay ds ss ts = afterSpans (spanned ds ss) (spanned ds ts) (λ spans. compiledBy (fused ds ss ts) spans)
 
--- ---- what the walk is given: the merged shape, each side's steps, and the rows, "one per axis, four numbers in a row"
-abbrev pub extents : List WindowReplayAxis → List ℕ
-extents = map (λ (a : WindowReplayAxis). a .extent)
-
+-- ---- each side's steps, and the rows, "one per axis, four numbers in a row"
 abbrev pub sources : List WindowReplayAxis → List ℤ
 sources = map (λ (a : WindowReplayAxis). a .«source_step»)
 
@@ -145,3 +147,8 @@ rowOf a = a .«source_step» ∷ a .«source_reset» ∷ a .«dest_step» ∷ a 
 
 abbrev pub rowsOf : List WindowReplayAxis → List (List ℤ)
 rowsOf = map rowOf
+
+-- the axes of these extents and rows
+abbrev pub axesFrom : List ℕ → List (List ℤ) → List WindowReplayAxis
+axesFrom es rows =
+    tabulate rankLimit (λ i. theAxis (getD es i 0) (getD (getD rows i []) 0 (pos 0)) (getD (getD rows i []) 1 (pos 0)) (getD (getD rows i []) 2 (pos 0)) (getD (getD rows i []) 3 (pos 0)))

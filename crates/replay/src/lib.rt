@@ -4,7 +4,7 @@ ghost use mathlib.Core.Path.{_≡_};
 ghost use lib.ListN.{take, drop};
 ghost use Prim.Native.Nat.{_*_};
 ghost use Rattle.integer.specs.Defs.{checkedU, eqZ};
-ghost use Rattle.replay.specs.Replays.{noAxis, axisOf, joinAfterU, asMerged, asApart, past, joinOf, fuseFrom, fused, doneReplay, refusedReplay, compiledBy, compiledReplay, extents, rowsOf};
+ghost use Rattle.replay.specs.Replays.{noAxis, axisOf, joinAfterU, asMerged, asApart, past, joinOf, fuseFrom, fused, doneReplay, refusedReplay, compiledBy, compiledReplay, extents, rowsOf, axesFrom};
 use integer::Checked;
 use integer::CheckedU;
 use layout::Answer;
@@ -29,17 +29,19 @@ pub struct ReplaySpans {
     pub dest_high: i64,
 }
 
-// The merged axes. Past the rank stand axes of extent 1 with steps and resets of 0.
+// The extents of the merged axes, 1 past the rank. The steps and resets are rows, held beside it.
 pub struct WindowReplay {
     pub rank: usize,
-    pub axes: [WindowReplayAxis; RAW_FUSED_RANK_LIMIT],
+    pub extents: [u64; RAW_FUSED_RANK_LIMIT],
     pub spans: ReplaySpans,
 }
 
-// A walk; where it is refused, the one of no axes with spans of 0.
+// A walk with its merged axes, of which the rows are made; past the rank stand axes of extent 1 with steps and resets of 0. Where it is
+// refused, the walk of no axes with spans of 0.
 pub struct CompiledReplay {
     pub answer: Answer,
     pub replay: WindowReplay,
+    pub axes: [WindowReplayAxis; RAW_FUSED_RANK_LIMIT],
 }
 
 // An axis with its resets, or that one of them does not fit.
@@ -171,11 +173,12 @@ pub fn refused_replay() -> CompiledReplay
 {
     let empty = no_axis();
     let axes = [empty; RAW_FUSED_RANK_LIMIT];
+    let extents = [1u64; RAW_FUSED_RANK_LIMIT];
     CompiledReplay {
         answer: Answer::OffsetOverflow,
         replay: WindowReplay {
             rank: 0,
-            axes,
+            extents,
             spans: ReplaySpans {
                 source_low: 0,
                 source_high: 0,
@@ -183,7 +186,22 @@ pub fn refused_replay() -> CompiledReplay
                 dest_high: 0,
             },
         },
+        axes,
     }
+}
+
+// The merged shape.
+fn shape_of(axes: [WindowReplayAxis; RAW_FUSED_RANK_LIMIT]) -> [u64; RAW_FUSED_RANK_LIMIT]
+    ensures { λ r. ⌜ r ≡ extents axes ⌝ }
+{
+    let mut out = [0u64; RAW_FUSED_RANK_LIMIT];
+    let mut i: usize = 0;
+    while i < RAW_FUSED_RANK_LIMIT {
+        let a = axes[i];
+        out[i] = a.extent;
+        i += 1;
+    }
+    out
 }
 
 fn done_replay(
@@ -193,9 +211,15 @@ fn done_replay(
 ) -> CompiledReplay
     ensures { λ r. ⌜ r ≡ doneReplay rank axes spans ⌝ }
 {
+    let extents = shape_of(axes);
     CompiledReplay {
         answer: Answer::Done,
-        replay: WindowReplay { rank, axes, spans },
+        replay: WindowReplay {
+            rank,
+            extents,
+            spans,
+        },
+        axes,
     }
 }
 
@@ -296,20 +320,6 @@ pub fn compile_window_replay(
     }
 }
 
-// The merged shape.
-pub fn shape_of(axes: [WindowReplayAxis; RAW_FUSED_RANK_LIMIT]) -> [u64; RAW_FUSED_RANK_LIMIT]
-    ensures { λ r. ⌜ r ≡ extents axes ⌝ }
-{
-    let mut out = [0u64; RAW_FUSED_RANK_LIMIT];
-    let mut i: usize = 0;
-    while i < RAW_FUSED_RANK_LIMIT {
-        let a = axes[i];
-        out[i] = a.extent;
-        i += 1;
-    }
-    out
-}
-
 // The rows, one per axis, four numbers in a row: source step, source reset, destination step, destination reset.
 pub fn rows_of(axes: [WindowReplayAxis; RAW_FUSED_RANK_LIMIT]) -> [[i64; 4]; RAW_FUSED_RANK_LIMIT]
     ensures { λ r. ⌜ r ≡ rowsOf axes ⌝ }
@@ -321,6 +331,36 @@ pub fn rows_of(axes: [WindowReplayAxis; RAW_FUSED_RANK_LIMIT]) -> [[i64; 4]; RAW
         let a = axes[i];
         let row = [a.source_step, a.source_reset, a.dest_step, a.dest_reset];
         out[i] = row;
+        i += 1;
+    }
+    out
+}
+
+// The axes of these extents and rows.
+pub fn axes_from(
+    extents: [u64; RAW_FUSED_RANK_LIMIT],
+    rows: [[i64; 4]; RAW_FUSED_RANK_LIMIT],
+) -> [WindowReplayAxis; RAW_FUSED_RANK_LIMIT]
+    ensures { λ r. ⌜ r ≡ axesFrom extents rows ⌝ }
+{
+    let empty = no_axis();
+    let mut out = [empty; RAW_FUSED_RANK_LIMIT];
+    let mut i: usize = 0;
+    while i < RAW_FUSED_RANK_LIMIT {
+        let row = rows[i];
+        let extent = extents[i];
+        let source_step = row[0];
+        let source_reset = row[1];
+        let dest_step = row[2];
+        let dest_reset = row[3];
+        let axis = WindowReplayAxis {
+            extent,
+            source_step,
+            source_reset,
+            dest_step,
+            dest_reset,
+        };
+        out[i] = axis;
         i += 1;
     }
     out

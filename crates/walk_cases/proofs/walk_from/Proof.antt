@@ -68,9 +68,6 @@ put-requires-3 c κs = tt
 returns-4 : tie.Need-returns-4
 returns-4 c = tt
 
-shape-of-requires : tie.Need-shape-of-requires
-shape-of-requires c κs = tt
-
 rows-of-requires : tie.Need-rows-of-requires
 rows-of-requires c κs = tt
 
@@ -158,7 +155,6 @@ walk-from-spec =
     slice-aggregate-put-3
     put-requires-3
     returns-4
-    shape-of-requires
     rows-of-requires
     places-requires
     places-back-requires
