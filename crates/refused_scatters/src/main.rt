@@ -49,9 +49,21 @@ fn dest(compiled: CompiledScatter) {
 
 fn window_axes(compiled: CompiledScatter) {
     number(compiled, b"update_window_dims count", Field::Numbers(0, 0));
-    entries(compiled, b"update_window_dims entries", Field::Numbers(0, 1));
-    number(compiled, b"inserted_window_dims count", Field::Numbers(1, 0));
-    entries(compiled, b"inserted_window_dims entries", Field::Numbers(1, 1));
+    entries(
+        compiled,
+        b"update_window_dims entries",
+        Field::Numbers(0, 1),
+    );
+    number(
+        compiled,
+        b"inserted_window_dims count",
+        Field::Numbers(1, 0),
+    );
+    entries(
+        compiled,
+        b"inserted_window_dims entries",
+        Field::Numbers(1, 1),
+    );
 }
 
 fn start_axes(compiled: CompiledScatter) {
