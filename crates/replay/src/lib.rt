@@ -3,8 +3,8 @@
 ghost use mathlib.Core.Path.{_≡_};
 ghost use lib.ListN.{take, drop};
 ghost use Prim.Native.Nat.{_*_};
-ghost use Rattle.integer.specs.Defs.{checkedU, eqZ};
-ghost use Rattle.replay.specs.Replays.{noAxis, axisOf, joinAfterU, asMerged, asApart, past, joinOf, fuseFrom, fused, doneReplay, refusedReplay, compiledBy, compiledReplay, extents, rowsOf, axesFrom};
+ghost use Rattle.integer.specs.Defs.{eqZ};
+ghost use Rattle.replay.specs.Replays.{noAxis, axisOf, givenAxes, past, checkedAxis, asMerged, asApart, joinedAxis, walkFrom, walkOf, doneReplay, refusedReplay, compiledReplay, extents, rowsOf, axesFrom};
 use integer::Checked;
 use integer::CheckedU;
 use layout::Answer;
@@ -76,7 +76,7 @@ fn no_axis() -> WindowReplayAxis
 }
 
 fn make_axis(extent: u64, source: i64, dest: i64) -> CheckedAxis
-    ensures { λ r. ⌜ r ≡ axisOf extent source dest ⌝ }
+    ensures { λ r. ⌜ r ≡ checkedAxis (axisOf extent source dest) ⌝ }
 {
     let source_reset = layout::checked_replay_reset(extent, source);
     let dest_reset = layout::checked_replay_reset(extent, dest);
@@ -123,7 +123,7 @@ fn past_last(extent: u64, step: i64) -> Checked
 
 // Two axes as one, with the steps of the first.
 fn merge(before: u64, extent: u64, source: i64, dest: i64) -> JoinedAxis
-    ensures { λ r. ⌜ r ≡ joinAfterU (checkedU (before * extent)) (λ n. asMerged (axisOf n source dest)) ⌝ }
+    ensures { λ r. ⌜ r ≡ asMerged (checkedAxis (axisOf (before * extent) source dest)) ⌝ }
 {
     let size = integer::checked_mul_u64(before, extent);
     match size {
@@ -136,7 +136,7 @@ fn merge(before: u64, extent: u64, source: i64, dest: i64) -> JoinedAxis
 }
 
 fn apart(extent: u64, source: i64, dest: i64) -> JoinedAxis
-    ensures { λ r. ⌜ r ≡ asApart (axisOf extent source dest) ⌝ }
+    ensures { λ r. ⌜ r ≡ asApart (checkedAxis (axisOf extent source dest)) ⌝ }
 {
     let a = make_axis(extent, source, dest);
     as_apart(a)
@@ -144,7 +144,7 @@ fn apart(extent: u64, source: i64, dest: i64) -> JoinedAxis
 
 // The axis of this extent and these steps after the merged axis `before`.
 fn join(before: WindowReplayAxis, extent: u64, source: i64, dest: i64) -> JoinedAxis
-    ensures { λ r. ⌜ r ≡ joinOf before extent source dest ⌝ }
+    ensures { λ r. ⌜ r ≡ joinedAxis before (axisOf extent source dest) ⌝ }
 {
     let size = before.extent;
     let source_step = before.source_step;
@@ -232,7 +232,7 @@ fn fuse_rest(
     rank: usize,
     spans: ReplaySpans,
 ) -> CompiledReplay
-    ensures { λ r. ⌜ r ≡ compiledBy (fuseFrom first (drop 1 (take rank shape)) (drop 1 (take rank «source_strides»)) (drop 1 (take rank «dest_strides»))) spans ⌝ }
+    ensures { λ r. ⌜ r ≡ walkFrom first (givenAxes (drop 1 (take rank shape)) (drop 1 (take rank «source_strides»)) (drop 1 (take rank «dest_strides»))) spans ⌝ }
 {
     let count = layout::axis_count(rank);
     let empty = no_axis();
@@ -271,7 +271,7 @@ fn fuse(
     rank: usize,
     spans: ReplaySpans,
 ) -> CompiledReplay
-    ensures { λ r. ⌜ r ≡ compiledBy (fused (take rank shape) (take rank «source_strides») (take rank «dest_strides»)) spans ⌝ }
+    ensures { λ r. ⌜ r ≡ walkOf (givenAxes (take rank shape) (take rank «source_strides») (take rank «dest_strides»)) spans ⌝ }
 {
     if rank == 0 {
         let empty = no_axis();
