@@ -1,11 +1,11 @@
 -- What the calls of `make_axis`, `merge` and `join` give, by the definitions, and back. Assumes nothing.
 use mathlib.Core.Path.{_≡_, refl, sym, ap, ap₂, subst, _∙_}
 use mathlib.Core.Bool.{Bool, true, false, cond, _&&_}
-use Prim.Native.Nat.{ℕ, _*_, _-_, _<_, _≤_, _^_}
+use Prim.Native.Nat.{ℕ, _*_, _≤_, _^_}
 use native.Mathlib.Omega.{arith}
 use borrow.Author.Tests.{eqb-true, eq-eqb, lt-ltb, le-ltb}
 use lib.Dec.{eqb, ltb}
-use lib.IntN.{ℤ, pos, negℤ, _*ℤ_}
+use lib.IntN.{ℤ, pos, _*ℤ_}
 use mir.Syntax.{w64}
 use mir.Val.{SFits, ofZ}
 use Rattle.integer.specs.Defs.{checked, eqZ}
@@ -13,13 +13,14 @@ use Rattle.integer.specs.Laws.{eqZ-true, eqZ-refl}
 use Rattle.integer.specs.Machine.{same-bits, checked-fits}
 use Rattle.integer.specs.declared.Checked.{Checked}
 use Rattle.integer.specs.declared.Checked.the-variants as C
-use Rattle.layout.specs.Spans.{resetOf}
+use Rattle.layout.specs.Spans.{andThen, resetOf}
 use Rattle.layout.specs.Laws.{then-inv, reset-is, reset-size}
 use Rattle.replay.specs.declared.WindowReplayAxis.{WindowReplayAxis}
 use Rattle.replay.specs.declared.CheckedAxis.{CheckedAxis}
 use Rattle.replay.specs.declared.CheckedAxis.the-variants as A
 use Rattle.replay.specs.declared.JoinedAxis.the-variants as J
-use Rattle.replay.specs.Replays.{theAxis, axisOf, merges, joined, isFits, axisFits, past, pastFits, laterFit, mergedFrom, checkedAxis, asMerged, asApart, joinedAxis}
+use Rattle.replay.specs.Replays.{theAxis, axisOf, merges, joined, isFits, axisFits, pastFits}
+use Rattle.replay.specs.Parts.{past, checkedAxis, asMerged, asApart, joinedAxis}
 
 -- ---- equality of signed numbers, by their bits
 both-ways : (t u : Bool) → (t ≡ true → u ≡ true) → (u ≡ true → t ≡ true) → t ≡ u
@@ -86,6 +87,23 @@ past-is e s r h =
     let t = then-inv (checked (pos e)) (λ m. checked (s *ℤ m)) r h in
     sym (checked-fits (s *ℤ t .0) r (t .2)) ∙ ap (λ (z : ℤ). s *ℤ z) (sym (checked-fits (pos e) (t .0) (t .1)))
 
+past-fits : (e : ℕ) (s : ℤ) → isFits (past e s) ≡ isFits (checked (pos e)) && isFits (checked (s *ℤ pos e))
+unfolding past
+past-fits e s = go (checked (pos e)) refl
+  where
+    go : (x : Checked) → checked (pos e) ≡ x → isFits (andThen x (λ m. checked (s *ℤ m))) ≡ isFits x && isFits (checked (s *ℤ pos e))
+    go (C.Fits m) f = ap (λ (z : ℤ). isFits (checked (s *ℤ z))) (sym (checked-fits (pos e) m f))
+    go C.Overflow f = refl
+
+both-past : (p : WindowReplayAxis) → isFits (past (p .extent) (p .«source_step»)) && isFits (past (p .extent) (p .«dest_step»)) ≡ pastFits p
+both-past p =
+    ap₂ _&&_ (past-fits (p .extent) (p .«source_step»)) (past-fits (p .extent) (p .«dest_step»))
+    ∙ once (isFits (checked (pos (p .extent)))) (isFits (checked (p .«source_step» *ℤ pos (p .extent)))) (isFits (checked (p .«dest_step» *ℤ pos (p .extent))))
+  where
+    once : (r t u : Bool) → (r && t) && (r && u) ≡ r && (t && u)
+    once true t u = refl
+    once false t u = refl
+
 module _ (p : WindowReplayAxis) (d : ℕ) (s t : ℤ) (x y : Checked) (ex : x ≡ past (p .extent) (p .«source_step»)) (ey : y ≡ past (p .extent) (p .«dest_step»)) where
   abbrev next : WindowReplayAxis
   next = axisOf d s t
@@ -93,24 +111,24 @@ module _ (p : WindowReplayAxis) (d : ℕ) (s t : ℤ) (x y : Checked) (ex : x �
   abbrev both : WindowReplayAxis
   both = axisOf (p .extent * d) (p .«source_step») (p .«dest_step»)
 
-  pub join-over : x ≡ C.Overflow → J.Overflow ≡ joinedAxis p next
+  -- by whether both fit
+  fitting : (r : Bool) → r ≡ pastFits p → cond r (cond (merges p next) (asMerged (checkedAxis (joined p next))) (asApart (checkedAxis (joined p next)))) J.Overflow ≡ joinedAxis p next
   unfolding joinedAxis
-  join-over o = ap (λ (z : Checked). cond (isFits z && isFits (past (p .extent) (p .«dest_step»))) (cond (merges p next) (asMerged (checkedAxis (joined p next))) (asApart (checkedAxis (joined p next)))) J.Overflow) (sym o ∙ ex)
+  fitting r e = ap (λ (t : Bool). cond t (cond (merges p next) (asMerged (checkedAxis (joined p next))) (asApart (checkedAxis (joined p next)))) J.Overflow) e
+
+  pub join-over : x ≡ C.Overflow → J.Overflow ≡ joinedAxis p next
+  join-over o = fitting false (ap (λ (z : Checked). isFits z && isFits (past (p .extent) (p .«dest_step»))) (sym o ∙ ex) ∙ both-past p)
 
   pub join-over2 : y ≡ C.Overflow → J.Overflow ≡ joinedAxis p next
-  unfolding joinedAxis
-  join-over2 o =
-      ap (λ (r : Bool). cond r (cond (merges p next) (asMerged (checkedAxis (joined p next))) (asApart (checkedAxis (joined p next)))) J.Overflow)
-      (sym (not-both (isFits (past (p .extent) (p .«source_step»)))) ∙ ap (λ (z : Checked). isFits (past (p .extent) (p .«source_step»)) && isFits z) (sym o ∙ ey))
+  join-over2 o = fitting false (sym (not-both (isFits (past (p .extent) (p .«source_step»)))) ∙ ap (λ (z : Checked). isFits (past (p .extent) (p .«source_step»)) && isFits z) (sym o ∙ ey) ∙ both-past p)
 
   module _ (a b : ℤ) (ox : x ≡ C.Fits a) (oy : y ≡ C.Fits b) where
     -- where both fit, they are the steps times the extent, and the two merge or not
     chosen : (r : Bool) → eqZ s a && eqZ t b ≡ r → cond r (asMerged (checkedAxis both)) (asApart (checkedAxis next)) ≡ joinedAxis p next
-    unfolding joinedAxis
     chosen r e =
         let m : r ≡ merges p next = sym e ∙ ap₂ (λ (u v : ℤ). eqZ s u && eqZ t v) (past-is (p .extent) (p .«source_step») a (sym ex ∙ ox)) (past-is (p .extent) (p .«dest_step») b (sym ey ∙ oy)) in
         same r ∙ ap (λ (q : Bool). cond q (asMerged (checkedAxis (cond q both next))) (asApart (checkedAxis (cond q both next)))) m
-        ∙ (λ ι. cond (isFits ((sym ox ∙ ex) ι) && isFits ((sym oy ∙ ey) ι)) (cond (merges p next) (asMerged (checkedAxis (joined p next))) (asApart (checkedAxis (joined p next)))) J.Overflow)
+        ∙ fitting true (ap₂ (λ (u v : Checked). isFits u && isFits v) (sym ox ∙ ex) (sym oy ∙ ey) ∙ both-past p)
       where
         same : (q : Bool) → cond q (asMerged (checkedAxis both)) (asApart (checkedAxis next)) ≡ cond q (asMerged (checkedAxis (cond q both next))) (asApart (checkedAxis (cond q both next)))
         same true = refl

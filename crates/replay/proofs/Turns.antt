@@ -16,7 +16,8 @@ use Rattle.replay.specs.declared.CheckedAxis.the-variants as A
 use Rattle.replay.specs.declared.JoinedAxis.{JoinedAxis}
 use Rattle.replay.specs.declared.JoinedAxis.the-variants as J
 use Rattle.replay.specs.declared.ReplaySpans.{ReplaySpans}
-use Rattle.replay.specs.Replays.{axisOf, givenAxes, mergedFrom, laterFit, noAxis, doneReplay, refusedReplay, whereFits, walkFrom, walkOf, checkedAxis, joinedAxis}
+use Rattle.replay.specs.Replays.{axisOf, givenAxes, mergedFrom, laterFit, noAxis, doneReplay, refusedReplay, whereFits, walkOf}
+use Rattle.replay.specs.Parts.{checkedAxis, joinedAxis, walkFrom}
 use Rattle.replay.proofs.Joins.{axis-is, axis-not, Joined, joined-merged, joined-apart, joined-over}
 
 -- ---- one axis more, after the merged axis p

@@ -13,12 +13,8 @@ use Rattle.layout.specs.declared.Answer.the-variants as N
 use Rattle.layout.specs.declared.OffsetSpan.{OffsetSpan}
 use Rattle.layout.specs.declared.OffsetSpan.the-variants as S
 use Rattle.layout.specs.Layouts.{rankLimit, padded}
-use Rattle.layout.specs.Spans.{andThen, spanned, resetOf}
+use Rattle.layout.specs.Spans.{spanned, resetOf}
 use Rattle.replay.specs.declared.WindowReplayAxis.{WindowReplayAxis}
-use Rattle.replay.specs.declared.CheckedAxis.{CheckedAxis}
-use Rattle.replay.specs.declared.CheckedAxis.the-variants as A
-use Rattle.replay.specs.declared.JoinedAxis.{JoinedAxis}
-use Rattle.replay.specs.declared.JoinedAxis.the-variants as J
 use Rattle.replay.specs.declared.ReplaySpans.{ReplaySpans}
 use Rattle.replay.specs.declared.CompiledReplay.{CompiledReplay}
 
@@ -63,13 +59,9 @@ isFits C.Overflow = false
 abbrev pub axisFits : WindowReplayAxis → Bool
 axisFits a = ltb (a .extent) (2 ^ 64) && (isFits (resetOf (a .extent) (a .«source_step»)) && isFits (resetOf (a .extent) (a .«dest_step»)))
 
--- an extent, and a step times it
-unfoldable pub past : ℕ → ℤ → Checked
-past e s = andThen (checked (pos e)) (λ m. checked (s *ℤ m))
-
 -- "the preceding merged axis's extent, and both its steps times that extent, must fit i64"
 abbrev pub pastFits : WindowReplayAxis → Bool
-pastFits p = isFits (past (p .extent) (p .«source_step»)) && isFits (past (p .extent) (p .«dest_step»))
+pastFits p = isFits (checked (pos (p .extent))) && (isFits (checked (p .«source_step» *ℤ pos (p .extent))) && isFits (checked (p .«dest_step» *ℤ pos (p .extent))))
 
 -- "for each later axis .., whether or not the two merge"
 unfoldable pub laterFit : WindowReplayAxis → List WindowReplayAxis → Bool
@@ -102,10 +94,6 @@ refusedReplay = record { answer = N.OffsetOverflow; replay = record { rank = 0; 
 abbrev pub whereFits : Bool → List WindowReplayAxis → ReplaySpans → CompiledReplay
 whereFits t l spans = cond t (doneReplay (length l) (padded rankLimit noAxis l) spans) refusedReplay
 
--- that of the merged axis p and the axes after it, and that of all axes
-abbrev pub walkFrom : WindowReplayAxis → List WindowReplayAxis → ReplaySpans → CompiledReplay
-walkFrom p l spans = whereFits (laterFit p l) (mergedFrom p l) spans
-
 abbrev pub walkOf : List WindowReplayAxis → ReplaySpans → CompiledReplay
 walkOf l spans = whereFits (axesFit l) (mergedAxes l) spans
 
@@ -136,18 +124,3 @@ rowsOf = map rowOf
 abbrev pub axesFrom : List ℕ → List (List ℤ) → List WindowReplayAxis
 axesFrom es rows =
     tabulate rankLimit (λ i. theAxis (getD es i 0) (getD (getD rows i []) 0 (pos 0)) (getD (getD rows i []) 1 (pos 0)) (getD (getD rows i []) 2 (pos 0)) (getD (getD rows i []) 3 (pos 0)))
-
--- ---- an axis where it fits; as one with the axis before it, or apart; the axis a after p
-abbrev pub checkedAxis : WindowReplayAxis → CheckedAxis
-checkedAxis a = cond (axisFits a) (A.Fits a) A.Overflow
-
-abbrev pub asMerged : CheckedAxis → JoinedAxis
-asMerged (A.Fits a) = J.Merged a
-asMerged A.Overflow = J.Overflow
-
-abbrev pub asApart : CheckedAxis → JoinedAxis
-asApart (A.Fits a) = J.Apart a
-asApart A.Overflow = J.Overflow
-
-unfoldable pub joinedAxis : WindowReplayAxis → WindowReplayAxis → JoinedAxis
-joinedAxis p a = cond (pastFits p) (cond (merges p a) (asMerged (checkedAxis (joined p a))) (asApart (checkedAxis (joined p a)))) J.Overflow

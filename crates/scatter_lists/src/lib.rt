@@ -4,7 +4,6 @@ ghost use Prim.Native.Nat.{_≤_};
 ghost use lib.ListN.{length};
 ghost use Rattle.indexing.specs.Coordinates.{pick, spread, others, tabulate};
 ghost use Rattle.layout.specs.Layouts.{rankLimit};
-ghost use Rattle.checks.specs.Values.{totalOr};
 ghost use Rattle.components.specs.Components.{limitAt};
 ghost use Rattle.calls.specs.Calls.{viewWith};
 ghost use Rattle.scatter_checks.specs.Refusals.{scatterFrom};

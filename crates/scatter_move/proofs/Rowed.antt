@@ -6,7 +6,7 @@ use Prim.Native.Nat.{ℕ, zero, suc, _-_, _<_, _^_}
 use native.Mathlib.Omega.{arith}
 use lib.ListN.{length, take, replicate, length-map}
 use lib.IntN.{ℤ, pos}
-use Rattle.indexing.specs.Coordinates.{product, InSlice, rank}
+use Rattle.indexing.specs.Coordinates.{product, InSlice}
 use Rattle.indexing.specs.Start.{without}
 use Rattle.indexing.specs.Scatter.{Scatter, batchShape}
 use Rattle.indexing.specs.Steps.{updateBatchSteps}

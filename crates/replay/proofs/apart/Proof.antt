@@ -1,7 +1,8 @@
 use mathlib.Core.Path.{ap, ap₂, _∙_}
 use lib.IntN.{ℤ}
 use Rattle.integer.specs.Z.{back}
-use Rattle.replay.specs.Replays.{axisOf, checkedAxis, asApart}
+use Rattle.replay.specs.Replays.{axisOf}
+use Rattle.replay.specs.Parts.{checkedAxis, asApart}
 use Rattle.replay.proofs.apart.Statement.{statement}
 use Rattle.replay.proofs.apart.Tie as tie
 

@@ -8,7 +8,8 @@ use mir.Val.{SFits}
 use Rattle.integer.specs.Z.{back}
 use Rattle.layout.specs.Layouts.{rankLimit}
 use Rattle.replay.specs.declared.WindowReplayAxis.{WindowReplayAxis}
-use Rattle.replay.specs.Replays.{axisOf, doneReplay, checkedAxis}
+use Rattle.replay.specs.Replays.{axisOf, doneReplay}
+use Rattle.replay.specs.Parts.{checkedAxis}
 use Rattle.replay.proofs.Turns.{fuse-none, first-over, first-fits}
 use borrow.Author.Needs.{needs}
 use Rattle.replay.proofs.fuse.Statement.{statement}

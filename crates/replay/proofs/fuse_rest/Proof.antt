@@ -1,4 +1,4 @@
-use mathlib.Core.Path.{_≡_, sym, ap, ap₂, subst, _∙_}
+use mathlib.Core.Path.{_≡_, sym, ap₂, subst, _∙_}
 use Prim.Native.Nat.{_-_, _<_, min}
 use native.Mathlib.Omega.{arith}
 use lib.ListN.{length, getD, replicate}
@@ -9,7 +9,8 @@ use borrow.Author.Needs.{needs}
 use Rattle.integer.specs.Z.{back}
 use Rattle.layout.specs.Layouts.{rankLimit}
 use Rattle.replay.specs.declared.WindowReplayAxis.{WindowReplayAxis}
-use Rattle.replay.specs.Replays.{axisOf, joinedAxis}
+use Rattle.replay.specs.Replays.{axisOf}
+use Rattle.replay.specs.Parts.{joinedAxis}
 use Rattle.replay.proofs.Turns.{Fusing, fusing-first, fusing-over, fusing-merged, fusing-apart, fusing-done}
 use Rattle.replay.proofs.fuse_rest.Statement.{statement}
 use Rattle.replay.proofs.fuse_rest.Tie as tie

@@ -7,7 +7,8 @@ use borrow.Author.Needs.{sfits-of, needs}
 use borrow.Author.Tests.{not-true, not-false}
 use Rattle.integer.specs.Z.{back}
 use Rattle.integer.specs.Defs.{eqZ}
-use Rattle.replay.specs.Replays.{axisOf, past, checkedAxis, asMerged, asApart}
+use Rattle.replay.specs.Replays.{axisOf}
+use Rattle.replay.specs.Parts.{past, checkedAxis, asMerged, asApart}
 use Rattle.replay.proofs.Joins.{join-over, join-over2, join-merge, join-apart, join-apart2}
 use Rattle.replay.proofs.join.Statement.{statement}
 use Rattle.replay.proofs.join.Tie as tie

@@ -3,7 +3,8 @@ use Prim.Native.Nat.{ℕ, _*_}
 use lib.IntN.{ℤ}
 use Rattle.integer.specs.Z.{back}
 use Rattle.integer.specs.Machine.{checkedU-fits, checkedU-over}
-use Rattle.replay.specs.Replays.{axisOf, checkedAxis, asMerged}
+use Rattle.replay.specs.Replays.{axisOf}
+use Rattle.replay.specs.Parts.{checkedAxis, asMerged}
 use borrow.Author.Needs.{needs}
 use Rattle.replay.proofs.Joins.{axis-large}
 use Rattle.replay.proofs.merge.Statement.{statement}
