@@ -145,7 +145,7 @@ meets-fuse p d s s′ t t′ ds ss ts l e f m = record {
 }
 
 -- ---- the axes that fit
-pub and-true : (r t : Bool) → r && t ≡ true → (r ≡ true) × (t ≡ true)
+and-true : (r t : Bool) → r && t ≡ true → (r ≡ true) × (t ≡ true)
 and-true true t e = (refl, e)
 and-true false t e = let z : _≡_ {A = ℕ} 0 1 = cc in absurd (omega arith)
 

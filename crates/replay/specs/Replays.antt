@@ -1,4 +1,4 @@
--- The walk of a window over two sides, source and destination (000, `WindowReplay`): document 01's sentence on walks, over exact integers, and the merged axes. Definitions only.
+-- The walk of a window over two sides, source and destination (000, `WindowReplay`): document 01's sentence on walks, over exact integers. Definitions only.
 use mathlib.Core.Bool.{Bool, true, false, cond, _&&_}
 use mathlib.Core.List.{List, [], _∷_, map}
 use Prim.Native.Nat.{ℕ, _*_, _-_, _^_}
@@ -18,11 +18,11 @@ use Rattle.replay.specs.declared.WindowReplayAxis.{WindowReplayAxis}
 use Rattle.replay.specs.declared.ReplaySpans.{ReplaySpans}
 use Rattle.replay.specs.declared.CompiledReplay.{CompiledReplay}
 
--- ---- the axes
+-- ---- the axes: extent, source step and reset, destination step and reset
 abbrev pub theAxis : ℕ → ℤ → ℤ → ℤ → ℤ → WindowReplayAxis
 theAxis d s sr t tr = record { extent = d; «source_step» = s; «source_reset» = sr; «dest_step» = t; «dest_reset» = tr }
 
--- an axis of extent d with step s on the source's side and t on the destination's; a reset goes back over extent − 1 steps
+-- an axis of extent d with steps s and t; a reset goes back over extent − 1 steps
 abbrev pub axisOf : ℕ → ℤ → ℤ → WindowReplayAxis
 axisOf d s t = theAxis d s (negℤ (s *ℤ pos (d - 1))) t (negℤ (t *ℤ pos (d - 1)))
 
@@ -33,15 +33,15 @@ givenAxes (d ∷ ds) [] ts = []
 givenAxes (d ∷ ds) (s ∷ ss) [] = []
 givenAxes (d ∷ ds) (s ∷ ss) (t ∷ ts) = axisOf d s t ∷ givenAxes ds ss ts
 
--- axis a merges into the axis p before it where on both sides its step is p's step times p's extent
+-- axis a merges into the merged axis p before it where on both sides its step is p's step times p's extent
 abbrev pub merges : WindowReplayAxis → WindowReplayAxis → Bool
 merges p a = eqZ (a .«source_step») (p .«source_step» *ℤ pos (p .extent)) && eqZ (a .«dest_step») (p .«dest_step» *ℤ pos (p .extent))
 
--- the merged axis at a: both as one, with p's steps, or a itself
+-- the merged axis at a: the two as one, with p's steps, or a itself
 abbrev pub joined : WindowReplayAxis → WindowReplayAxis → WindowReplayAxis
 joined p a = cond (merges p a) (axisOf (p .extent * a .extent) (p .«source_step») (p .«dest_step»)) a
 
--- the merged axes, p and those after it
+-- the merged axes from p on: p is one of them where the next axis does not merge into it
 unfoldable pub mergedFrom : WindowReplayAxis → List WindowReplayAxis → List WindowReplayAxis
 mergedFrom p [] = p ∷ []
 mergedFrom p (a ∷ l) = cond (merges p a) (mergedFrom (joined p a) l) (p ∷ mergedFrom (joined p a) l)
@@ -63,7 +63,7 @@ axisFits a = ltb (a .extent) (2 ^ 64) && (isFits (resetOf (a .extent) (a .«sour
 abbrev pub pastFits : WindowReplayAxis → Bool
 pastFits p = isFits (checked (pos (p .extent))) && (isFits (checked (p .«source_step» *ℤ pos (p .extent))) && isFits (checked (p .«dest_step» *ℤ pos (p .extent))))
 
--- "for each later axis .., whether or not the two merge"
+-- "for each later axis .., whether or not the two merge": p is the preceding merged axis
 unfoldable pub laterFit : WindowReplayAxis → List WindowReplayAxis → Bool
 laterFit p [] = true
 laterFit p (a ∷ l) = pastFits p && (axisFits (joined p a) && laterFit (joined p a) l)
@@ -90,7 +90,7 @@ doneReplay n axes spans = record { answer = N.Done; replay = record { rank = n; 
 abbrev pub refusedReplay : CompiledReplay
 refusedReplay = record { answer = N.OffsetOverflow; replay = record { rank = 0; extents = replicate rankLimit 1; spans = theSpans (pos 0) (pos 0) (pos 0) (pos 0) }; axes = replicate rankLimit noAxis }
 
--- these merged axes and spans where all fits, or the refusal
+-- the merged axes l with these spans where all fits, or the refusal; so of the axes of a window
 abbrev pub whereFits : Bool → List WindowReplayAxis → ReplaySpans → CompiledReplay
 whereFits t l spans = cond t (doneReplay (length l) (padded rankLimit noAxis l) spans) refusedReplay
 
