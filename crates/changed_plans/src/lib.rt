@@ -78,7 +78,11 @@ fn other_role(role: Role, k: u64) -> Role {
     }
 }
 
-fn other_u64s(list: [u64; RAW_FUSED_RANK_LIMIT], i: usize, k: u64) -> [u64; RAW_FUSED_RANK_LIMIT] {
+pub fn other_u64s(
+    list: [u64; RAW_FUSED_RANK_LIMIT],
+    i: usize,
+    k: u64,
+) -> [u64; RAW_FUSED_RANK_LIMIT] {
     let mut out = list;
     if i < RAW_FUSED_RANK_LIMIT {
         out[i] = other_u64(list[i], k);

@@ -6,12 +6,11 @@ use changed_plans::other_usize;
 use layout::RAW_FUSED_RANK_LIMIT;
 use replay::ReplaySpans;
 use replay::WindowReplay;
-use replay::WindowReplayAxis;
 use scatter_plan::ScatterPlan;
 
 // A field of a plan. A layout's are 0 for the rank, 1 for the extents, 2 for the strides; a list's are 0 for the count and 1
-// for the entries; a walk's are 0 for the rank, 1 to 5 for the five numbers of its axes, 6 for its four spans. Before that
-// stands which layout, list, walk or count it is, in declared order.
+// for the entries; a walk's are 0 for the rank, 1 for the extents, 2 for its four spans. Before that stands which layout, list, walk
+// or count it is, in declared order.
 pub enum Field {
     Layout(u64, u64),
     Numbers(u64, u64),
@@ -77,43 +76,6 @@ fn changed_steps(plan: ScatterPlan, which: u64, part: u64, i: usize, k: u64) -> 
 
 // ---- walks
 
-fn extent_if(extent: u64, part: u64, k: u64) -> u64 {
-    if part == 1 {
-        other_u64(extent, k)
-    } else {
-        extent
-    }
-}
-
-fn other_axis(axis: WindowReplayAxis, part: u64, k: u64) -> WindowReplayAxis {
-    let extent = extent_if(axis.extent, part, k);
-    let a = other_if(axis.source_step, 2, part, k);
-    let b = other_if(axis.source_reset, 3, part, k);
-    let c = other_if(axis.dest_step, 4, part, k);
-    let d = other_if(axis.dest_reset, 5, part, k);
-    WindowReplayAxis {
-        extent,
-        source_step: a,
-        source_reset: b,
-        dest_step: c,
-        dest_reset: d,
-    }
-}
-
-fn other_axes(
-    axes: [WindowReplayAxis; RAW_FUSED_RANK_LIMIT],
-    part: u64,
-    i: usize,
-    k: u64,
-) -> [WindowReplayAxis; RAW_FUSED_RANK_LIMIT] {
-    let mut out = axes;
-    if i < RAW_FUSED_RANK_LIMIT {
-        let axis = axes[i];
-        out[i] = other_axis(axis, part, k);
-    }
-    out
-}
-
 fn other_spans(spans: ReplaySpans, i: usize, k: u64) -> ReplaySpans {
     let at = i as u64;
     let a = other_if(spans.source_low, 0, at, k);
@@ -129,26 +91,19 @@ fn other_spans(spans: ReplaySpans, i: usize, k: u64) -> ReplaySpans {
 }
 
 fn other_walk(walk: WindowReplay, part: u64, i: usize, k: u64) -> WindowReplay {
-    let axes = walk.axes;
-    let spans = walk.spans;
+    let mut changed = walk;
     if part == 0 {
-        let rank = other_usize(walk.rank, k);
-        WindowReplay { rank, axes, spans }
-    } else if part == 6 {
-        let s = other_spans(spans, i, k);
-        WindowReplay {
-            rank: walk.rank,
-            axes,
-            spans: s,
-        }
+        changed.rank = other_usize(walk.rank, k);
+    } else if part == 1 {
+        let e = walk.extents;
+        let f = changed_plans::other_u64s(e, i, k);
+        changed.extents = f;
     } else {
-        let a = other_axes(axes, part, i, k);
-        WindowReplay {
-            rank: walk.rank,
-            axes: a,
-            spans,
-        }
+        let s = walk.spans;
+        let t = other_spans(s, i, k);
+        changed.spans = t;
     }
+    changed
 }
 
 fn changed_walk(plan: ScatterPlan, which: u64, part: u64, i: usize, k: u64) -> ScatterPlan {

@@ -1,2 +1,3 @@
 pub mod Joins
 pub mod Turns
+pub mod Rows

@@ -1,21 +1,20 @@
 -- The merged walk is the walk over the axes as they were given: the same offsets at every linear index on both sides, as many cells, the same spans. For lists of any length. Assumes nothing.
-use mathlib.Core.Path.{_≡_, refl, sym, ap, ap₂, subst, _∙_}
+use mathlib.Core.Path.{_≡_, refl, sym, ap, ap₂, _∙_}
 use mathlib.Core.Bool.{Bool, true, false, cond, _&&_}
 use mathlib.Core.List.{List, [], _∷_}
-use Prim.Native.Nat.{ℕ, zero, suc, _+_, _*_, _-_, _/_, _%_, _<_, _≤_}
+use Prim.Native.Nat.{ℕ, zero, suc, _+_, _*_, _-_, _/_, _%_, _<_, _≤_, _^_}
 use native.Mathlib.Nat.{mul-pos, mul-add}
 use native.Mathlib.Omega.{arith}
+use lib.Dec.{ltb}
 use lib.ListN.{length}
 use lib.IntN.{ℤ, pos, negsuc, negℤ, _+ℤ_, _*ℤ_, +ℤ-assoc, negℤ-+ℤ}
 use mir.Syntax.{w64}
 use mir.Val.{SFits}
-use Rattle.integer.specs.Defs.{checked, checkedU, eqZ}
+use Rattle.integer.specs.Defs.{eqZ}
 use Rattle.integer.specs.Z.{negℤ-*ℤ}
-use Rattle.integer.specs.Machine.{checked-fits, checkedU-fits}
+use Rattle.integer.specs.Laws.{eqZ-true}
 use Rattle.integer.specs.declared.Checked.{Checked}
 use Rattle.integer.specs.declared.Checked.the-variants as C
-use Rattle.integer.specs.declared.CheckedU.{CheckedU}
-use Rattle.integer.specs.declared.CheckedU.the-variants as U
 use Rattle.indexing.specs.Coordinates.{product, unravel, dot}
 use Rattle.indexing.specs.Odometer.{AllPos}
 use Rattle.indexing.specs.Reach.{belowZero, aboveZero, lowest, highest}
@@ -25,14 +24,9 @@ use Rattle.layout.specs.declared.OffsetSpan.{OffsetSpan}
 use Rattle.layout.specs.declared.OffsetSpan.the-variants as S
 use Rattle.layout.specs.Layouts.{rankLimit, padded}
 use Rattle.layout.specs.Spans.{resetOf, spanned}
-use Rattle.layout.specs.Laws.{then-inv, reset-is, reset-size}
+use Rattle.layout.specs.Laws.{reset-size}
 use Rattle.replay.specs.declared.WindowReplayAxis.{WindowReplayAxis}
-use Rattle.replay.specs.declared.CheckedAxis.{CheckedAxis}
-use Rattle.replay.specs.declared.CheckedAxis.the-variants as A
-use Rattle.replay.specs.declared.JoinedAxis.{JoinedAxis}
-use Rattle.replay.specs.declared.JoinedAxis.the-variants as J
-use Rattle.integer.specs.Laws.{eqZ-true}
-use Rattle.replay.specs.Replays.{axisAfter, theAxis, axisOf, joinAfter, joinAfterU, asMerged, asApart, past, joinOf, Merged, refused, merged, follow, mergedBy, firstBy, fuseFrom, fused, noAxis, theSpans, doneReplay, afterSpans, compiledBy, compiledReplay, extents, sources, dests}
+use Rattle.replay.specs.Replays.{axisOf, givenAxes, merges, mergedFrom, mergedAxes, isFits, axisFits, pastFits, laterFit, axesFit, noAxis, theSpans, doneReplay, whereFits, afterSpans, compiledReplay, extents, sources, dests}
 
 -- ---- one side: the offsets and the spans of steps zs over extents es are those of strides ss over extents ds
 pub record Side (ds : List ℕ) (ss : List ℤ) (es : List ℕ) (zs : List ℤ) : Type 0 where
@@ -150,164 +144,57 @@ meets-fuse p d s s′ t t′ ds ss ts l e f m = record {
   count = omega (arith, m .count);
 }
 
--- ---- what a joined axis is
-zero-ne : _≡_ {A = ℕ} 0 1 → ⊥
-zero-ne e = omega arith
+-- ---- the axes that fit
+and-true : (r t : Bool) → r && t ≡ true → (r ≡ true) × (t ≡ true)
+and-true true t e = (refl, e)
+and-true false t e = let z : _≡_ {A = ℕ} 0 1 = cc in absurd (omega arith)
 
-axis-inv : (x : Checked) (f : ℤ → CheckedAxis) (q : WindowReplayAxis) → axisAfter x f ≡ A.Fits q → (m : ℤ) × (x ≡ C.Fits m) × (f m ≡ A.Fits q)
-axis-inv (C.Fits m) f q e = (m, refl, e)
-axis-inv C.Overflow f q e = let z : _≡_ {A = ℕ} 0 1 = cc in absurd (zero-ne z)
+fits-inv : (x : Checked) → isFits x ≡ true → (r : ℤ) × (x ≡ C.Fits r)
+fits-inv (C.Fits r) e = (r, refl)
+fits-inv C.Overflow e = let z : _≡_ {A = ℕ} 0 1 = cc in absurd (omega arith)
 
--- its extent and steps, and its resets
-pub record Made (d : ℕ) (s t : ℤ) (q : WindowReplayAxis) : Type 0 where
-  pub extent-is : q .extent ≡ d
-  pub source-is : q .«source_step» ≡ s
-  pub dest-is : q .«dest_step» ≡ t
-  pub reset : IsReset q
-
-axis-made : (d : ℕ) (s t : ℤ) (q : WindowReplayAxis) → axisOf d s t ≡ A.Fits q → Made d s t q
-unfolding axisOf
-axis-made d s t q e =
-    let u = axis-inv (resetOf d s) (λ a. axisAfter (resetOf d t) (λ b. A.Fits (theAxis d s a t b))) q e in
-    let v = axis-inv (resetOf d t) (λ b. A.Fits (theAxis d s (u .0) t b)) q (u .2) in
-    let z : A.Fits (theAxis d s (u .0) t (v .0)) ≡ A.Fits q = v .2 in
-    let w : theAxis d s (u .0) t (v .0) ≡ q = cc in
-    subst (λ (a : WindowReplayAxis). Made d s t a) w (record { extent-is = refl; source-is = refl; dest-is = refl; reset = record { source = reset-is d s (u .0) (u .1); dest = reset-is d t (v .0) (v .1); size = reset-size d s (u .0) (u .1) .0; source-size = reset-size d s (u .0) (u .1) .1; dest-size = reset-size d t (v .0) (v .1) .1 } })
-
-module _ (q : WindowReplayAxis) where
-  after-merged : (x : Checked) (f : ℤ → JoinedAxis) → joinAfter x f ≡ J.Merged q → (m : ℤ) × (x ≡ C.Fits m) × (f m ≡ J.Merged q)
-  after-merged (C.Fits m) f e = (m, refl, e)
-  after-merged C.Overflow f e = let z : _≡_ {A = ℕ} 0 1 = cc in absurd (zero-ne z)
-
-  after-apart : (x : Checked) (f : ℤ → JoinedAxis) → joinAfter x f ≡ J.Apart q → (m : ℤ) × (x ≡ C.Fits m) × (f m ≡ J.Apart q)
-  after-apart (C.Fits m) f e = (m, refl, e)
-  after-apart C.Overflow f e = let z : _≡_ {A = ℕ} 0 1 = cc in absurd (zero-ne z)
-
-  merged-of : (x : CheckedAxis) → asMerged x ≡ J.Merged q → x ≡ A.Fits q
-  merged-of (A.Fits a) e = cc
-  merged-of A.Overflow e = let z : _≡_ {A = ℕ} 0 1 = cc in absurd (zero-ne z)
-
-  apart-of : (x : CheckedAxis) → asApart x ≡ J.Apart q → x ≡ A.Fits q
-  apart-of (A.Fits a) e = cc
-  apart-of A.Overflow e = let z : _≡_ {A = ℕ} 0 1 = cc in absurd (zero-ne z)
-
-  not-merged : (x : CheckedAxis) → asApart x ≡ J.Merged q → ⊥
-  not-merged (A.Fits a) e = let z : _≡_ {A = ℕ} 0 1 = cc in zero-ne z
-  not-merged A.Overflow e = let z : _≡_ {A = ℕ} 0 1 = cc in zero-ne z
-
-  not-apart : (x : CheckedAxis) → asMerged x ≡ J.Apart q → ⊥
-  not-apart (A.Fits a) e = let z : _≡_ {A = ℕ} 0 1 = cc in zero-ne z
-  not-apart A.Overflow e = let z : _≡_ {A = ℕ} 0 1 = cc in zero-ne z
-
-  abbrev both : ℕ → ℕ → ℤ → ℤ → JoinedAxis
-  both e d s t = joinAfterU (checkedU (e * d)) (λ n. asMerged (axisOf n s t))
-
-  merge-made : (e d : ℕ) (s t : ℤ) → both e d s t ≡ J.Merged q → Made (e * d) s t q
-  merge-made e d s t h = go (checkedU (e * d)) refl h
-    where
-      go : (x : CheckedU) → checkedU (e * d) ≡ x → joinAfterU x (λ n. asMerged (axisOf n s t)) ≡ J.Merged q → Made (e * d) s t q
-      go (U.Fits n) f g = subst (λ (m : ℕ). Made m s t q) (sym (checkedU-fits (e * d) n f)) (axis-made n s t q (merged-of (axisOf n s t) g))
-      go U.Overflow f g = let z : _≡_ {A = ℕ} 0 1 = cc in absurd (zero-ne z)
-
-  merge-not-apart : (e d : ℕ) (s t : ℤ) → both e d s t ≡ J.Apart q → ⊥
-  merge-not-apart e d s t h = go (checkedU (e * d)) h
-    where
-      go : (x : CheckedU) → joinAfterU x (λ n. asMerged (axisOf n s t)) ≡ J.Apart q → ⊥
-      go (U.Fits n) g = not-apart (axisOf n s t) g
-      go U.Overflow g = let z : _≡_ {A = ℕ} 0 1 = cc in zero-ne z
-
-  past-is : (e : ℕ) (s r : ℤ) → past e s ≡ C.Fits r → r ≡ s *ℤ pos e
-  unfolding past
-  past-is e s r h =
-      let t = then-inv (checked (pos e)) (λ m. checked (s *ℤ m)) r h in
-      sym (checked-fits (s *ℤ t .0) r (t .2)) ∙ ap (λ (z : ℤ). s *ℤ z) (sym (checked-fits (pos e) (t .0) (t .1)))
-
-  module _ (p : WindowReplayAxis) (d : ℕ) (s t : ℤ) where
-    -- where both expected steps fit, a and b
-    abbrev chosen : ℤ → ℤ → JoinedAxis
-    chosen a b = cond (eqZ s a && eqZ t b) (both (p .extent) d (p .«source_step») (p .«dest_step»)) (asApart (axisOf d s t))
-
-    abbrev GoesOn : Type 0
-    GoesOn = (s ≡ p .«source_step» *ℤ pos (p .extent)) × (t ≡ p .«dest_step» *ℤ pos (p .extent)) × Made (p .extent * d) (p .«source_step») (p .«dest_step») q
-
-    pub joined-merged : joinOf p d s t ≡ J.Merged q → GoesOn
-    unfolding joinOf
-    joined-merged h =
-        let u = after-merged (past (p .extent) (p .«source_step»)) (λ a. joinAfter (past (p .extent) (p .«dest_step»)) (λ b. chosen a b)) h in
-        let v = after-merged (past (p .extent) (p .«dest_step»)) (λ b. chosen (u .0) b) (u .2) in
-        go (eqZ s (u .0)) (eqZ t (v .0)) refl refl (past-is (p .extent) (p .«source_step») (u .0) (u .1)) (past-is (p .extent) (p .«dest_step») (v .0) (v .1)) (v .2)
-      where
-        go : {a b : ℤ} (x y : Bool) → eqZ s a ≡ x → eqZ t b ≡ y → a ≡ p .«source_step» *ℤ pos (p .extent) → b ≡ p .«dest_step» *ℤ pos (p .extent) → cond (x && y) (both (p .extent) d (p .«source_step») (p .«dest_step»)) (asApart (axisOf d s t)) ≡ J.Merged q → GoesOn
-        go {a} {b} true true e f ea eb g = (eqZ-true s a e ∙ ea, eqZ-true t b f ∙ eb, merge-made (p .extent) d (p .«source_step») (p .«dest_step») g)
-        go true false e f ea eb g = absurd (not-merged (axisOf d s t) g)
-        go false y e f ea eb g = absurd (not-merged (axisOf d s t) g)
-
-    pub joined-apart : joinOf p d s t ≡ J.Apart q → Made d s t q
-    unfolding joinOf
-    joined-apart h =
-        let u = after-apart (past (p .extent) (p .«source_step»)) (λ a. joinAfter (past (p .extent) (p .«dest_step»)) (λ b. chosen a b)) h in
-        let v = after-apart (past (p .extent) (p .«dest_step»)) (λ b. chosen (u .0) b) (u .2) in
-        go (eqZ s (u .0)) (eqZ t (v .0)) (v .2)
-      where
-        go : (x y : Bool) → cond (x && y) (both (p .extent) d (p .«source_step») (p .«dest_step»)) (asApart (axisOf d s t)) ≡ J.Apart q → Made d s t q
-        go true true g = absurd (merge-not-apart (p .extent) d (p .«source_step») (p .«dest_step») g)
-        go true false g = axis-made d s t q (apart-of (axisOf d s t) g)
-        go false y g = axis-made d s t q (apart-of (axisOf d s t) g)
+axis-reset : (d : ℕ) (s t : ℤ) → axisFits (axisOf d s t) ≡ true → IsReset (axisOf d s t)
+axis-reset d s t e =
+    let u = and-true (isFits (resetOf d s)) _ (and-true (ltb d (2 ^ 64)) _ e .1) in
+    let (a, ea) = fits-inv (resetOf d s) (u .0) in
+    let (b, eb) = fits-inv (resetOf d t) (u .1) in
+    record { source = refl; dest = refl; size = reset-size d s a ea .0; source-size = reset-size d s a ea .1; dest-size = reset-size d t b eb .1 }
 
 -- ---- all axes
-made-meets : (d : ℕ) (s t : ℤ) (q : WindowReplayAxis) → Made d s t q → (ds : List ℕ) (ss ts : List ℤ) (l : List WindowReplayAxis) → Meets (q .extent ∷ ds) (q .«source_step» ∷ ss) (q .«dest_step» ∷ ts) l → Meets (d ∷ ds) (s ∷ ss) (t ∷ ts) l
-made-meets d s t q m ds ss ts l h =
-    subst (λ (n : ℕ). Meets (n ∷ ds) (s ∷ ss) (t ∷ ts) l) (m .extent-is)
-    (subst (λ (x : ℤ). Meets (q .extent ∷ ds) (x ∷ ss) (t ∷ ts) l) (m .source-is)
-    (subst (λ (x : ℤ). Meets (q .extent ∷ ds) (q .«source_step» ∷ ss) (x ∷ ts) l) (m .dest-is) h))
+abbrev both : WindowReplayAxis → ℕ → WindowReplayAxis
+both p d = axisOf (p .extent * d) (p .«source_step») (p .«dest_step»)
 
-follow-inv : (p : WindowReplayAxis) (c : Merged) (l : List WindowReplayAxis) → follow p c ≡ merged l → (m : List WindowReplayAxis) × (c ≡ merged m) × (p ∷ m ≡ l)
-follow-inv p refused l e = let z : _≡_ {A = ℕ} 0 1 = cc in absurd (zero-ne z)
-follow-inv p (merged m) l e = (m, refl, cc)
-
-pub meets-from : (ds : List ℕ) (ss ts : List ℤ) (p : WindowReplayAxis) → IsReset p → length ss ≡ length ds → length ts ≡ length ds → (l : List WindowReplayAxis) → fuseFrom p ds ss ts ≡ merged l
-    → Meets (p .extent ∷ ds) (p .«source_step» ∷ ss) (p .«dest_step» ∷ ts) l
-unfolding fuseFrom
-meets-from [] [] [] p r a b l e = let z : p ∷ [] ≡ l = cc in subst (λ (m : List WindowReplayAxis). Meets (p .extent ∷ []) (p .«source_step» ∷ []) (p .«dest_step» ∷ []) m) z (meets-one p r)
-meets-from [] [] (t ∷ ts) p r a b l e = absurd (omega arith)
-meets-from [] (s ∷ ss) ts p r a b l e = absurd (omega arith)
-meets-from (d ∷ ds) [] ts p r a b l e = absurd (omega arith)
-meets-from (d ∷ ds) (s ∷ ss) [] p r a b l e = absurd (omega arith)
-meets-from (d ∷ ds) (s ∷ ss) (t ∷ ts) p r a b l e = go (joinOf p d s t) refl (λ q rq m f. meets-from ds ss ts q rq (omega arith) (omega arith) m f) e
+meets-from : (ds : List ℕ) (ss ts : List ℤ) (p : WindowReplayAxis) → IsReset p → length ss ≡ length ds → length ts ≡ length ds → laterFit p (givenAxes ds ss ts) ≡ true
+    → Meets (p .extent ∷ ds) (p .«source_step» ∷ ss) (p .«dest_step» ∷ ts) (mergedFrom p (givenAxes ds ss ts))
+unfolding givenAxes mergedFrom laterFit
+meets-from [] [] [] p r a b e = meets-one p r
+meets-from [] [] (t ∷ ts) p r a b e = absurd (omega arith)
+meets-from [] (s ∷ ss) ts p r a b e = absurd (omega arith)
+meets-from (d ∷ ds) [] ts p r a b e = absurd (omega arith)
+meets-from (d ∷ ds) (s ∷ ss) [] p r a b e = absurd (omega arith)
+meets-from (d ∷ ds) (s ∷ ss) (t ∷ ts) p r a b e = go (merges p (axisOf d s t)) refl (λ q rq f. meets-from ds ss ts q rq (omega arith) (omega arith) f) e
   where
-    go : (j : JoinedAxis) → joinOf p d s t ≡ j → ((q : WindowReplayAxis) → IsReset q → (m : List WindowReplayAxis) → fuseFrom q ds ss ts ≡ merged m → Meets (q .extent ∷ ds) (q .«source_step» ∷ ss) (q .«dest_step» ∷ ts) m)
-        → mergedBy p j (λ q. fuseFrom q ds ss ts) ≡ merged l → Meets (p .extent ∷ d ∷ ds) (p .«source_step» ∷ s ∷ ss) (p .«dest_step» ∷ t ∷ ts) l
-    go (J.Merged q) h ih f =
-        let k = joined-merged q p d s t h in
-        meets-fuse (p .extent) d (p .«source_step») s (p .«dest_step») t ds ss ts l (k .0) (k .1)
-        (made-meets (p .extent * d) (p .«source_step») (p .«dest_step») q (k .2) ds ss ts l (ih q (k .2 .reset) l f))
-    go (J.Apart q) h ih f =
-        let k = joined-apart q p d s t h in
-        let v = follow-inv p (fuseFrom q ds ss ts) l f in
-        subst (λ (m : List WindowReplayAxis). Meets (p .extent ∷ d ∷ ds) (p .«source_step» ∷ s ∷ ss) (p .«dest_step» ∷ t ∷ ts) m) (v .2)
-        (meets-cons p r (d ∷ ds) (s ∷ ss) (t ∷ ts) (v .0) (made-meets d s t q k ds ss ts (v .0) (ih q (k .reset) (v .0) (v .1))))
-    go J.Overflow h ih f = let z : _≡_ {A = ℕ} 0 1 = cc in absurd (zero-ne z)
+    go : (x : Bool) → merges p (axisOf d s t) ≡ x → ((q : WindowReplayAxis) → IsReset q → laterFit q (givenAxes ds ss ts) ≡ true → Meets (q .extent ∷ ds) (q .«source_step» ∷ ss) (q .«dest_step» ∷ ts) (mergedFrom q (givenAxes ds ss ts)))
+        → pastFits p && (axisFits (cond x (both p d) (axisOf d s t)) && laterFit (cond x (both p d) (axisOf d s t)) (givenAxes ds ss ts)) ≡ true
+        → Meets (p .extent ∷ d ∷ ds) (p .«source_step» ∷ s ∷ ss) (p .«dest_step» ∷ t ∷ ts) (cond x (mergedFrom (cond x (both p d) (axisOf d s t)) (givenAxes ds ss ts)) (p ∷ mergedFrom (cond x (both p d) (axisOf d s t)) (givenAxes ds ss ts)))
+    go true h ih f =
+        let k = and-true (eqZ s (p .«source_step» *ℤ pos (p .extent))) _ h in
+        let v = and-true (axisFits (both p d)) _ (and-true (pastFits p) _ f .1) in
+        meets-fuse (p .extent) d (p .«source_step») s (p .«dest_step») t ds ss ts (mergedFrom (both p d) (givenAxes ds ss ts)) (eqZ-true s _ (k .0)) (eqZ-true t _ (k .1)) (ih (both p d) (axis-reset (p .extent * d) (p .«source_step») (p .«dest_step») (v .0)) (v .1))
+    go false h ih f =
+        let v = and-true (axisFits (axisOf d s t)) _ (and-true (pastFits p) _ f .1) in
+        meets-cons p r (d ∷ ds) (s ∷ ss) (t ∷ ts) (mergedFrom (axisOf d s t) (givenAxes ds ss ts)) (ih (axisOf d s t) (axis-reset d s t (v .0)) (v .1))
 
-meets-none : (l : List WindowReplayAxis) → merged [] ≡ merged l → Meets [] [] [] l
-unfolding AllReset
-meets-none l e =
-    let z : _≡_ {A = List WindowReplayAxis} [] l = cc in
-    subst (λ (m : List WindowReplayAxis). Meets [] [] [] m) z (record { source = side-same [] []; dest = side-same [] []; total = refl; positive = λ q. q; resets = tt; count = omega arith })
-
-pub meets-fused : (ds : List ℕ) (ss ts : List ℤ) → length ss ≡ length ds → length ts ≡ length ds → (l : List WindowReplayAxis) → fused ds ss ts ≡ merged l → Meets ds ss ts l
-unfolding fused
-meets-fused [] [] [] a b l e = meets-none l e
-meets-fused [] [] (t ∷ ts) a b l e = absurd (omega arith)
-meets-fused [] (s ∷ ss) ts a b l e = absurd (omega arith)
-meets-fused (d ∷ ds) [] ts a b l e = absurd (omega arith)
-meets-fused (d ∷ ds) (s ∷ ss) [] a b l e = absurd (omega arith)
-meets-fused (d ∷ ds) (s ∷ ss) (t ∷ ts) a b l e = go (axisOf d s t) refl e
-  where
-    go : (x : CheckedAxis) → axisOf d s t ≡ x → firstBy x (λ p. fuseFrom p ds ss ts) ≡ merged l → Meets (d ∷ ds) (s ∷ ss) (t ∷ ts) l
-    go (A.Fits p) h f =
-        let k = axis-made d s t p h in
-        made-meets d s t p k ds ss ts l (meets-from ds ss ts p (k .reset) (omega arith) (omega arith) l f)
-    go A.Overflow h f = let z : _≡_ {A = ℕ} 0 1 = cc in absurd (zero-ne z)
+pub meets-given : (ds : List ℕ) (ss ts : List ℤ) → length ss ≡ length ds → length ts ≡ length ds → axesFit (givenAxes ds ss ts) ≡ true → Meets ds ss ts (mergedAxes (givenAxes ds ss ts))
+unfolding givenAxes AllReset
+meets-given [] [] [] a b e = record { source = side-same [] []; dest = side-same [] []; total = refl; positive = λ q. q; resets = tt; count = omega arith }
+meets-given [] [] (t ∷ ts) a b e = absurd (omega arith)
+meets-given [] (s ∷ ss) ts a b e = absurd (omega arith)
+meets-given (d ∷ ds) [] ts a b e = absurd (omega arith)
+meets-given (d ∷ ds) (s ∷ ss) [] a b e = absurd (omega arith)
+meets-given (d ∷ ds) (s ∷ ss) (t ∷ ts) a b e =
+    let k = and-true (axisFits (axisOf d s t)) _ e in
+    meets-from ds ss ts (axisOf d s t) (axis-reset d s t (k .0)) (omega arith) (omega arith) (k .1)
 
 -- what compile hands back where it is done
 pub record IsDone (ds : List ℕ) (ss ts : List ℤ) : Type 0 where
@@ -323,20 +210,20 @@ pub record IsDone (ds : List ℕ) (ss ts : List ℤ) : Type 0 where
 
 pub compiled-done : (ds : List ℕ) (ss ts : List ℤ) → length ss ≡ length ds → length ts ≡ length ds → compiledReplay ds ss ts .answer ≡ N.Done → IsDone ds ss ts
 unfolding compiledReplay
-compiled-done ds ss ts p q e = go (spanned ds ss) (spanned ds ts) (fused ds ss ts) refl refl refl e
+compiled-done ds ss ts p q e = go (spanned ds ss) (spanned ds ts) (axesFit (givenAxes ds ss ts)) refl refl refl e
   where
-    go : (x y : OffsetSpan) (c : Merged) → spanned ds ss ≡ x → spanned ds ts ≡ y → fused ds ss ts ≡ c → afterSpans x y (λ spans. compiledBy c spans) .answer ≡ N.Done → IsDone ds ss ts
-    go (S.Fits a b) (S.Fits a′ b′) (merged l) ex ey ec h = record {
-      axes = l;
-      meets = meets-fused ds ss ts p q l ec;
+    go : (x y : OffsetSpan) (t : Bool) → spanned ds ss ≡ x → spanned ds ts ≡ y → axesFit (givenAxes ds ss ts) ≡ t → afterSpans x y (λ spans. whereFits t (mergedAxes (givenAxes ds ss ts)) spans) .answer ≡ N.Done → IsDone ds ss ts
+    go (S.Fits a b) (S.Fits a′ b′) true ex ey et h = record {
+      axes = mergedAxes (givenAxes ds ss ts);
+      meets = meets-given ds ss ts p q et;
       source-low = a;
       source-high = b;
       source-span = ex;
       dest-low = a′;
       dest-high = b′;
       dest-span = ey;
-      is = rw (ex, ey, ec);
+      is = (λ ι. afterSpans (ex ι) (ey ι) (λ spans. whereFits (et ι) (mergedAxes (givenAxes ds ss ts)) spans));
     }
-    go (S.Fits a b) (S.Fits a′ b′) refused ex ey ec h = let z : _≡_ {A = ℕ} 0 1 = cc in absurd (zero-ne z)
-    go (S.Fits a b) S.Overflow c ex ey ec h = let z : _≡_ {A = ℕ} 0 1 = cc in absurd (zero-ne z)
-    go S.Overflow y c ex ey ec h = let z : _≡_ {A = ℕ} 0 1 = cc in absurd (zero-ne z)
+    go (S.Fits a b) (S.Fits a′ b′) false ex ey et h = let z : _≡_ {A = ℕ} 0 1 = cc in absurd (omega arith)
+    go (S.Fits a b) S.Overflow t ex ey et h = let z : _≡_ {A = ℕ} 0 1 = cc in absurd (omega arith)
+    go S.Overflow y t ex ey et h = let z : _≡_ {A = ℕ} 0 1 = cc in absurd (omega arith)

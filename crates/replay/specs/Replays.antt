@@ -1,105 +1,76 @@
--- The walk of a window over two sides, source and destination (000, `WindowReplay`): document 01's refusals of a walk, and the merged axes. Definitions only.
-use mathlib.Core.Bool.{cond, _&&_}
+-- The walk of a window over two sides, source and destination (000, `WindowReplay`): document 01's sentence on walks, over exact integers. Definitions only.
+use mathlib.Core.Bool.{Bool, true, false, cond, _&&_}
 use mathlib.Core.List.{List, [], _∷_, map}
-use Prim.Native.Nat.{ℕ, _*_}
-use lib.ListN.{length, replicate}
-use lib.IntN.{ℤ, pos, _*ℤ_}
-use Rattle.integer.specs.Defs.{checked, checkedU, eqZ}
+use Prim.Native.Nat.{ℕ, _*_, _-_, _^_}
+use lib.Dec.{ltb}
+use lib.ListN.{length, getD, replicate}
+use lib.IntN.{ℤ, pos, negℤ, _*ℤ_}
+use Rattle.integer.specs.Defs.{checked, eqZ}
 use Rattle.integer.specs.declared.Checked.{Checked}
 use Rattle.integer.specs.declared.Checked.the-variants as C
-use Rattle.integer.specs.declared.CheckedU.{CheckedU}
-use Rattle.integer.specs.declared.CheckedU.the-variants as U
+use Rattle.indexing.specs.Coordinates.{tabulate}
 use Rattle.layout.specs.declared.Answer.the-variants as N
 use Rattle.layout.specs.declared.OffsetSpan.{OffsetSpan}
 use Rattle.layout.specs.declared.OffsetSpan.the-variants as S
 use Rattle.layout.specs.Layouts.{rankLimit, padded}
-use Rattle.layout.specs.Spans.{andThen, spanned, resetOf}
+use Rattle.layout.specs.Spans.{spanned, resetOf}
 use Rattle.replay.specs.declared.WindowReplayAxis.{WindowReplayAxis}
-use Rattle.replay.specs.declared.CheckedAxis.{CheckedAxis}
-use Rattle.replay.specs.declared.CheckedAxis.the-variants as A
-use Rattle.replay.specs.declared.JoinedAxis.{JoinedAxis}
-use Rattle.replay.specs.declared.JoinedAxis.the-variants as J
 use Rattle.replay.specs.declared.ReplaySpans.{ReplaySpans}
 use Rattle.replay.specs.declared.CompiledReplay.{CompiledReplay}
 
--- go on with a number that fits
-abbrev pub axisAfter : Checked → (ℤ → CheckedAxis) → CheckedAxis
-axisAfter (C.Fits z) f = f z
-axisAfter C.Overflow f = A.Overflow
-
-abbrev pub joinAfter : Checked → (ℤ → JoinedAxis) → JoinedAxis
-joinAfter (C.Fits z) f = f z
-joinAfter C.Overflow f = J.Overflow
-
-abbrev pub joinAfterU : CheckedU → (ℕ → JoinedAxis) → JoinedAxis
-joinAfterU (U.Fits n) f = f n
-joinAfterU U.Overflow f = J.Overflow
-
-abbrev pub asMerged : CheckedAxis → JoinedAxis
-asMerged (A.Fits a) = J.Merged a
-asMerged A.Overflow = J.Overflow
-
-abbrev pub asApart : CheckedAxis → JoinedAxis
-asApart (A.Fits a) = J.Apart a
-asApart A.Overflow = J.Overflow
-
--- ---- an axis: extent, source step and reset, destination step and reset
+-- ---- the axes: extent, source step and reset, destination step and reset
 abbrev pub theAxis : ℕ → ℤ → ℤ → ℤ → ℤ → WindowReplayAxis
 theAxis d s sr t tr = record { extent = d; «source_step» = s; «source_reset» = sr; «dest_step» = t; «dest_reset» = tr }
 
--- "resets": both sides' must fit
-unfoldable pub axisOf : ℕ → ℤ → ℤ → CheckedAxis
-axisOf d s t = axisAfter (resetOf d s) (λ sr. axisAfter (resetOf d t) (λ tr. A.Fits (theAxis d s sr t tr)))
+-- an axis of extent d with steps s and t; a reset goes back over extent − 1 steps
+abbrev pub axisOf : ℕ → ℤ → ℤ → WindowReplayAxis
+axisOf d s t = theAxis d s (negℤ (s *ℤ pos (d - 1))) t (negℤ (t *ℤ pos (d - 1)))
 
--- ---- an axis after another
+-- the axes as they are given
+unfoldable pub givenAxes : List ℕ → List ℤ → List ℤ → List WindowReplayAxis
+givenAxes [] ss ts = []
+givenAxes (d ∷ ds) [] ts = []
+givenAxes (d ∷ ds) (s ∷ ss) [] = []
+givenAxes (d ∷ ds) (s ∷ ss) (t ∷ ts) = axisOf d s t ∷ givenAxes ds ss ts
 
--- "the preceding merged axis's extent, and .. its steps times that extent, must fit i64"
-unfoldable pub past : ℕ → ℤ → Checked
-past e s = andThen (checked (pos e)) (λ m. checked (s *ℤ m))
+-- axis a merges into the merged axis p before it where on both sides its step is p's step times p's extent
+abbrev pub merges : WindowReplayAxis → WindowReplayAxis → Bool
+merges p a = eqZ (a .«source_step») (p .«source_step» *ℤ pos (p .extent)) && eqZ (a .«dest_step») (p .«dest_step» *ℤ pos (p .extent))
 
--- "whether or not the two merge": they merge where both sides' steps go on from the preceding axis; "merged extents must fit u64"
-unfoldable pub joinOf : WindowReplayAxis → ℕ → ℤ → ℤ → JoinedAxis
-joinOf p d s t =
-    joinAfter (past (p .extent) (p .«source_step»)) (λ a.
-    joinAfter (past (p .extent) (p .«dest_step»)) (λ b.
-    cond (eqZ s a && eqZ t b)
-    (joinAfterU (checkedU (p .extent * d)) (λ n. asMerged (axisOf n (p .«source_step») (p .«dest_step»))))
-    (asApart (axisOf d s t))))
+-- the merged axis at a: the two as one, with p's steps, or a itself
+abbrev pub joined : WindowReplayAxis → WindowReplayAxis → WindowReplayAxis
+joined p a = cond (merges p a) (axisOf (p .extent * a .extent) (p .«source_step») (p .«dest_step»)) a
 
--- ---- all axes, or refusal 3
-pub data Merged : Type 0 where
-  refused : Merged
-  merged : List WindowReplayAxis → Merged
+-- the merged axes from p on: p is one of them where the next axis does not merge into it
+unfoldable pub mergedFrom : WindowReplayAxis → List WindowReplayAxis → List WindowReplayAxis
+mergedFrom p [] = p ∷ []
+mergedFrom p (a ∷ l) = cond (merges p a) (mergedFrom (joined p a) l) (p ∷ mergedFrom (joined p a) l)
 
--- p before the axes that follow it
-abbrev pub follow : WindowReplayAxis → Merged → Merged
-follow p refused = refused
-follow p (merged l) = merged (p ∷ l)
+abbrev pub mergedAxes : List WindowReplayAxis → List WindowReplayAxis
+mergedAxes [] = []
+mergedAxes (a ∷ l) = mergedFrom a l
 
--- the axes from p on, where the next axis is merged into it or stands apart
-abbrev pub mergedBy : WindowReplayAxis → JoinedAxis → (WindowReplayAxis → Merged) → Merged
-mergedBy p (J.Merged q) f = f q
-mergedBy p (J.Apart q) f = follow p (f q)
-mergedBy p J.Overflow f = refused
+-- ---- what must fit
+abbrev pub isFits : Checked → Bool
+isFits (C.Fits z) = true
+isFits C.Overflow = false
 
--- the axes from the first on
-abbrev pub firstBy : CheckedAxis → (WindowReplayAxis → Merged) → Merged
-firstBy (A.Fits p) f = f p
-firstBy A.Overflow f = refused
+-- "merged extents must fit u64 .., resets .. i64"
+abbrev pub axisFits : WindowReplayAxis → Bool
+axisFits a = ltb (a .extent) (2 ^ 64) && (isFits (resetOf (a .extent) (a .«source_step»)) && isFits (resetOf (a .extent) (a .«dest_step»)))
 
--- "for each later axis": those that follow the merged axis p
-unfoldable pub fuseFrom : WindowReplayAxis → List ℕ → List ℤ → List ℤ → Merged
-fuseFrom p [] ss ts = merged (p ∷ [])
-fuseFrom p (d ∷ ds) [] ts = merged (p ∷ [])
-fuseFrom p (d ∷ ds) (s ∷ ss) [] = merged (p ∷ [])
-fuseFrom p (d ∷ ds) (s ∷ ss) (t ∷ ts) = mergedBy p (joinOf p d s t) (λ q. fuseFrom q ds ss ts)
+-- "the preceding merged axis's extent, and both its steps times that extent, must fit i64"
+abbrev pub pastFits : WindowReplayAxis → Bool
+pastFits p = isFits (checked (pos (p .extent))) && (isFits (checked (p .«source_step» *ℤ pos (p .extent))) && isFits (checked (p .«dest_step» *ℤ pos (p .extent))))
 
--- the axes from the front
-unfoldable pub fused : List ℕ → List ℤ → List ℤ → Merged
-fused [] ss ts = merged []
-fused (d ∷ ds) [] ts = merged []
-fused (d ∷ ds) (s ∷ ss) [] = merged []
-fused (d ∷ ds) (s ∷ ss) (t ∷ ts) = firstBy (axisOf d s t) (λ p. fuseFrom p ds ss ts)
+-- "for each later axis .., whether or not the two merge": p is the preceding merged axis
+unfoldable pub laterFit : WindowReplayAxis → List WindowReplayAxis → Bool
+laterFit p [] = true
+laterFit p (a ∷ l) = pastFits p && (axisFits (joined p a) && laterFit (joined p a) l)
+
+abbrev pub axesFit : List WindowReplayAxis → Bool
+axesFit [] = true
+axesFit (a ∷ l) = axisFits a && laterFit a l
 
 -- ---- as it is held: past the rank stand axes of extent 1 with steps and resets of 0
 abbrev pub noAxis : WindowReplayAxis
@@ -108,17 +79,23 @@ noAxis = theAxis 1 (pos 0) (pos 0) (pos 0) (pos 0)
 abbrev pub theSpans : ℤ → ℤ → ℤ → ℤ → ReplaySpans
 theSpans a b c d = record { «source_low» = a; «source_high» = b; «dest_low» = c; «dest_high» = d }
 
+abbrev pub extents : List WindowReplayAxis → List ℕ
+extents = map (λ (a : WindowReplayAxis). a .extent)
+
+-- the walk keeps rank, extents and spans; its axes stand beside it
 abbrev pub doneReplay : ℕ → List WindowReplayAxis → ReplaySpans → CompiledReplay
-doneReplay n axes spans = record { answer = N.Done; replay = record { rank = n; axes = axes; spans = spans } }
+doneReplay n axes spans = record { answer = N.Done; replay = record { rank = n; extents = extents axes; spans = spans }; axes = axes }
 
 -- where it is refused, by 3, the walk of no axes stands in its place
 abbrev pub refusedReplay : CompiledReplay
-refusedReplay = record { answer = N.OffsetOverflow; replay = record { rank = 0; axes = replicate rankLimit noAxis; spans = theSpans (pos 0) (pos 0) (pos 0) (pos 0) } }
+refusedReplay = record { answer = N.OffsetOverflow; replay = record { rank = 0; extents = replicate rankLimit 1; spans = theSpans (pos 0) (pos 0) (pos 0) (pos 0) }; axes = replicate rankLimit noAxis }
 
--- the merged axes, or the refusal, with these spans
-abbrev pub compiledBy : Merged → ReplaySpans → CompiledReplay
-compiledBy refused spans = refusedReplay
-compiledBy (merged l) spans = doneReplay (length l) (padded rankLimit noAxis l) spans
+-- the merged axes l with these spans where all fits, or the refusal; so of the axes of a window
+abbrev pub whereFits : Bool → List WindowReplayAxis → ReplaySpans → CompiledReplay
+whereFits t l spans = cond t (doneReplay (length l) (padded rankLimit noAxis l) spans) refusedReplay
+
+abbrev pub walkOf : List WindowReplayAxis → ReplaySpans → CompiledReplay
+walkOf l spans = whereFits (axesFit l) (mergedAxes l) spans
 
 -- "spans of both sides"
 abbrev pub afterSpans : OffsetSpan → OffsetSpan → (ReplaySpans → CompiledReplay) → CompiledReplay
@@ -126,14 +103,11 @@ afterSpans (S.Fits a b) (S.Fits c d) f = f (theSpans a b c d)
 afterSpans (S.Fits a b) S.Overflow f = refusedReplay
 afterSpans S.Overflow y f = refusedReplay
 
--- the merged walk with both spans, or refusal 3
+-- THE WALK: its merged axes with both spans, or refusal 3
 unfoldable pub compiledReplay : List ℕ → List ℤ → List ℤ → CompiledReplay
-compiledReplay ds ss ts = afterSpans (spanned ds ss) (spanned ds ts) (λ spans. compiledBy (fused ds ss ts) spans)
+compiledReplay ds ss ts = afterSpans (spanned ds ss) (spanned ds ts) (λ spans. walkOf (givenAxes ds ss ts) spans)
 
--- ---- what the walk is given: the merged shape, each side's steps, and the rows, "one per axis, four numbers in a row"
-abbrev pub extents : List WindowReplayAxis → List ℕ
-extents = map (λ (a : WindowReplayAxis). a .extent)
-
+-- ---- each side's steps, and the rows, "one per axis, four numbers in a row"
 abbrev pub sources : List WindowReplayAxis → List ℤ
 sources = map (λ (a : WindowReplayAxis). a .«source_step»)
 
@@ -145,3 +119,8 @@ rowOf a = a .«source_step» ∷ a .«source_reset» ∷ a .«dest_step» ∷ a 
 
 abbrev pub rowsOf : List WindowReplayAxis → List (List ℤ)
 rowsOf = map rowOf
+
+-- the axes of these extents and rows
+abbrev pub axesFrom : List ℕ → List (List ℤ) → List WindowReplayAxis
+axesFrom es rows =
+    tabulate rankLimit (λ i. theAxis (getD es i 0) (getD (getD rows i []) 0 (pos 0)) (getD (getD rows i []) 1 (pos 0)) (getD (getD rows i []) 2 (pos 0)) (getD (getD rows i []) 3 (pos 0)))

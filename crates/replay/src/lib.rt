@@ -3,8 +3,9 @@
 ghost use mathlib.Core.Path.{_≡_};
 ghost use lib.ListN.{take, drop};
 ghost use Prim.Native.Nat.{_*_};
-ghost use Rattle.integer.specs.Defs.{checkedU, eqZ};
-ghost use Rattle.replay.specs.Replays.{noAxis, axisOf, joinAfterU, asMerged, asApart, past, joinOf, fuseFrom, fused, doneReplay, refusedReplay, compiledBy, compiledReplay, extents, rowsOf};
+ghost use Rattle.integer.specs.Defs.{eqZ};
+ghost use Rattle.replay.specs.Replays.{noAxis, axisOf, givenAxes, walkOf, doneReplay, refusedReplay, compiledReplay, extents, rowsOf, axesFrom};
+ghost use Rattle.replay.specs.Parts.{past, checkedAxis, asMerged, asApart, joinedAxis, walkFrom};
 use integer::Checked;
 use integer::CheckedU;
 use layout::Answer;
@@ -29,17 +30,19 @@ pub struct ReplaySpans {
     pub dest_high: i64,
 }
 
-// The merged axes. Past the rank stand axes of extent 1 with steps and resets of 0.
+// The extents of the merged axes, 1 past the rank. The steps and resets are rows, held beside it.
 pub struct WindowReplay {
     pub rank: usize,
-    pub axes: [WindowReplayAxis; RAW_FUSED_RANK_LIMIT],
+    pub extents: [u64; RAW_FUSED_RANK_LIMIT],
     pub spans: ReplaySpans,
 }
 
-// A walk; where it is refused, the one of no axes with spans of 0.
+// A walk with its merged axes, of which the rows are made; past the rank stand axes of extent 1 with steps and resets of 0. Where it is
+// refused, the walk of no axes with spans of 0.
 pub struct CompiledReplay {
     pub answer: Answer,
     pub replay: WindowReplay,
+    pub axes: [WindowReplayAxis; RAW_FUSED_RANK_LIMIT],
 }
 
 // An axis with its resets, or that one of them does not fit.
@@ -74,7 +77,7 @@ fn no_axis() -> WindowReplayAxis
 }
 
 fn make_axis(extent: u64, source: i64, dest: i64) -> CheckedAxis
-    ensures { λ r. ⌜ r ≡ axisOf extent source dest ⌝ }
+    ensures { λ r. ⌜ r ≡ checkedAxis (axisOf extent source dest) ⌝ }
 {
     let source_reset = layout::checked_replay_reset(extent, source);
     let dest_reset = layout::checked_replay_reset(extent, dest);
@@ -121,7 +124,7 @@ fn past_last(extent: u64, step: i64) -> Checked
 
 // Two axes as one, with the steps of the first.
 fn merge(before: u64, extent: u64, source: i64, dest: i64) -> JoinedAxis
-    ensures { λ r. ⌜ r ≡ joinAfterU (checkedU (before * extent)) (λ n. asMerged (axisOf n source dest)) ⌝ }
+    ensures { λ r. ⌜ r ≡ asMerged (checkedAxis (axisOf (before * extent) source dest)) ⌝ }
 {
     let size = integer::checked_mul_u64(before, extent);
     match size {
@@ -134,7 +137,7 @@ fn merge(before: u64, extent: u64, source: i64, dest: i64) -> JoinedAxis
 }
 
 fn apart(extent: u64, source: i64, dest: i64) -> JoinedAxis
-    ensures { λ r. ⌜ r ≡ asApart (axisOf extent source dest) ⌝ }
+    ensures { λ r. ⌜ r ≡ asApart (checkedAxis (axisOf extent source dest)) ⌝ }
 {
     let a = make_axis(extent, source, dest);
     as_apart(a)
@@ -142,7 +145,7 @@ fn apart(extent: u64, source: i64, dest: i64) -> JoinedAxis
 
 // The axis of this extent and these steps after the merged axis `before`.
 fn join(before: WindowReplayAxis, extent: u64, source: i64, dest: i64) -> JoinedAxis
-    ensures { λ r. ⌜ r ≡ joinOf before extent source dest ⌝ }
+    ensures { λ r. ⌜ r ≡ joinedAxis before (axisOf extent source dest) ⌝ }
 {
     let size = before.extent;
     let source_step = before.source_step;
@@ -171,11 +174,12 @@ pub fn refused_replay() -> CompiledReplay
 {
     let empty = no_axis();
     let axes = [empty; RAW_FUSED_RANK_LIMIT];
+    let extents = [1u64; RAW_FUSED_RANK_LIMIT];
     CompiledReplay {
         answer: Answer::OffsetOverflow,
         replay: WindowReplay {
             rank: 0,
-            axes,
+            extents,
             spans: ReplaySpans {
                 source_low: 0,
                 source_high: 0,
@@ -183,7 +187,22 @@ pub fn refused_replay() -> CompiledReplay
                 dest_high: 0,
             },
         },
+        axes,
     }
+}
+
+// The merged shape.
+fn shape_of(axes: [WindowReplayAxis; RAW_FUSED_RANK_LIMIT]) -> [u64; RAW_FUSED_RANK_LIMIT]
+    ensures { λ r. ⌜ r ≡ extents axes ⌝ }
+{
+    let mut out = [0u64; RAW_FUSED_RANK_LIMIT];
+    let mut i: usize = 0;
+    while i < RAW_FUSED_RANK_LIMIT {
+        let a = axes[i];
+        out[i] = a.extent;
+        i += 1;
+    }
+    out
 }
 
 fn done_replay(
@@ -193,9 +212,15 @@ fn done_replay(
 ) -> CompiledReplay
     ensures { λ r. ⌜ r ≡ doneReplay rank axes spans ⌝ }
 {
+    let extents = shape_of(axes);
     CompiledReplay {
         answer: Answer::Done,
-        replay: WindowReplay { rank, axes, spans },
+        replay: WindowReplay {
+            rank,
+            extents,
+            spans,
+        },
+        axes,
     }
 }
 
@@ -208,7 +233,7 @@ fn fuse_rest(
     rank: usize,
     spans: ReplaySpans,
 ) -> CompiledReplay
-    ensures { λ r. ⌜ r ≡ compiledBy (fuseFrom first (drop 1 (take rank shape)) (drop 1 (take rank «source_strides»)) (drop 1 (take rank «dest_strides»))) spans ⌝ }
+    ensures { λ r. ⌜ r ≡ walkFrom first (givenAxes (drop 1 (take rank shape)) (drop 1 (take rank «source_strides»)) (drop 1 (take rank «dest_strides»))) spans ⌝ }
 {
     let count = layout::axis_count(rank);
     let empty = no_axis();
@@ -247,7 +272,7 @@ fn fuse(
     rank: usize,
     spans: ReplaySpans,
 ) -> CompiledReplay
-    ensures { λ r. ⌜ r ≡ compiledBy (fused (take rank shape) (take rank «source_strides») (take rank «dest_strides»)) spans ⌝ }
+    ensures { λ r. ⌜ r ≡ walkOf (givenAxes (take rank shape) (take rank «source_strides») (take rank «dest_strides»)) spans ⌝ }
 {
     if rank == 0 {
         let empty = no_axis();
@@ -296,20 +321,6 @@ pub fn compile_window_replay(
     }
 }
 
-// The merged shape.
-pub fn shape_of(axes: [WindowReplayAxis; RAW_FUSED_RANK_LIMIT]) -> [u64; RAW_FUSED_RANK_LIMIT]
-    ensures { λ r. ⌜ r ≡ extents axes ⌝ }
-{
-    let mut out = [0u64; RAW_FUSED_RANK_LIMIT];
-    let mut i: usize = 0;
-    while i < RAW_FUSED_RANK_LIMIT {
-        let a = axes[i];
-        out[i] = a.extent;
-        i += 1;
-    }
-    out
-}
-
 // The rows, one per axis, four numbers in a row: source step, source reset, destination step, destination reset.
 pub fn rows_of(axes: [WindowReplayAxis; RAW_FUSED_RANK_LIMIT]) -> [[i64; 4]; RAW_FUSED_RANK_LIMIT]
     ensures { λ r. ⌜ r ≡ rowsOf axes ⌝ }
@@ -321,6 +332,36 @@ pub fn rows_of(axes: [WindowReplayAxis; RAW_FUSED_RANK_LIMIT]) -> [[i64; 4]; RAW
         let a = axes[i];
         let row = [a.source_step, a.source_reset, a.dest_step, a.dest_reset];
         out[i] = row;
+        i += 1;
+    }
+    out
+}
+
+// The axes of these extents and rows.
+pub fn axes_from(
+    extents: [u64; RAW_FUSED_RANK_LIMIT],
+    rows: [[i64; 4]; RAW_FUSED_RANK_LIMIT],
+) -> [WindowReplayAxis; RAW_FUSED_RANK_LIMIT]
+    ensures { λ r. ⌜ r ≡ axesFrom extents rows ⌝ }
+{
+    let empty = no_axis();
+    let mut out = [empty; RAW_FUSED_RANK_LIMIT];
+    let mut i: usize = 0;
+    while i < RAW_FUSED_RANK_LIMIT {
+        let row = rows[i];
+        let extent = extents[i];
+        let source_step = row[0];
+        let source_reset = row[1];
+        let dest_step = row[2];
+        let dest_reset = row[3];
+        let axis = WindowReplayAxis {
+            extent,
+            source_step,
+            source_reset,
+            dest_step,
+            dest_reset,
+        };
+        out[i] = axis;
         i += 1;
     }
     out

@@ -7,6 +7,7 @@ use native.Mathlib.Omega.{arith}
 use lib.ListN.{length, replicate}
 use lib.IntN.{ℤ, pos}
 use Rattle.indexing.specs.Coordinates.{rank, tabulate}
+use Rattle.indexing.specs.Start.{without}
 use Rattle.indexing.specs.Scatter.{Scatter, scatterDims, windowDims, batchShape, windowShape, windows}
 use Rattle.indexing.specs.Axes.{length-spread}
 use Rattle.indexing.specs.Steps.{updateBatchSteps, updateWindowSteps, landSteps}
@@ -15,13 +16,17 @@ use Rattle.layout.specs.declared.Answer.the-variants as A
 use Rattle.layout.specs.declared.Reach.{Reach}
 use Rattle.layout.specs.declared.View.{View}
 use Rattle.layout.specs.Answers.{isDone, orElse}
-use Rattle.layout.specs.Layouts.{rankLimit, extentsOf}
+use Rattle.layout.specs.Layouts.{rankLimit, padded, extentsOf}
 use Rattle.layout.specs.Reach.{bufferBounds}
 use Rattle.axis_lists.specs.Held.{numbersOf}
 use Rattle.axis_lists.proofs.Filling.{read-back}
-use Rattle.replay.specs.Replays.{extents, rowsOf}
+use Rattle.replay.specs.declared.CompiledReplay.{CompiledReplay}
+use Rattle.replay.specs.Replays.{noAxis, rowsOf, axesFrom}
+use Rattle.replay.specs.Merging.{IsDone, compiled-done}
+use Rattle.replay.proofs.Rows.{axes-back}
 use Rattle.replay.specs.declared.WindowReplay.{WindowReplay}
 use Rattle.checks.proofs.Made.{or-done}
+use Rattle.checks.proofs.Held.{length-padded}
 use Rattle.components.specs.Components.{limitAt, unlessNone}
 use Rattle.equality.proofs.Compare.{and-true}
 use Rattle.calls.specs.Calls.{sameView, sameViews, planRefusal, reachIn, boundsRefusal}
@@ -36,6 +41,7 @@ use Rattle.scatter_same.proofs.Compiled.{compiled-is}
 use Rattle.scatter_move.specs.Prepared.{stepsAt, batchRows, windowRows, scatterNumbers, startBase, Ready}
 use Rattle.scatter_move.specs.declared.ScatterNumbers.{ScatterNumbers}
 use Rattle.scatter_move.specs.declared.PreparedScatter.{PreparedScatter}
+use Rattle.scatter_move.proofs.Numbers.{dest-many}
 use Rattle.scatter.specs.Calls.{scatterOf, planFits, callAnswer}
 
 -- ---- a compiled plan's numbers are those of its scatter
@@ -52,17 +58,29 @@ module _ (p : ScatterPlan) (b w : List (List ℤ)) (ok : isCompiled p b w ≡ tr
   fits : Accepted s
   fits = accepted s A.Done done
 
-  pub batch-is : p .batch ≡ batchWalk s .replay
+  batch-is : p .batch ≡ batchWalk s .replay
   batch-is = ap (λ (q : ScatterPlan). q .batch) is
 
   window-is : p .window ≡ windowWalk s .replay
   window-is = ap (λ (q : ScatterPlan). q .window) is
 
   batch-rows : b ≡ batchRows s
-  batch-rows = compiled-is p b w ok .2 ∙ ap (λ (r : WindowReplay). rowsOf (r .axes)) batch-is
+  batch-rows = compiled-is p b w ok .2
 
   window-rows : w ≡ windowRows s
-  window-rows = compiled-is p b w ok .3 ∙ ap (λ (r : WindowReplay). rowsOf (r .axes)) window-is
+  window-rows = compiled-is p b w ok .3
+
+  -- the axes that the rows give
+  pub batch-axes : axesFrom (p .batch .extents) b ≡ batchWalk s .axes
+  unfolding batchWalk
+  batch-axes =
+      ap₂ (λ (r : WindowReplay) (l : List (List ℤ)). axesFrom (r .extents) l) batch-is batch-rows
+      ∙ ap (λ (c : CompiledReplay). axesFrom (c .replay .extents) (rowsOf (c .axes))) (walk .is)
+      ∙ axes-back (padded rankLimit noAxis (walk .axes)) (length-padded rankLimit noAxis (walk .axes))
+      ∙ sym (ap (λ (c : CompiledReplay). c .axes) (walk .is))
+    where
+      walk : IsDone (batchShape s) (without (s .spec .index-vector-dim) (s .indices .strides)) (updateBatchSteps s)
+      walk = unfold batchWalk in compiled-done (batchShape s) (without (s .spec .index-vector-dim) (s .indices .strides)) (updateBatchSteps s) (fits .counts .batch) (dest-many s done) (fits .batch-done)
 
   windows-are : numbersOf (p .«window_shape») ≡ windows s
   windows-are =
@@ -72,19 +90,19 @@ module _ (p : ScatterPlan) (b w : List (List ℤ)) (ok : isCompiled p b w ≡ tr
       length-windows : length (windows s) ≡ rank (s .result)
       length-windows = unfold windows in length-spread 1 (rank (s .result)) (windowDims s) (windowShape s)
 
-  pub numbers-are : (be we : List ℕ) (is0 st us ws ds : List ℤ) (limits : List ℕ)
-      → be ≡ extents (p .batch .axes) → we ≡ extents (p .window .axes) → is0 ≡ stepsAt 0 b → st ≡ unlessNone (p .«scatter_dims_to_operand_dims» .count) (replicate rankLimit (pos 0)) is0
+  pub numbers-are : (is0 st us ws ds : List ℤ) (limits : List ℕ)
+      → is0 ≡ stepsAt 0 b → st ≡ unlessNone (p .«scatter_dims_to_operand_dims» .count) (replicate rankLimit (pos 0)) is0
       → us ≡ stepsAt 2 b → ws ≡ stepsAt 0 w → ds ≡ stepsAt 2 w
       → limits ≡ tabulate rankLimit (limitAt (extentsOf (p .dest)) (numbersOf (p .«window_shape»)) (numbersOf (p .«scatter_dims_to_operand_dims»)))
       → _≡_ {A = ScatterNumbers}
       (record {
         «batch_rank» = p .batch .rank;
         batches = p .«batch_elems»;
-        «batch_extents» = be;
+        «batch_extents» = p .batch .extents;
         «index_steps» = st;
         «update_steps» = us;
         «window_rank» = p .window .rank;
-        «window_extents» = we;
+        «window_extents» = p .window .extents;
         «window_steps» = ws;
         «dest_steps» = ds;
         count = p .«scatter_dims_to_operand_dims» .count;
@@ -94,16 +112,16 @@ module _ (p : ScatterPlan) (b w : List (List ℤ)) (ok : isCompiled p b w ≡ tr
       })
       (scatterNumbers s)
   unfolding scatterNumbers
-  numbers-are be we is0 st us ws ds limits ebe ewe eis est eus ews eds el =
+  numbers-are is0 st us ws ds limits eis est eus ews eds el =
       let n = ap (λ (q : ScatterPlan). q .«scatter_dims_to_operand_dims» .count) is in
       λ i. record {
         «batch_rank» = batch-is i .rank;
         batches = is i .«batch_elems»;
-        «batch_extents» = (ebe ∙ ap (λ (r : WindowReplay). extents (r .axes)) batch-is) i;
+        «batch_extents» = batch-is i .extents;
         «index_steps» = (est ∙ ap₂ (λ (m : ℕ) (l : List ℤ). unlessNone m (replicate rankLimit (pos 0)) l) n (eis ∙ ap (stepsAt 0) batch-rows)) i;
         «update_steps» = (eus ∙ ap (stepsAt 2) batch-rows) i;
         «window_rank» = window-is i .rank;
-        «window_extents» = (ewe ∙ ap (λ (r : WindowReplay). extents (r .axes)) window-is) i;
+        «window_extents» = window-is i .extents;
         «window_steps» = (ews ∙ ap (stepsAt 0) window-rows) i;
         «dest_steps» = (eds ∙ ap (stepsAt 2) window-rows) i;
         count = n i;
@@ -172,18 +190,18 @@ module _ (p : ScatterPlan) (b w : List (List ℤ)) (i u d : View) (sn un dn : �
   unfolding scatterNumbers batchWalk windowWalk batchShape windowShape windows scatterDims windowDims updateBatchSteps updateWindowSteps landSteps
   at-numbers = refl
 
-  at-batch : batchWalk held .replay ≡ batchWalk at .replay
+  at-batch : batchWalk held .axes ≡ batchWalk at .axes
   unfolding batchWalk batchShape scatterDims updateBatchSteps
   at-batch = refl
 
-  pub ready : (r : PreparedScatter) → r .reach ≡ reachIn (h .result) dn → r .numbers ≡ scatterNumbers held → r .batch ≡ p .batch → r .index ≡ startBase h → r .updates ≡ u .offset → r .dest ≡ d .offset → Ready r h sn un dn
+  pub ready : (r : PreparedScatter) → r .reach ≡ reachIn (h .result) dn → r .numbers ≡ scatterNumbers held → r .«batch_axes» ≡ axesFrom (p .batch .extents) b → r .index ≡ startBase h → r .updates ≡ u .offset → r .dest ≡ d .offset → Ready r h sn un dn
   ready r er en eb ei eu ed =
       record {
         accepted = subst (λ (x : Scatter). isDone (refusalOf A.Done x) ≡ true) (sym scatter-is) at-done;
         bounds = tests .1;
         reach = er;
         numbers = en ∙ at-numbers ∙ ap scatterNumbers (sym scatter-is);
-        batch = eb ∙ batch-is p b w compiled ∙ at-batch ∙ ap (λ (x : Scatter). batchWalk x .replay) (sym scatter-is);
+        batch-axes = eb ∙ batch-axes p b w compiled ∙ at-batch ∙ ap (λ (x : Scatter). batchWalk x .axes) (sym scatter-is);
         index = ei;
         updates = eu;
         dest = ed;

@@ -35,10 +35,8 @@ fn numbers_of(
     let windows = plan.window_shape;
     let index_component_offsets = plan.index_component_offsets;
     let index_operand_strides = plan.index_operand_strides;
-    let batch_axes = batch.axes;
-    let window_axes = window.axes;
-    let batch_extents = replay::shape_of(batch_axes);
-    let window_extents = replay::shape_of(window_axes);
+    let batch_extents = batch.extents;
+    let window_extents = window.extents;
     let index = scatter_move::source_steps(batch_rows);
     let stepped = components::unless_none(map.count, index);
     let update_steps = scatter_move::dest_steps(batch_rows);
@@ -119,11 +117,13 @@ fn prepare(
     let numbers = numbers_of(plan, batch_rows, window_rows);
     let base = components::start_base(numbers.count, index.offset);
     let batch = plan.batch;
+    let extents = batch.extents;
+    let batch_axes = replay::axes_from(extents, batch_rows);
     PreparedScatter {
         answer,
         reach: z,
         numbers,
-        batch,
+        batch_axes,
         index: base,
         updates: updates.offset,
         dest: dest.offset,

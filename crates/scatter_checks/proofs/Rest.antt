@@ -79,10 +79,10 @@ module _ (s : Scatter) (keep batch start : List ℕ) (l : Listed s keep batch st
 pub walks-are : (s : Scatter) (w p q o x y z v r : Answer) (c d : CompiledReplay)
     → w ≡ windowsFit 0 (s .result .extents) (windows s) → p ≡ totalFits (totalOf (batchShape s)) → q ≡ totalFits (totalOf (windowShape s)) → c ≡ batchWalk s → d ≡ windowWalk s
     → o ≡ firstOf (offsetFits (vectorStride (s .indices) (s .spec .index-vector-dim))) (length (s .spec .scatter-dims-to-operand-dims)) 0
-    → x ≡ orElse (d .answer) o → y ≡ orElse (c .answer) x → z ≡ orElse q y → v ≡ orElse p z → r ≡ orElse w v → record { answer = r; batch = c .replay; window = d .replay } ≡ walksOf s
+    → x ≡ orElse (d .answer) o → y ≡ orElse (c .answer) x → z ≡ orElse q y → v ≡ orElse p z → r ≡ orElse w v → record { answer = r; batch = c; window = d } ≡ walksOf s
 unfolding walksOf
 walks-are s w p q o x y z v r c d ew ep eq ec ed eo ex ey ez ev er =
     let a : r ≡ walksRefusal s =
     er ∙ ap₂ orElse ew (ev ∙ ap₂ orElse ep (ez ∙ ap₂ orElse eq
     (ey ∙ ap₂ orElse (ap (λ (m : CompiledReplay). m .answer) ec) (ex ∙ ap₂ orElse (ap (λ (m : CompiledReplay). m .answer) ed) eo)))) in
-    λ i. record { answer = a i; batch = ec i .replay; window = ed i .replay }
+    λ i. record { answer = a i; batch = ec i; window = ed i }

@@ -11,7 +11,7 @@ use Rattle.layout.specs.declared.Answer.{Answer}
 use Rattle.layout.specs.declared.Answer.the-variants as A
 use Rattle.layout.specs.Answers.{isDone}
 use Rattle.layout.specs.Layouts.{rankLimit}
-use Rattle.replay.specs.declared.WindowReplay.{WindowReplay}
+use Rattle.replay.specs.declared.CompiledReplay.{CompiledReplay}
 use Rattle.scatter_checks.specs.declared.Examined.{Examined}
 use Rattle.scatter_checks.specs.Refusals.{sizesRefusal, batchWalk, windowWalk, walksRefusal, refusalOf}
 
@@ -43,13 +43,13 @@ pub record Walkable (s : Scatter) (keep batch start : List ℕ) : Type 0 where
 
 -- the windows, products, walks and component offsets, with the walks themselves
 unfoldable pub walksOf : Scatter → Examined
-walksOf s = record { answer = walksRefusal s; batch = batchWalk s .replay; window = windowWalk s .replay }
+walksOf s = record { answer = walksRefusal s; batch = batchWalk s; window = windowWalk s }
 
 -- a scatter that is not refused, with its walks from batch to batch and from cell to cell of a window
-pub record Found (s : Scatter) (batch window : WindowReplay) : Type 0 where
+pub record Found (s : Scatter) (batch window : CompiledReplay) : Type 0 where
   pub accepted : isDone (refusalOf A.Done s) ≡ true
-  pub batch-is : batch ≡ batchWalk s .replay
-  pub window-is : window ≡ windowWalk s .replay
+  pub batch-is : batch ≡ batchWalk s
+  pub window-is : window ≡ windowWalk s
 
 -- WHAT IS FOUND OF A SCATTER: its first refusal, and where there is none the walks
 pub record Examines (r : Examined) (four : Answer) (s : Scatter) : Type 0 where

@@ -19,24 +19,22 @@ ghost use Rattle.scatter_checks.specs.Examine.{Listed, Walkable, walksOf
 use layout::Answer;
 use layout::RAW_FUSED_RANK_LIMIT;
 use replay::CompiledReplay;
-use replay::WindowReplay;
 
 // What compile answers; where that is Done, the walks from batch to batch and from cell to cell of a window.
 pub struct Examined {
     pub answer: Answer,
-    pub batch: WindowReplay,
-    pub window: WindowReplay,
+    pub batch: CompiledReplay,
+    pub window: CompiledReplay,
 }
 
 fn unexamined(answer: Answer) -> Examined
     ensures { λ r. ⌜ r .answer ≡ answer ⌝ }
 {
     let none = replay::refused_replay();
-    let walk = none.replay;
     Examined {
         answer,
-        batch: walk,
-        window: walk,
+        batch: none,
+        window: none,
     }
 }
 
@@ -268,12 +266,10 @@ fn examine_walks(
     let f = components::check_components(stride, map.len() as u64);
     let walks = checks::or_else(d, checks::or_else(e, f));
     let answer = checks::or_else(a, checks::or_else(b, checks::or_else(c, walks)));
-    let from_batch = batches.replay;
-    let from_cell = cells.replay;
     Examined {
         answer,
-        batch: from_batch,
-        window: from_cell,
+        batch: batches,
+        window: cells,
     }
 }
 

@@ -16,8 +16,8 @@ use Rattle.layout.specs.Layouts.{rankLimit, padded}
 use Rattle.layout.specs.Reach.{bufferBounds}
 use Rattle.axis_lists.specs.Held.{heldSteps}
 use Rattle.axis_lists.specs.declared.Steps.{Steps}
-use Rattle.replay.specs.Replays.{extents, rowsOf}
-use Rattle.replay.specs.declared.WindowReplay.{WindowReplay}
+use Rattle.replay.specs.Replays.{rowsOf}
+use Rattle.replay.specs.declared.CompiledReplay.{CompiledReplay}
 use Rattle.checks.specs.Values.{valueOfU, offsetOr, totalOr}
 use Rattle.checks.proofs.Held.{never}
 use Rattle.components.specs.Components.{limitAt, unlessNone}
@@ -33,7 +33,7 @@ use Rattle.scatter_move.specs.declared.PreparedScatter.{PreparedScatter}
 use Rattle.scatter_lists.specs.Lists.{onViews, placed, listsAnswer}
 
 -- ---- the numbers by what was found
-module _ (s : Scatter) (batch window : WindowReplay) (q : Found s batch window) where
+module _ (s : Scatter) (batch window : CompiledReplay) (q : Found s batch window) where
   pub fits : Accepted s
   fits = accepted s A.Done (q .accepted)
 
@@ -45,28 +45,28 @@ module _ (s : Scatter) (batch window : WindowReplay) (q : Found s batch window) 
   abbrev map : List ℕ
   map = s .spec .scatter-dims-to-operand-dims
 
-  pub numbers-are : (be we : List ℕ) (br wr : List (List ℤ)) (is st us ws ds : List ℤ) (offsets : Steps) (strides : List ℤ) (limits : List ℕ) (batches : ℕ)
-      → be ≡ extents (batch .axes) → we ≡ extents (window .axes) → br ≡ rowsOf (batch .axes) → wr ≡ rowsOf (window .axes) → is ≡ stepsAt 0 br
+  pub numbers-are : (br wr : List (List ℤ)) (is st us ws ds : List ℤ) (offsets : Steps) (strides : List ℤ) (limits : List ℕ) (batches : ℕ)
+      → br ≡ rowsOf (batch .axes) → wr ≡ rowsOf (window .axes) → is ≡ stepsAt 0 br
       → st ≡ unlessNone (length map) (replicate rankLimit (pos 0)) is → us ≡ stepsAt 2 br → ws ≡ stepsAt 0 wr → ds ≡ stepsAt 2 wr
       → offsets ≡ heldSteps (tabulate (min (length map) rankLimit) (offsetOr (vectorStride (s .indices) (s .spec .index-vector-dim))))
       → strides ≡ padded rankLimit (pos 0) (pick (pos 0) (take rankLimit map) (s .result .strides))
       → limits ≡ tabulate rankLimit (limitAt (s .result .extents) (spread 1 (rank (s .result)) (others (rank (s .result)) (s .spec .inserted-window-dims)) (pick 0 (s .spec .update-window-dims) (s .updates .extents))) map)
       → batches ≡ totalOr (pick 0 (others (rank (s .updates)) (s .spec .update-window-dims)) (s .updates .extents))
       → _≡_ {A = ScatterNumbers}
-      (record { «batch_rank» = batch .rank; batches = batches; «batch_extents» = be; «index_steps» = st; «update_steps» = us; «window_rank» = window .rank; «window_extents» = we; «window_steps» = ws; «dest_steps» = ds; count = length map; offsets = offsets .entries; strides = strides; limits = limits })
+      (record { «batch_rank» = batch .replay .rank; batches = batches; «batch_extents» = batch .replay .extents; «index_steps» = st; «update_steps» = us; «window_rank» = window .replay .rank; «window_extents» = window .replay .extents; «window_steps» = ws; «dest_steps» = ds; count = length map; offsets = offsets .entries; strides = strides; limits = limits })
       (scatterNumbers s)
   unfolding scatterNumbers windows windowShape windowDims batchShape scatterDims
-  numbers-are be we br wr is st us ws ds offsets strides limits batches ebe ewe ebr ewr eis est eus ews eds eo es el eb =
-      let rb = ebr ∙ ap (λ (r : WindowReplay). rowsOf (r .axes)) (q .batch-is) in
-      let rw′ = ewr ∙ ap (λ (r : WindowReplay). rowsOf (r .axes)) (q .window-is) in
+  numbers-are br wr is st us ws ds offsets strides limits batches ebr ewr eis est eus ews eds eo es el eb =
+      let rb = ebr ∙ ap (λ (r : CompiledReplay). rowsOf (r .axes)) (q .batch-is) in
+      let rw′ = ewr ∙ ap (λ (r : CompiledReplay). rowsOf (r .axes)) (q .window-is) in
       λ i. record {
-        «batch_rank» = q .batch-is i .rank;
+        «batch_rank» = q .batch-is i .replay .rank;
         batches = (eb ∙ ap valueOfU (fits .batches)) i;
-        «batch_extents» = (ebe ∙ ap (λ (r : WindowReplay). extents (r .axes)) (q .batch-is)) i;
+        «batch_extents» = q .batch-is i .replay .extents;
         «index_steps» = (est ∙ ap (unlessNone (length map) (replicate rankLimit (pos 0))) (eis ∙ ap (stepsAt 0) rb)) i;
         «update_steps» = (eus ∙ ap (stepsAt 2) rb) i;
-        «window_rank» = q .window-is i .rank;
-        «window_extents» = (ewe ∙ ap (λ (r : WindowReplay). extents (r .axes)) (q .window-is)) i;
+        «window_rank» = q .window-is i .replay .rank;
+        «window_extents» = q .window-is i .replay .extents;
         «window_steps» = (ews ∙ ap (stepsAt 0) rw′) i;
         «dest_steps» = (eds ∙ ap (stepsAt 2) rw′) i;
         count = length map;
@@ -96,7 +96,7 @@ module _ (s : Scatter) (a b c : ℤ) where
   unfolding scatterNumbers batchWalk windowWalk batchShape windowShape windows scatterDims windowDims updateBatchSteps updateWindowSteps landSteps
   numbers-placed = refl
 
-  batch-placed : batchWalk s .replay ≡ batchWalk h .replay
+  batch-placed : batchWalk s .axes ≡ batchWalk h .axes
   unfolding batchWalk batchShape scatterDims updateBatchSteps
   batch-placed = refl
 
@@ -120,7 +120,7 @@ module _ (s : Scatter) (a b c : ℤ) where
       pub second-refusal : (r : PreparedScatter) → r .answer ≡ nine → isDone nine ≡ false → Prepares r (listsAnswer s h sn un dn) h sn un dn
       second-refusal r e n = record { answered = e ∙ answer-is; ready = λ d. never (sym d ∙ ap isDone (sym answer-is) ∙ n) }
 
-      pub prepared : (batch window : WindowReplay) → Found s batch window → isDone nine ≡ true → (r : PreparedScatter) → r .answer ≡ nine → r .reach ≡ z → r .numbers ≡ scatterNumbers s → r .batch ≡ batch → r .index ≡ startBase h → r .updates ≡ b → r .dest ≡ c → Prepares r (listsAnswer s h sn un dn) h sn un dn
+      pub prepared : (batch window : CompiledReplay) → Found s batch window → isDone nine ≡ true → (r : PreparedScatter) → r .answer ≡ nine → r .reach ≡ z → r .numbers ≡ scatterNumbers s → r .«batch_axes» ≡ batch .axes → r .index ≡ startBase h → r .updates ≡ b → r .dest ≡ c → Prepares r (listsAnswer s h sn un dn) h sn un dn
       prepared batch window q d r e er en eb ei eu ed =
           record {
             answered = e ∙ answer-is;
@@ -129,7 +129,7 @@ module _ (s : Scatter) (a b c : ℤ) where
               bounds = ap isDone (sym bounds-are) ∙ d;
               reach = er ∙ ez;
               numbers = en ∙ numbers-placed;
-              batch = eb ∙ q .batch-is ∙ batch-placed;
+              batch-axes = eb ∙ ap (λ (x : CompiledReplay). x .axes) (q .batch-is) ∙ batch-placed;
               index = ei;
               updates = eu;
               dest = ed;

@@ -4,7 +4,6 @@ ghost use Prim.Native.Nat.{_≤_};
 ghost use lib.ListN.{length};
 ghost use Rattle.indexing.specs.Coordinates.{pick, spread, others, tabulate};
 ghost use Rattle.layout.specs.Layouts.{rankLimit};
-ghost use Rattle.checks.specs.Values.{totalOr};
 ghost use Rattle.components.specs.Components.{limitAt};
 ghost use Rattle.calls.specs.Calls.{viewWith};
 ghost use Rattle.scatter_checks.specs.Refusals.{scatterFrom};
@@ -13,7 +12,7 @@ ghost use Rattle.scatter_move.specs.Prepared.{scatterNumbers};
 ghost use Rattle.scatter_lists.specs.Lists.{ListedOn, ListedAt};
 use layout::Answer;
 use layout::RAW_FUSED_RANK_LIMIT;
-use replay::WindowReplay;
+use replay::CompiledReplay;
 use scatter_move::PreparedScatter;
 use scatter_move::ScatterNumbers;
 
@@ -48,17 +47,19 @@ fn numbers_on(
     inserted_window_dims: &[u64],
     scatter_dims_to_operand_dims: &[u64],
     index_vector_dim: u64,
-    batch: WindowReplay,
-    window: WindowReplay,
+    from_batch: CompiledReplay,
+    from_cell: CompiledReplay,
 ) -> ScatterNumbers
-    requires { ⌜ Found (scatterFrom (now «index_extents») (now «index_strides») (now «updates_extents») (now «updates_strides») (now «dest_extents») (now «dest_strides») (now «update_window_dims») (now «inserted_window_dims») (now «scatter_dims_to_operand_dims») «index_vector_dim») batch window ⌝ }
+    requires { ⌜ Found (scatterFrom (now «index_extents») (now «index_strides») (now «updates_extents») (now «updates_strides») (now «dest_extents») (now «dest_strides») (now «update_window_dims») (now «inserted_window_dims») (now «scatter_dims_to_operand_dims») «index_vector_dim») «from_batch» «from_cell» ⌝ }
     ensures { λ r. ⌜ r ≡ scatterNumbers (scatterFrom (now («index_extents» .entry)) (now («index_strides» .entry)) (now («updates_extents» .entry)) (now («updates_strides» .entry)) (now («dest_extents» .entry)) (now («dest_strides» .entry)) (now («update_window_dims» .entry)) (now («inserted_window_dims» .entry)) (now («scatter_dims_to_operand_dims» .entry)) «index_vector_dim») ⌝ }
 {
     let count = scatter_dims_to_operand_dims.len();
-    let batch_axes = batch.axes;
-    let window_axes = window.axes;
-    let batch_extents = replay::shape_of(batch_axes);
-    let window_extents = replay::shape_of(window_axes);
+    let batch = from_batch.replay;
+    let window = from_cell.replay;
+    let batch_extents = batch.extents;
+    let window_extents = window.extents;
+    let batch_axes = from_batch.axes;
+    let window_axes = from_cell.axes;
     let batch_rows = replay::rows_of(batch_axes);
     let window_rows = replay::rows_of(window_axes);
     let index = scatter_move::source_steps(batch_rows);
@@ -144,8 +145,8 @@ pub fn prepare(
     if !layout::is_done(answer) {
         return scatter_move::refused(answer);
     }
-    let batch = found.batch;
-    let window = found.window;
+    let from_batch = found.batch;
+    let from_cell = found.window;
     let numbers = numbers_on(
         index_extents,
         index_strides,
@@ -157,15 +158,16 @@ pub fn prepare(
         inserted_window_dims,
         scatter_dims_to_operand_dims,
         index_vector_dim,
-        batch,
-        window,
+        from_batch,
+        from_cell,
     );
     let base = components::start_base(scatter_dims_to_operand_dims.len(), index_offset);
+    let batch_axes = from_batch.axes;
     PreparedScatter {
         answer,
         reach: z,
         numbers,
-        batch,
+        batch_axes,
         index: base,
         updates: updates_offset,
         dest: dest_offset,

@@ -1,7 +1,7 @@
 -- A walk that compile merged, as the arrays that the cells are walked with: the same places, and as many. Assumes nothing.
 use mathlib.Core.Path.{_≡_, refl, sym, ap, ap₂, subst, _∙_}
 use mathlib.Core.List.{List, [], _∷_, map}
-use Prim.Native.Nat.{ℕ, zero, suc, _-_, _<_, _≤_, _^_}
+use Prim.Native.Nat.{ℕ, zero, suc, _<_, _≤_, _^_}
 use native.Mathlib.Omega.{arith}
 use lib.ListN.{length, getD, take, length-take, length-map, List·getD-map}
 use lib.Seq.{getD-take, length-take-le, ext-getD}
@@ -13,7 +13,6 @@ use Rattle.indexing.specs.Axes.{getD-any}
 use Rattle.layout.specs.Layouts.{rankLimit, padded}
 use Rattle.layout.specs.declared.Answer.the-variants as N
 use Rattle.axis_lists.proofs.Filling.{entry-below, read-back}
-use Rattle.replay.specs.declared.WindowReplay.{WindowReplay}
 use Rattle.replay.specs.declared.WindowReplayAxis.{WindowReplayAxis}
 use Rattle.replay.specs.declared.CompiledReplay.{CompiledReplay}
 use Rattle.replay.specs.Replays.{noAxis, compiledReplay, extents, rowOf, rowsOf}
@@ -96,8 +95,7 @@ module _ (ds : List ℕ) (ss ts : List ℤ) (ls : length ss ≡ length ds) (lt :
         dest = λ base k. ap₂ (λ (x : List ℕ) (y : List ℤ). base +ℤ dot y (unravel x k)) e u ∙ ap (λ (x : ℤ). base +ℤ x) (m .dest .offset k);
       }
 
-  pub walked : compiledReplay ds ss ts .answer ≡ N.Done → (r : WindowReplay) → r ≡ compiledReplay ds ss ts .replay → (rows : List (List ℤ)) → rows ≡ rowsOf (r .axes) → Walked ds ss ts (extents (r .axes)) (stepsAt 0 rows) (stepsAt 2 rows) (r .rank)
-  walked done r er rows e =
-      let d : IsDone ds ss ts = compiled-done ds ss ts ls lt done in
-      subst (λ (x : List (List ℤ)). Walked ds ss ts (extents (r .axes)) (stepsAt 0 x) (stepsAt 2 x) (r .rank)) (sym e)
-      (subst (λ (x : WindowReplay). Walked ds ss ts (extents (x .axes)) (stepsAt 0 (rowsOf (x .axes))) (stepsAt 2 (rowsOf (x .axes))) (x .rank)) (sym (er ∙ ap (λ (c : CompiledReplay). c .replay) (d .is))) (at-axes d))
+  pub walked : (c : CompiledReplay) → c ≡ compiledReplay ds ss ts → c .answer ≡ N.Done → Walked ds ss ts (c .replay .extents) (stepsAt 0 (rowsOf (c .axes))) (stepsAt 2 (rowsOf (c .axes))) (c .replay .rank)
+  walked c e done =
+      let d : IsDone ds ss ts = compiled-done ds ss ts ls lt (ap (λ (x : CompiledReplay). x .answer) (sym e) ∙ done) in
+      subst (λ (x : CompiledReplay). Walked ds ss ts (x .replay .extents) (stepsAt 0 (rowsOf (x .axes))) (stepsAt 2 (rowsOf (x .axes))) (x .replay .rank)) (sym (e ∙ d .is)) (at-axes d)

@@ -23,7 +23,6 @@ use Rattle.layout.specs.declared.Answer.the-variants as A
 use Rattle.layout.specs.Answers.{isDone}
 use Rattle.layout.specs.Layouts.{rankLimit, padded}
 use Rattle.layout.specs.Reach.{viewReach, bufferBounds}
-use Rattle.replay.specs.Replays.{extents}
 use Rattle.runs.specs.Runs.{cellAt}
 use Rattle.runs.proofs.Turns.{same-places, same-turns}
 use Rattle.windows.specs.Windows.{placeAt, windowed}
@@ -92,10 +91,10 @@ module _ (s : Scatter) (done : isDone (refusalOf A.Done s) ≡ true) where
   strides = padded rankLimit (pos 0) (pick (pos 0) (s .spec .scatter-dims-to-operand-dims) (s .result .strides))
 
   abbrev batch : List ℕ
-  batch = extents (batchWalk s .replay .axes)
+  batch = batchWalk s .replay .extents
 
   abbrev window : List ℕ
-  window = extents (windowWalk s .replay .axes)
+  window = windowWalk s .replay .extents
 
   -- ---- the places of batch k
   total-batches : product (take brank batch) ≡ product (batchShape s)

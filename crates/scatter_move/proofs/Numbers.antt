@@ -16,7 +16,6 @@ use Rattle.layout.specs.declared.Answer.the-variants as A
 use Rattle.layout.specs.Answers.{isDone}
 use Rattle.layout.specs.Layouts.{rankLimit, padded}
 use Rattle.axis_lists.proofs.Filling.{length-others}
-use Rattle.replay.specs.Replays.{extents}
 use Rattle.checks.proofs.Small.{spans-small}
 use Rattle.components.specs.Components.{limitAt}
 use Rattle.components.proofs.Padded.{padded-entry}
@@ -38,21 +37,21 @@ module _ (s : Scatter) (done : isDone (refusalOf A.Done s) ≡ true) where
   dest-many = length-pick (pos 0) (scatterDims s) (s .updates .strides) ∙ sym (length-pick 0 (scatterDims s) (s .updates .extents))
 
   -- the walk from batch to batch
-  pub batch-walked : Walked (batchShape s) (without (s .spec .index-vector-dim) (s .indices .strides)) (updateBatchSteps s) (extents (batchWalk s .replay .axes)) (stepsAt 0 (batchRows s)) (stepsAt 2 (batchRows s)) (batchWalk s .replay .rank)
+  pub batch-walked : Walked (batchShape s) (without (s .spec .index-vector-dim) (s .indices .strides)) (updateBatchSteps s) (batchWalk s .replay .extents) (stepsAt 0 (batchRows s)) (stepsAt 2 (batchRows s)) (batchWalk s .replay .rank)
   unfolding batchWalk
   batch-walked =
-      walked (batchShape s) (without (s .spec .index-vector-dim) (s .indices .strides)) (updateBatchSteps s) (given .counts .batch) dest-many batch-few (given .batch-done)
-      (batchWalk s .replay) refl (batchRows s) refl
+      walked (batchShape s) (without (s .spec .index-vector-dim) (s .indices .strides)) (updateBatchSteps s) (given .counts .batch) dest-many batch-few
+      (batchWalk s) refl (given .batch-done)
 
   -- and from cell to cell of a window
-  pub window-walked : Walked (windowShape s) (updateWindowSteps s) (landSteps s) (extents (windowWalk s .replay .axes)) (stepsAt 0 (windowRows s)) (stepsAt 2 (windowRows s)) (windowWalk s .replay .rank)
+  pub window-walked : Walked (windowShape s) (updateWindowSteps s) (landSteps s) (windowWalk s .replay .extents) (stepsAt 0 (windowRows s)) (stepsAt 2 (windowRows s)) (windowWalk s .replay .rank)
   unfolding windowWalk
   window-walked =
       let k : length (windowShape s) ≡ length (s .spec .update-window-dims) = unfold windowShape in length-pick 0 (s .spec .update-window-dims) (s .updates .extents) in
       let m : length (updateWindowSteps s) ≡ length (s .spec .update-window-dims) = unfold updateWindowSteps in length-pick (pos 0) (s .spec .update-window-dims) (s .updates .strides) in
       let n : length (landSteps s) ≡ length (windowDims s) = unfold landSteps in length-pick (pos 0) (windowDims s) (s .result .strides) in
       walked (windowShape s) (updateWindowSteps s) (landSteps s) (m ∙ sym k) (n ∙ sym (given .counts .window) ∙ sym k)
-      (omega (arith, k, given .window-few)) (given .window-done) (windowWalk s .replay) refl (windowRows s) refl
+      (omega (arith, k, given .window-few)) (windowWalk s) refl (given .window-done)
 
   abbrev map : List ℕ
   map = s .spec .scatter-dims-to-operand-dims

@@ -23,7 +23,6 @@ use Rattle.layout.specs.Answers.{isDone}
 use Rattle.layout.specs.Reach.{bufferBounds}
 use Rattle.layout.specs.Inside.{Inside, reach-inside, low-most, high-least}
 use Rattle.replay.specs.Replays.{rowsOf}
-use Rattle.replay.specs.declared.WindowReplay.{WindowReplay}
 use Rattle.checks.proofs.Made.{or-done}
 use Rattle.calls.specs.Calls.{reachIn}
 use Rattle.scatter_checks.specs.Refusals.{batchWalk, windowWalk, specRefusal, refusalOf}
@@ -133,9 +132,9 @@ module _ (p : PreparedScatter) (low high : ℕ) (starts : List ℤ) (un dn : ℕ
         (subst (λ (z : ℤ). Scattering starts (scatterNumbers part .offsets) (scatterNumbers part .strides) (scatterNumbers part .limits) (scatterNumbers part .count) (startBase s) (s .updates .offset) z (scatterNumbers part .«batch_extents») (scatterNumbers part .«index_steps») (scatterNumbers part .«update_steps») (scatterNumbers part .«batch_rank») (scatterNumbers part .«window_extents») (scatterNumbers part .«window_steps») (scatterNumbers part .«dest_steps») (scatterNumbers part .«window_rank») un n) (sym ea) (scattering-part room))))
 
     -- the rows of the batches
-    pub part-rowed : (rows : List (List ℤ)) → rows ≡ rowsOf (p .batch .axes) → un < 2 ^ 63 → length starts < 2 ^ 63 → Rowed (p .index) (p .updates) (p .numbers .«batch_extents») (p .numbers .«index_steps») (p .numbers .«update_steps») rows (p .numbers .«batch_rank») (p .numbers .batches) (p .numbers .count) (p .numbers .«window_extents») (p .numbers .«window_rank»)
+    pub part-rowed : (rows : List (List ℤ)) → rows ≡ rowsOf (p .«batch_axes») → un < 2 ^ 63 → length starts < 2 ^ 63 → Rowed (p .index) (p .updates) (p .numbers .«batch_extents») (p .numbers .«index_steps») (p .numbers .«update_steps») rows (p .numbers .«batch_rank») (p .numbers .batches) (p .numbers .count) (p .numbers .«window_extents») (p .numbers .«window_rank»)
     part-rowed rows er small room =
-        let rs : rows ≡ batchRows part = er ∙ ap (λ (r : WindowReplay). rowsOf (r .axes)) (ready .batch) ∙ rows-part s (c -ℤ pos low) in
+        let rs : rows ≡ batchRows part = er ∙ ap rowsOf (ready .batch-axes) ∙ rows-part s (c -ℤ pos low) in
         subst (λ (v : ScatterNumbers). Rowed (p .index) (p .updates) (v .«batch_extents») (v .«index_steps») (v .«update_steps») rows (v .«batch_rank») (v .batches) (v .count) (v .«window_extents») (v .«window_rank»)) (sym (ready .numbers ∙ numbers-part s (c -ℤ pos low)))
         (subst (λ (z : ℤ). Rowed z (p .updates) (scatterNumbers part .«batch_extents») (scatterNumbers part .«index_steps») (scatterNumbers part .«update_steps») rows (scatterNumbers part .«batch_rank») (scatterNumbers part .batches) (scatterNumbers part .count) (scatterNumbers part .«window_extents») (scatterNumbers part .«window_rank»)) (sym (ready .index))
         (subst (λ (z : ℤ). Rowed (startBase s) z (scatterNumbers part .«batch_extents») (scatterNumbers part .«index_steps») (scatterNumbers part .«update_steps») rows (scatterNumbers part .«batch_rank») (scatterNumbers part .batches) (scatterNumbers part .count) (scatterNumbers part .«window_extents») (scatterNumbers part .«window_rank»)) (sym (ready .updates))

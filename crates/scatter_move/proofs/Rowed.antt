@@ -6,14 +6,14 @@ use Prim.Native.Nat.{ℕ, zero, suc, _-_, _<_, _^_}
 use native.Mathlib.Omega.{arith}
 use lib.ListN.{length, take, replicate, length-map}
 use lib.IntN.{ℤ, pos}
-use Rattle.indexing.specs.Coordinates.{product, InSlice, rank}
+use Rattle.indexing.specs.Coordinates.{product, InSlice}
 use Rattle.indexing.specs.Start.{without}
 use Rattle.indexing.specs.Scatter.{Scatter, batchShape}
 use Rattle.indexing.specs.Steps.{updateBatchSteps}
 use Rattle.indexing.specs.Odometer.{AllPos, offsetAt}
 use Rattle.layout.specs.Layouts.{rankLimit}
 use Rattle.replay.specs.declared.CompiledReplay.{CompiledReplay}
-use Rattle.replay.specs.Replays.{compiledReplay, noAxis, extents, rowOf}
+use Rattle.replay.specs.Replays.{compiledReplay, noAxis, rowOf}
 use Rattle.replay.specs.Cells.{cells-pos}
 use Rattle.replay.specs.Merging.{IsDone, compiled-done}
 use Rattle.windows.specs.Windows.{placeAt}
@@ -49,24 +49,24 @@ module _ (s : Scatter) (ok : isDone (refusalOf A.Done s) ≡ true) where
   done = compiled-done ds ss ts (given s ok .counts .batch) (dest-many s ok) (given s ok .batch-done)
 
   -- the batches can be walked from bases whose reach fits
-  walk-from : (sb db : ℤ) → AllPos ds → Reaches sb ds ss → Reaches db ds ts → Walking ds ss ts sb db (extents (batchWalk s .replay .axes)) (batchRows s) (batchWalk s .replay .rank)
+  walk-from : (sb db : ℤ) → AllPos ds → Reaches sb ds ss → Reaches db ds ts → Walking ds ss ts sb db (batchWalk s .replay .extents) (batchRows s) (batchWalk s .replay .rank)
   unfolding batchWalk
   walk-from sb db positive rs rd =
-      walking ds ss ts (batch-few s ok) (given s ok .counts .batch) (dest-many s ok) (compiledReplay ds ss ts) refl sb db (record { done = given s ok .batch-done; positive = positive; source-reach = rs; dest-reach = rd }) (extents (batchWalk s .replay .axes)) (batchRows s) refl refl
+      walking ds ss ts (batch-few s ok) (given s ok .counts .batch) (dest-many s ok) (compiledReplay ds ss ts) refl sb db (record { done = given s ok .batch-done; positive = positive; source-reach = rs; dest-reach = rd }) (batchWalk s .replay .extents) (batchRows s) refl refl
 
   rows-full : length (batchRows s) ≡ rankLimit
   unfolding batchWalk
   rows-full =
-      length-map (batchWalk s .replay .axes) rowOf
-      ∙ ap (λ (c : CompiledReplay). length (c .replay .axes)) (done .is)
+      length-map (batchWalk s .axes) rowOf
+      ∙ ap (λ (c : CompiledReplay). length (c .axes)) (done .is)
       ∙ length-padded rankLimit noAxis (done .axes)
 
   abbrev w : ScatterNumbers
   w = scatterNumbers s
 
   -- the places of the starts; where none is read they are walked from 0
-  index-reach : 0 < product (take (batchWalk s .replay .rank) (extents (batchWalk s .replay .axes)))
-      → ((k : ℕ) → k < product (take (batchWalk s .replay .rank) (extents (batchWalk s .replay .axes))) → InSlice (2 ^ 63 - 1) (placeAt (startBase s) (extents (batchWalk s .replay .axes)) (unlessNone (length (s .spec .scatter-dims-to-operand-dims)) (replicate rankLimit (pos 0)) (stepsAt 0 (batchRows s))) (batchWalk s .replay .rank) k))
+  index-reach : 0 < product (take (batchWalk s .replay .rank) (batchWalk s .replay .extents))
+      → ((k : ℕ) → k < product (take (batchWalk s .replay .rank) (batchWalk s .replay .extents)) → InSlice (2 ^ 63 - 1) (placeAt (startBase s) (batchWalk s .replay .extents) (unlessNone (length (s .spec .scatter-dims-to-operand-dims)) (replicate rankLimit (pos 0)) (stepsAt 0 (batchRows s))) (batchWalk s .replay .rank) k))
       → (n : ℕ) → length (s .spec .scatter-dims-to-operand-dims) ≡ n → Reaches (startBase s) ds ss
   unfolding offsetAt
   index-reach hb inside zero e = subst (λ (x : ℤ). Reaches x ds ss) (ap (λ (n : ℕ). unlessNone n (pos 0) (s .indices .offset)) (sym e)) (reaches-zero ds ss (done .source-low) (done .source-high) (done .source-span))
@@ -74,7 +74,7 @@ module _ (s : Scatter) (ok : isDone (refusalOf A.Done s) ≡ true) where
       let v = batch-walked s ok in
       reaches (startBase s) ds ss (2 ^ 63 - 1) (cells-pos ds (subst (λ (m : ℕ). 0 < m) (v .total) hb))
       (λ k h. subst (InSlice (2 ^ 63 - 1))
-      (ap (λ (zs : List ℤ). placeAt (startBase s) (extents (batchWalk s .replay .axes)) zs (batchWalk s .replay .rank) k) (unless-some (length (s .spec .scatter-dims-to-operand-dims)) (replicate rankLimit (pos 0)) (stepsAt 0 (batchRows s)) (omega arith)) ∙ v .source (startBase s) k)
+      (ap (λ (zs : List ℤ). placeAt (startBase s) (batchWalk s .replay .extents) zs (batchWalk s .replay .rank) k) (unless-some (length (s .spec .scatter-dims-to-operand-dims)) (replicate rankLimit (pos 0)) (stepsAt 0 (batchRows s)) (omega arith)) ∙ v .source (startBase s) k)
       (inside k (subst (λ (m : ℕ). k < m) (sym (v .total)) h)))
       (omega arith)
 
@@ -88,9 +88,9 @@ module _ (s : Scatter) (ok : isDone (refusalOf A.Done s) ≡ true) where
     walk = λ hb hw.
         let v = batch-walked s ok in
         let q = g .batches hb hw in
-        let at : (k : ℕ) → k < product ds → k < product (take (batchWalk s .replay .rank) (extents (batchWalk s .replay .axes))) = λ k h. subst (λ (m : ℕ). k < m) (sym (v .total)) h in
+        let at : (k : ℕ) → k < product ds → k < product (take (batchWalk s .replay .rank) (batchWalk s .replay .extents)) = λ k h. subst (λ (m : ℕ). k < m) (sym (v .total)) h in
         let positive : AllPos ds = cells-pos ds (subst (λ (m : ℕ). 0 < m) (v .total) hb) in
-        let update-in : (k : ℕ) → k < product ds → InSlice un (offsetAt (s .updates .offset) ds ts k) = λ k h. subst (InSlice un) (place-first (placeAt (s .updates .offset) (extents (batchWalk s .replay .axes)) (stepsAt 2 (batchRows s)) (batchWalk s .replay .rank) k) (extents (windowWalk s .replay .axes)) (stepsAt 0 (windowRows s)) (windowWalk s .replay .rank) ∙ v .dest (s .updates .offset) k) (q .source k (at k h) .inside 0 hw) in
+        let update-in : (k : ℕ) → k < product ds → InSlice un (offsetAt (s .updates .offset) ds ts k) = λ k h. subst (InSlice un) (place-first (placeAt (s .updates .offset) (batchWalk s .replay .extents) (stepsAt 2 (batchRows s)) (batchWalk s .replay .rank) k) (windowWalk s .replay .extents) (stepsAt 0 (windowRows s)) (windowWalk s .replay .rank) ∙ v .dest (s .updates .offset) k) (q .source k (at k h) .inside 0 hw) in
         walk-from (startBase s) (s .updates .offset) positive (index-reach hb (q .index .inside) (length (s .spec .scatter-dims-to-operand-dims)) refl) (reaches (s .updates .offset) ds ts un positive update-in r) .walk;
     source = λ h. ap (take (batchWalk s .replay .rank)) (sym (steps-are 0 rankLimit (batchRows s) rows-full) ∙ sym (unless-some (length (s .spec .scatter-dims-to-operand-dims)) (replicate rankLimit (pos 0)) (stepsAt 0 (batchRows s)) h));
     dest = ap (take (batchWalk s .replay .rank)) (sym (steps-are 2 rankLimit (batchRows s) rows-full));

@@ -13,7 +13,7 @@ use Rattle.layout.specs.declared.Answer.the-variants as A
 use Rattle.layout.specs.declared.Reach.the-variants as R
 use Rattle.layout.specs.Answers.{isDone}
 use Rattle.layout.specs.Layouts.{rankLimit, padded}
-use Rattle.replay.specs.Replays.{extents, rowsOf}
+use Rattle.replay.specs.Replays.{rowsOf}
 use Rattle.components.specs.Components.{limitAt, unlessNone}
 use Rattle.calls.specs.Calls.{reachIn, boundsRefusal}
 use Rattle.scatter_checks.specs.Refusals.{batchWalk, windowWalk, refusalOf}
@@ -26,10 +26,10 @@ stepsAt j rows = tabulate rankLimit (λ i. getD (getD rows i []) j (pos 0))
 
 -- the rows of the two walks
 abbrev pub batchRows : Scatter → List (List ℤ)
-batchRows s = rowsOf (batchWalk s .replay .axes)
+batchRows s = rowsOf (batchWalk s .axes)
 
 abbrev pub windowRows : Scatter → List (List ℤ)
-windowRows s = rowsOf (windowWalk s .replay .axes)
+windowRows s = rowsOf (windowWalk s .axes)
 
 -- the numbers that the batches and the windows of a scatter are moved with
 unfoldable pub scatterNumbers : Scatter → ScatterNumbers
@@ -37,11 +37,11 @@ scatterNumbers s =
     record {
       «batch_rank» = batchWalk s .replay .rank;
       batches = product (batchShape s);
-      «batch_extents» = extents (batchWalk s .replay .axes);
+      «batch_extents» = batchWalk s .replay .extents;
       «index_steps» = unlessNone (length (s .spec .scatter-dims-to-operand-dims)) (replicate rankLimit (pos 0)) (stepsAt 0 (batchRows s));
       «update_steps» = stepsAt 2 (batchRows s);
       «window_rank» = windowWalk s .replay .rank;
-      «window_extents» = extents (windowWalk s .replay .axes);
+      «window_extents» = windowWalk s .replay .extents;
       «window_steps» = stepsAt 0 (windowRows s);
       «dest_steps» = stepsAt 2 (windowRows s);
       count = length (s .spec .scatter-dims-to-operand-dims);
@@ -60,7 +60,7 @@ pub record Ready (p : PreparedScatter) (s : Scatter) (sn un dn : ℕ) : Type 0 w
   pub bounds : isDone (boundsRefusal (s .indices) (s .updates) (s .result) sn un dn) ≡ true
   pub reach : p .reach ≡ reachIn (s .result) dn
   pub numbers : p .numbers ≡ scatterNumbers s
-  pub batch : p .batch ≡ batchWalk s .replay
+  pub batch-axes : p .«batch_axes» ≡ batchWalk s .axes
   pub index : p .index ≡ startBase s
   pub updates : p .updates ≡ s .updates .offset
   pub dest : p .dest ≡ s .result .offset

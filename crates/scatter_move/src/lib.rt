@@ -12,7 +12,7 @@ ghost use Rattle.scatter_move.specs.Prepared.{stepsAt, Cells, Movable};
 use layout::Answer;
 use layout::RAW_FUSED_RANK_LIMIT;
 use layout::Reach;
-use replay::WindowReplay;
+use replay::WindowReplayAxis;
 use runs::Rule;
 
 // The numbers that the batches and the windows of a scatter are moved with: the merged axes of both walks, with the steps of each on
@@ -33,13 +33,13 @@ pub struct ScatterNumbers {
     pub limits: [u64; RAW_FUSED_RANK_LIMIT],
 }
 
-// What a call of a scatter has decided: its answer; where that is Done, also where the destination's cells lie, the numbers, the walk
-// from batch to batch, and where the starts, the updates and the destination begin.
+// What a call of a scatter has decided: its answer; where that is Done, also where the destination's cells lie, the numbers, the axes
+// of the walk from batch to batch, and where the starts, the updates and the destination begin.
 pub struct PreparedScatter {
     pub answer: Answer,
     pub reach: Reach,
     pub numbers: ScatterNumbers,
-    pub batch: WindowReplay,
+    pub batch_axes: [WindowReplayAxis; RAW_FUSED_RANK_LIMIT],
     pub index: i64,
     pub updates: i64,
     pub dest: i64,
@@ -52,7 +52,7 @@ pub fn refused(answer: Answer) -> PreparedScatter
     let ones = [1u64; RAW_FUSED_RANK_LIMIT];
     let zeros = [0i64; RAW_FUSED_RANK_LIMIT];
     let none = replay::refused_replay();
-    let batch = none.replay;
+    let batch_axes = none.axes;
     let numbers = ScatterNumbers {
         batch_rank: 0,
         batches: 0,
@@ -72,7 +72,7 @@ pub fn refused(answer: Answer) -> PreparedScatter
         answer,
         reach: Reach::NoCells,
         numbers,
-        batch,
+        batch_axes,
         index: 0,
         updates: 0,
         dest: 0,
@@ -172,8 +172,7 @@ fn cells_i32(
     let end = high + 1;
     let from = low as i64;
     let at = p.dest - from;
-    let batch = p.batch;
-    let axes = batch.axes;
+    let axes = p.batch_axes;
     let rows = replay::rows_of(axes);
     run_i32(rule, p, rows, starts, source, &mut into[low..end], at);
 }
@@ -268,8 +267,7 @@ fn cells_f64(
     let end = high + 1;
     let from = low as i64;
     let at = p.dest - from;
-    let batch = p.batch;
-    let axes = batch.axes;
+    let axes = p.batch_axes;
     let rows = replay::rows_of(axes);
     run_f64(rule, p, rows, starts, source, &mut into[low..end], at);
 }

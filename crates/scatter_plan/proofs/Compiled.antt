@@ -5,7 +5,10 @@ use Rattle.indexing.specs.Scatter.{Scatter}
 use Rattle.layout.specs.declared.Answer.{Answer}
 use Rattle.layout.specs.Answers.{isDone}
 use Rattle.axis_lists.proofs.Filling.{read-back}
-use Rattle.scatter_checks.specs.Refusals.{scatterFrom}
+use Rattle.replay.specs.declared.CompiledReplay.{CompiledReplay}
+use Rattle.replay.specs.Replays.{refusedReplay}
+use Rattle.scatter_checks.specs.Refusals.{scatterFrom, batchWalk, windowWalk}
+use Rattle.scatter_checks.specs.Examine.{Found}
 use Rattle.scatter_plan.specs.declared.ScatterPlan.{ScatterPlan}
 use Rattle.scatter_plan.specs.Plan.{planOf, refusedPlan, refusedScatter, compiledBy, heldScatter}
 use Rattle.scatter_plan.proofs.Accepted.{Accepted, index-extents-read, index-strides-read, updates-extents-read, updates-strides-read, dest-extents-read, dest-strides-read}
@@ -15,13 +18,30 @@ pub compiled-plan : (x : Answer) (s : Scatter) → isDone x ≡ true → compile
 unfolding compiledBy
 compiled-plan x s e = ap (λ (b : Bool). cond b (planOf s) refusedPlan) e
 
-pub compiled-done : (x : Answer) (s : Scatter) (plan : ScatterPlan) → isDone x ≡ true → plan ≡ planOf s → record { answer = x; plan = plan } ≡ compiledBy x s
+pub compiled-axes : (x : Answer) (s : Scatter) → isDone x ≡ true → (compiledBy x s .«batch_axes» ≡ batchWalk s .axes) × (compiledBy x s .«window_axes» ≡ windowWalk s .axes)
 unfolding compiledBy
-compiled-done x s plan e f = λ i. record { answer = x; plan = (f ∙ sym (compiled-plan x s e)) i }
+compiled-axes x s e = (ap (λ (b : Bool). cond b (batchWalk s .axes) (refusedReplay .axes)) e, ap (λ (b : Bool). cond b (windowWalk s .axes) (refusedReplay .axes)) e)
+
+pub compiled-done : (x : Answer) (s : Scatter) (plan : ScatterPlan) (batch window : CompiledReplay) → isDone x ≡ true → plan ≡ planOf s → Found s batch window → record { answer = x; plan = plan; «batch_axes» = batch .axes; «window_axes» = window .axes } ≡ compiledBy x s
+unfolding compiledBy
+compiled-done x s plan batch window e f q =
+    let a = compiled-axes x s e in
+    λ i. record {
+      answer = x;
+      plan = (f ∙ sym (compiled-plan x s e)) i;
+      «batch_axes» = (ap (λ (c : CompiledReplay). c .axes) (q .batch-is) ∙ sym (a .0)) i;
+      «window_axes» = (ap (λ (c : CompiledReplay). c .axes) (q .window-is) ∙ sym (a .1)) i;
+    }
 
 pub compiled-refused : (x : Answer) (s : Scatter) → isDone x ≡ false → refusedScatter x ≡ compiledBy x s
 unfolding compiledBy
-compiled-refused x s e = λ i. record { answer = x; plan = sym (ap (λ (b : Bool). cond b (planOf s) refusedPlan) e) i }
+compiled-refused x s e =
+    λ i. record {
+      answer = x;
+      plan = cond (sym e i) (planOf s) refusedPlan;
+      «batch_axes» = cond (sym e i) (batchWalk s .axes) (refusedReplay .axes);
+      «window_axes» = cond (sym e i) (windowWalk s .axes) (refusedReplay .axes);
+    }
 
 -- a scatter without the places where its views begin
 abbrev pub unplaced : Scatter → Scatter

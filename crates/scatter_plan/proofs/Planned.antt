@@ -17,13 +17,13 @@ use Rattle.axis_lists.specs.declared.Steps.{Steps}
 use Rattle.checks.specs.Values.{valueOfU, offsetOr, totalOr}
 use Rattle.checks.proofs.Made.{made}
 use Rattle.checks.proofs.Fits.{strides-yes, rank-yes}
-use Rattle.replay.specs.declared.WindowReplay.{WindowReplay}
+use Rattle.replay.specs.declared.CompiledReplay.{CompiledReplay}
 use Rattle.scatter_checks.specs.Examine.{Found}
 use Rattle.scatter_plan.specs.declared.ScatterPlan.{ScatterPlan}
 use Rattle.scatter_plan.specs.Plan.{planOf}
 use Rattle.scatter_plan.proofs.Accepted.{Accepted, accepted, offsets-are, map-is}
 
-module _ (s : Scatter) (batch window : WindowReplay) (q : Found s batch window) where
+module _ (s : Scatter) (batch window : CompiledReplay) (q : Found s batch window) where
   pub fits : Accepted s
   fits = accepted s A.Done (q .accepted)
 
@@ -43,8 +43,8 @@ module _ (s : Scatter) (batch window : WindowReplay) (q : Found s batch window) 
         «inserted_window_dims» = b;
         «scatter_dims_to_operand_dims» = c;
         «index_vector_dim» = s .spec .index-vector-dim;
-        batch = batch;
-        window = window;
+        batch = batch .replay;
+        window = window .replay;
         «window_shape» = sizes;
         «index_component_offsets» = offsets;
         «index_operand_strides» = record { count = length (s .spec .scatter-dims-to-operand-dims); entries = entries };
@@ -69,8 +69,8 @@ module _ (s : Scatter) (batch window : WindowReplay) (q : Found s batch window) 
         «inserted_window_dims» = eb i;
         «scatter_dims_to_operand_dims» = ec i;
         «index_vector_dim» = s .spec .index-vector-dim;
-        batch = q .batch-is i;
-        window = q .window-is i;
+        batch = q .batch-is i .replay;
+        window = q .window-is i .replay;
         «window_shape» = es i;
         «index_component_offsets» = of i;
         «index_operand_strides» = record { count = ct i; entries = st i };

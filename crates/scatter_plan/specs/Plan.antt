@@ -63,11 +63,17 @@ refusedPlan =
     }
 
 abbrev pub refusedScatter : Answer → CompiledScatter
-refusedScatter x = record { answer = x; plan = refusedPlan }
+refusedScatter x = record { answer = x; plan = refusedPlan; «batch_axes» = refusedReplay .axes; «window_axes» = refusedReplay .axes }
 
--- what compile gives, by its refusal: that, and the plan where there is none
+-- what compile gives, by its refusal: that, and where there is none the plan, with the axes of its walks beside it
 unfoldable pub compiledBy : Answer → Scatter → CompiledScatter
-compiledBy x s = record { answer = x; plan = cond (isDone x) (planOf s) refusedPlan }
+compiledBy x s =
+    record {
+      answer = x;
+      plan = cond (isDone x) (planOf s) refusedPlan;
+      «batch_axes» = cond (isDone x) (batchWalk s .axes) (refusedReplay .axes);
+      «window_axes» = cond (isDone x) (windowWalk s .axes) (refusedReplay .axes);
+    }
 
 abbrev pub compiledScatter : Scatter → CompiledScatter
 compiledScatter s = compiledBy (compileRefusal s) s

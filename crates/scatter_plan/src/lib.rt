@@ -17,7 +17,9 @@ use integer::CheckedU;
 use layout::Answer;
 use layout::Layout;
 use layout::RAW_FUSED_RANK_LIMIT;
+use replay::CompiledReplay;
 use replay::WindowReplay;
+use replay::WindowReplayAxis;
 use scatter_checks::Examined;
 
 // `windows` is the window's extent on each operand axis, `batches` and `cells` how many batches and cells of a window there are.
@@ -38,10 +40,12 @@ pub struct ScatterPlan {
     pub window_elems: u64,
 }
 
-// A plan; where the scatter is refused, the one of no axes.
+// A plan, and the merged axes of its two walks, of which their rows are made; where the scatter is refused, the plan of no axes.
 pub struct CompiledScatter {
     pub answer: Answer,
     pub plan: ScatterPlan,
+    pub batch_axes: [WindowReplayAxis; RAW_FUSED_RANK_LIMIT],
+    pub window_axes: [WindowReplayAxis; RAW_FUSED_RANK_LIMIT],
 }
 
 fn refused(answer: Answer) -> CompiledScatter
@@ -52,6 +56,7 @@ fn refused(answer: Answer) -> CompiledScatter
     let zeros = [0u64; RAW_FUSED_RANK_LIMIT];
     let none = replay::refused_replay();
     let walk = none.replay;
+    let axes = none.axes;
     let l = Layout {
         rank: 0,
         extents,
@@ -83,6 +88,8 @@ fn refused(answer: Answer) -> CompiledScatter
             batch_elems: 0,
             window_elems: 0,
         },
+        batch_axes: axes,
+        window_axes: axes,
     }
 }
 
@@ -134,8 +141,8 @@ fn plan_of(
     inserted: &[u64],
     map: &[u64],
     vector: u64,
-    from_batch: WindowReplay,
-    from_cell: WindowReplay,
+    from_batch: CompiledReplay,
+    from_cell: CompiledReplay,
 ) -> ScatterPlan
     requires { ⌜ Found (scatterFrom (now «index_extents») (now «index_strides») (now «updates_extents») (now «updates_strides») (now «dest_extents») (now «dest_strides») (now window) (now inserted) (now map) vector) «from_batch» «from_cell» ⌝ }
     ensures { λ r. ⌜ r ≡ planOf (scatterFrom (now («index_extents» .entry)) (now («index_strides» .entry)) (now («updates_extents» .entry)) (now («updates_strides» .entry)) (now («dest_extents» .entry)) (now («dest_strides» .entry)) (now (window .entry)) (now (inserted .entry)) (now (map .entry)) vector) ⌝ }
@@ -159,6 +166,8 @@ fn plan_of(
     let c = axis_lists::numbers_from(map);
     let batches = batch_elems(updates_extents, window);
     let cells = product_value(window, updates_extents);
+    let batch = from_batch.replay;
+    let in_window = from_cell.replay;
     ScatterPlan {
         index,
         updates,
@@ -167,8 +176,8 @@ fn plan_of(
         inserted_window_dims: b,
         scatter_dims_to_operand_dims: c,
         index_vector_dim: vector,
-        batch: from_batch,
-        window: from_cell,
+        batch,
+        window: in_window,
         window_shape: windows,
         index_component_offsets: offsets,
         index_operand_strides: strides,
@@ -214,7 +223,14 @@ fn compiled_from(
         from_batch,
         from_cell,
     );
-    CompiledScatter { answer, plan }
+    let batch_axes = from_batch.axes;
+    let window_axes = from_cell.axes;
+    CompiledScatter {
+        answer,
+        plan,
+        batch_axes,
+        window_axes,
+    }
 }
 
 // The plan of a scatter, or its first refusal.

@@ -3,6 +3,7 @@ use mathlib.Core.Path.{_≡_, refl, sym, ap, _∙_}
 use mathlib.Core.Bool.{Bool, _&&_}
 use mathlib.Core.List.{List}
 use Prim.Native.Nat.{ℕ}
+use lib.Dec.{eqb}
 use lib.IntN.{ℤ}
 use Rattle.integer.specs.Defs.{eqZ}
 use Rattle.layout.specs.declared.Layout.{Layout}
@@ -11,11 +12,10 @@ use Rattle.axis_lists.specs.declared.Steps.{Steps}
 use Rattle.axis_lists.specs.Held.{Decides}
 use Rattle.equality.specs.Same.{sameBy}
 use Rattle.equality.proofs.Compare.{and-true, and-both, numbers-decide, ints-decide, lists-decide, layouts-decide, held-decide, steps-decide}
-use Rattle.replay.specs.declared.WindowReplayAxis.{WindowReplayAxis}
 use Rattle.replay.specs.declared.ReplaySpans.{ReplaySpans}
 use Rattle.replay.specs.declared.WindowReplay.{WindowReplay}
 use Rattle.scatter_plan.specs.declared.ScatterPlan.{ScatterPlan}
-use Rattle.scatter_same.specs.Same.{sameStep, sameSpans, sameReplay, sameLayouts, sameSpec, sameWalks, sameStarts, samePlan, sameRows}
+use Rattle.scatter_same.specs.Same.{sameSpans, sameReplay, sameLayouts, sameSpec, sameWalks, sameStarts, samePlan, sameRows}
 
 -- two parts together
 pairs-decide : {A B : Type 0} {r t : Bool} {x y : A} {u v : B} → Decides r x y → Decides t u v → Decides {A = A × B} (r && t) (x, u) (y, v)
@@ -28,18 +28,6 @@ pairs-decide {A} {B} {r} {t} {x} {y} {u} {v} p q =
 -- a whole by its parts
 whole-decides : {A T : Type 0} (parts : A → T) (make : T → A) → ((a : A) → make (parts a) ≡ a) → (r : Bool) (a b : A) → Decides r (parts a) (parts b) → Decides r a b
 whole-decides parts make back r a b p = record { yes = λ e. sym (back a) ∙ ap make (p .yes e) ∙ back b; no = λ e. p .no (ap parts e) }
-
-abbrev StepParts : Type 0
-StepParts = ℕ × (ℤ × (ℤ × (ℤ × ℤ)))
-
-steps-same : (a b : WindowReplayAxis) → Decides (sameStep a b) a b
-unfolding sameStep
-steps-same a b =
-    whole-decides {T = StepParts} (λ (x : WindowReplayAxis). (x .extent, (x .«source_step», (x .«source_reset», (x .«dest_step», x .«dest_reset»)))))
-    (λ (t : StepParts). record { extent = t .0; «source_step» = t .1 .0; «source_reset» = t .1 .1 .0; «dest_step» = t .1 .1 .1 .0; «dest_reset» = t .1 .1 .1 .1 })
-    (λ x. refl) (sameStep a b) a b
-    (pairs-decide (numbers-decide (a .extent) (b .extent)) (pairs-decide (ints-decide (a .«source_step») (b .«source_step»)) (pairs-decide (ints-decide (a .«source_reset») (b .«source_reset»))
-    (pairs-decide (ints-decide (a .«dest_step») (b .«dest_step»)) (ints-decide (a .«dest_reset») (b .«dest_reset»))))))
 
 abbrev SpanParts : Type 0
 SpanParts = ℤ × (ℤ × (ℤ × ℤ))
@@ -54,14 +42,14 @@ spans-decide a b =
     (pairs-decide (ints-decide (a .«dest_low») (b .«dest_low»)) (ints-decide (a .«dest_high») (b .«dest_high»)))))
 
 abbrev ReplayParts : Type 0
-ReplayParts = ℕ × (List WindowReplayAxis × ReplaySpans)
+ReplayParts = ℕ × (List ℕ × ReplaySpans)
 
 pub replays-decide : (a b : WindowReplay) → Decides (sameReplay a b) a b
 unfolding sameReplay
 replays-decide a b =
-    whole-decides {T = ReplayParts} (λ (x : WindowReplay). (x .rank, (x .axes, x .spans))) (λ (t : ReplayParts). record { rank = t .0; axes = t .1 .0; spans = t .1 .1 })
+    whole-decides {T = ReplayParts} (λ (x : WindowReplay). (x .rank, (x .extents, x .spans))) (λ (t : ReplayParts). record { rank = t .0; extents = t .1 .0; spans = t .1 .1 })
     (λ x. refl) (sameReplay a b) a b
-    (pairs-decide (numbers-decide (a .rank) (b .rank)) (pairs-decide (lists-decide sameStep steps-same (a .axes) (b .axes)) (spans-decide (a .spans) (b .spans))))
+    (pairs-decide (numbers-decide (a .rank) (b .rank)) (pairs-decide (lists-decide eqb numbers-decide (a .extents) (b .extents)) (spans-decide (a .spans) (b .spans))))
 
 pub rows-decide : (a b : List (List ℤ)) → Decides (sameRows a b) a b
 rows-decide = lists-decide (sameBy eqZ) (lists-decide eqZ ints-decide)

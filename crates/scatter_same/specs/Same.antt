@@ -6,27 +6,21 @@ use lib.IntN.{ℤ}
 use Rattle.integer.specs.Defs.{eqZ}
 use Rattle.layout.specs.Answers.{isDone}
 use Rattle.equality.specs.Same.{sameBy, sameLayout, sameNumbers, sameSteps}
-use Rattle.replay.specs.declared.WindowReplayAxis.{WindowReplayAxis}
 use Rattle.replay.specs.declared.ReplaySpans.{ReplaySpans}
 use Rattle.replay.specs.declared.WindowReplay.{WindowReplay}
 use Rattle.replay.specs.Replays.{rowsOf}
 use Rattle.scatter_plan.specs.declared.ScatterPlan.{ScatterPlan}
+use Rattle.scatter_plan.specs.declared.CompiledScatter.{CompiledScatter}
 use Rattle.scatter_plan.specs.Plan.{compiledAgain, heldScatter}
 
--- field by field, arrays past their counts as well: an axis of a walk, its spans, the walk
-unfoldable pub sameStep : WindowReplayAxis → WindowReplayAxis → Bool
-sameStep a b =
-    eqb (a .extent) (b .extent)
-    && (eqZ (a .«source_step») (b .«source_step») && (eqZ (a .«source_reset») (b .«source_reset»)
-    && (eqZ (a .«dest_step») (b .«dest_step») && eqZ (a .«dest_reset») (b .«dest_reset»))))
-
+-- field by field, arrays past their counts as well: a walk's spans, the walk
 unfoldable pub sameSpans : ReplaySpans → ReplaySpans → Bool
 sameSpans a b =
     eqZ (a .«source_low») (b .«source_low») && (eqZ (a .«source_high») (b .«source_high»)
     && (eqZ (a .«dest_low») (b .«dest_low») && eqZ (a .«dest_high») (b .«dest_high»)))
 
 unfoldable pub sameReplay : WindowReplay → WindowReplay → Bool
-sameReplay a b = eqb (a .rank) (b .rank) && (sameBy sameStep (a .axes) (b .axes) && sameSpans (a .spans) (b .spans))
+sameReplay a b = eqb (a .rank) (b .rank) && (sameBy eqb (a .extents) (b .extents) && sameSpans (a .spans) (b .spans))
 
 -- the layouts, the spec, the two walks with their counts, and what the starts take
 unfoldable pub sameLayouts : ScatterPlan → ScatterPlan → Bool
@@ -58,10 +52,10 @@ abbrev pub sameRows : List (List ℤ) → List (List ℤ) → Bool
 sameRows = sameBy (sameBy eqZ)
 
 -- "The steps of a `WindowReplay` walk are rows, one per axis, four numbers in a row, held beside the plan's struct"
-unfoldable pub hasRows : ScatterPlan → List (List ℤ) → List (List ℤ) → Bool
-hasRows p b w = sameRows b (rowsOf (p .batch .axes)) && sameRows w (rowsOf (p .window .axes))
+unfoldable pub hasRows : CompiledScatter → List (List ℤ) → List (List ℤ) → Bool
+hasRows c b w = sameRows b (rowsOf (c .«batch_axes»)) && sameRows w (rowsOf (c .«window_axes»))
 
--- "the plan is .. what compile gives for the layouts and spec in it, 4 not tried again", and the rows are those of its walks
+-- "the plan is .. what compile gives for the layouts and spec in it, 4 not tried again", and the rows are those that it gives beside it
 unfoldable pub isCompiled : ScatterPlan → List (List ℤ) → List (List ℤ) → Bool
 isCompiled p b w =
-    isDone (compiledAgain (heldScatter p) .answer) && (samePlan p (compiledAgain (heldScatter p) .plan) && hasRows p b w)
+    isDone (compiledAgain (heldScatter p) .answer) && (samePlan p (compiledAgain (heldScatter p) .plan) && hasRows (compiledAgain (heldScatter p)) b w)

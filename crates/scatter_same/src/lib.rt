@@ -4,42 +4,12 @@ ghost use mathlib.Core.Path.{_≡_};
 ghost use Rattle.integer.specs.Defs.{eqZ};
 ghost use Rattle.equality.specs.Same.{sameBy};
 ghost use Rattle.scatter_plan.specs.Plan.{compiledAgain, heldScatter};
-ghost use Rattle.scatter_same.specs.Same.{sameStep, sameSpans, sameReplay, sameRows, sameLayouts, sameSpec, sameWalks, sameStarts, samePlan, hasRows, isCompiled};
+ghost use Rattle.scatter_same.specs.Same.{sameSpans, sameReplay, sameRows, sameLayouts, sameSpec, sameWalks, sameStarts, samePlan, hasRows, isCompiled};
 use layout::RAW_FUSED_RANK_LIMIT;
 use replay::ReplaySpans;
 use replay::WindowReplay;
-use replay::WindowReplayAxis;
 use scatter_plan::CompiledScatter;
 use scatter_plan::ScatterPlan;
-
-fn same_step(a: WindowReplayAxis, b: WindowReplayAxis) -> bool
-    ensures { λ r. ⌜ r ≡ sameStep a b ⌝ }
-{
-    let c = equality::same_i64(a.source_step, b.source_step);
-    let d = equality::same_i64(a.source_reset, b.source_reset);
-    let e = equality::same_i64(a.dest_step, b.dest_step);
-    let f = equality::same_i64(a.dest_reset, b.dest_reset);
-    let last = equality::both(c, equality::both(d, equality::both(e, f)));
-    equality::both(a.extent == b.extent, last)
-}
-
-fn same_axes(
-    a: [WindowReplayAxis; RAW_FUSED_RANK_LIMIT],
-    b: [WindowReplayAxis; RAW_FUSED_RANK_LIMIT],
-) -> bool
-    ensures { λ r. ⌜ r ≡ sameBy sameStep a b ⌝ }
-{
-    let mut i: usize = 0;
-    while i < RAW_FUSED_RANK_LIMIT {
-        let x = a[i];
-        let y = b[i];
-        if !same_step(x, y) {
-            return false;
-        }
-        i += 1;
-    }
-    true
-}
 
 fn same_spans(a: ReplaySpans, b: ReplaySpans) -> bool
     ensures { λ r. ⌜ r ≡ sameSpans a b ⌝ }
@@ -54,13 +24,13 @@ fn same_spans(a: ReplaySpans, b: ReplaySpans) -> bool
 fn same_replay(a: WindowReplay, b: WindowReplay) -> bool
     ensures { λ r. ⌜ r ≡ sameReplay a b ⌝ }
 {
-    let x = a.axes;
-    let y = b.axes;
-    let axes = same_axes(x, y);
+    let x = a.extents;
+    let y = b.extents;
+    let extents = equality::same_u64s(x, y);
     let s = a.spans;
     let t = b.spans;
     let spans = same_spans(s, t);
-    equality::both(a.rank == b.rank, equality::both(axes, spans))
+    equality::both(a.rank == b.rank, equality::both(extents, spans))
 }
 
 fn same_layouts(a: ScatterPlan, b: ScatterPlan) -> bool
@@ -170,18 +140,16 @@ pub fn same_rows(a: [[i64; 4]; RAW_FUSED_RANK_LIMIT], b: [[i64; 4]; RAW_FUSED_RA
     true
 }
 
-// Whether these are the rows of a plan's two walks.
+// Whether these are the rows of the two walks that compile gave.
 fn has_rows(
-    plan: ScatterPlan,
+    fresh: CompiledScatter,
     batch_rows: [[i64; 4]; RAW_FUSED_RANK_LIMIT],
     window_rows: [[i64; 4]; RAW_FUSED_RANK_LIMIT],
 ) -> bool
-    ensures { λ r. ⌜ r ≡ hasRows plan «batch_rows» «window_rows» ⌝ }
+    ensures { λ r. ⌜ r ≡ hasRows fresh «batch_rows» «window_rows» ⌝ }
 {
-    let batch = plan.batch;
-    let window = plan.window;
-    let batch_axes = batch.axes;
-    let window_axes = window.axes;
+    let batch_axes = fresh.batch_axes;
+    let window_axes = fresh.window_axes;
     let expected = replay::rows_of(batch_axes);
     let wanted = replay::rows_of(window_axes);
     let first = same_rows(batch_rows, expected);
@@ -241,6 +209,6 @@ pub fn is_compiled(
     let fresh = again.plan;
     let done = layout::is_done(answer);
     let same = same_plan(plan, fresh);
-    let rows = has_rows(plan, batch_rows, window_rows);
+    let rows = has_rows(again, batch_rows, window_rows);
     equality::both(done, equality::both(same, rows))
 }

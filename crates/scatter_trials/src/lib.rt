@@ -25,15 +25,13 @@ pub fn compile(window: u64) -> CompiledScatter {
     )
 }
 
-pub fn batch_rows(plan: ScatterPlan) -> [[i64; 4]; RAW_FUSED_RANK_LIMIT] {
-    let walk = plan.batch;
-    let axes = walk.axes;
+pub fn batch_rows(compiled: CompiledScatter) -> [[i64; 4]; RAW_FUSED_RANK_LIMIT] {
+    let axes = compiled.batch_axes;
     replay::rows_of(axes)
 }
 
-pub fn window_rows(plan: ScatterPlan) -> [[i64; 4]; RAW_FUSED_RANK_LIMIT] {
-    let walk = plan.window;
-    let axes = walk.axes;
+pub fn window_rows(compiled: CompiledScatter) -> [[i64; 4]; RAW_FUSED_RANK_LIMIT] {
+    let axes = compiled.window_axes;
     replay::rows_of(axes)
 }
 
@@ -80,9 +78,10 @@ pub fn call(
 }
 
 // The call on views of no axes, as the plan has them that stands where compile refused.
-pub fn call_on_scalars(plan: ScatterPlan, into: &mut [i32]) -> Answer {
-    let batch = batch_rows(plan);
-    let window = window_rows(plan);
+pub fn call_on_scalars(compiled: CompiledScatter, into: &mut [i32]) -> Answer {
+    let plan = compiled.plan;
+    let batch = batch_rows(compiled);
+    let window = window_rows(compiled);
     let scalar = view(&[], &[]);
     call_on(plan, batch, window, scalar, scalar, scalar, into)
 }
@@ -111,45 +110,60 @@ pub enum Change {
     WindowRows,
 }
 
-// A changed plan with the rows of the compiled one, and with the rows of its own walks.
-fn try_plan(plan: ScatterPlan, changed: ScatterPlan, counted: Counts) -> Counts {
-    let first = try_call(changed, batch_rows(plan), window_rows(plan), counted);
-    try_call(changed, batch_rows(changed), window_rows(changed), first)
+// A changed plan with the rows of the compiled one.
+fn try_plan(compiled: CompiledScatter, changed: ScatterPlan, counted: Counts) -> Counts {
+    try_call(
+        changed,
+        batch_rows(compiled),
+        window_rows(compiled),
+        counted,
+    )
 }
 
-fn try_batch_rows(plan: ScatterPlan, i: usize, k: u64, counted: Counts) -> Counts {
-    let rows = changed_scatters::changed_rows(batch_rows(plan), i, k);
-    try_call(plan, rows, window_rows(plan), counted)
+fn try_batch_rows(compiled: CompiledScatter, i: usize, k: u64, counted: Counts) -> Counts {
+    let plan = compiled.plan;
+    let rows = changed_scatters::changed_rows(batch_rows(compiled), i, k);
+    try_call(plan, rows, window_rows(compiled), counted)
 }
 
-fn try_window_rows(plan: ScatterPlan, i: usize, k: u64, counted: Counts) -> Counts {
-    let rows = changed_scatters::changed_rows(window_rows(plan), i, k);
-    try_call(plan, batch_rows(plan), rows, counted)
+fn try_window_rows(compiled: CompiledScatter, i: usize, k: u64, counted: Counts) -> Counts {
+    let plan = compiled.plan;
+    let rows = changed_scatters::changed_rows(window_rows(compiled), i, k);
+    try_call(plan, batch_rows(compiled), rows, counted)
 }
 
 // Number i of what is changed, in the way k of three.
-fn try_number(plan: ScatterPlan, change: Change, i: usize, k: u64, counted: Counts) -> Counts {
+fn try_number(
+    compiled: CompiledScatter,
+    change: Change,
+    i: usize,
+    k: u64,
+    counted: Counts,
+) -> Counts {
+    let plan = compiled.plan;
     match change {
-        Change::Field(field) => {
-            try_plan(plan, changed_scatters::changed(plan, field, i, k), counted)
-        }
-        Change::BatchRows => try_batch_rows(plan, i, k, counted),
-        Change::WindowRows => try_window_rows(plan, i, k, counted),
+        Change::Field(field) => try_plan(
+            compiled,
+            changed_scatters::changed(plan, field, i, k),
+            counted,
+        ),
+        Change::BatchRows => try_batch_rows(compiled, i, k, counted),
+        Change::WindowRows => try_window_rows(compiled, i, k, counted),
     }
 }
 
 // The three changes of one number.
-fn try_place(plan: ScatterPlan, change: Change, i: usize, counted: Counts) -> Counts {
-    let first = try_number(plan, change, i, 0, counted);
-    let second = try_number(plan, change, i, 1, first);
-    try_number(plan, change, i, 2, second)
+fn try_place(compiled: CompiledScatter, change: Change, i: usize, counted: Counts) -> Counts {
+    let first = try_number(compiled, change, i, 0, counted);
+    let second = try_number(compiled, change, i, 1, first);
+    try_number(compiled, change, i, 2, second)
 }
 
-pub fn try_places(plan: ScatterPlan, change: Change, places: usize) -> Counts {
+pub fn try_places(compiled: CompiledScatter, change: Change, places: usize) -> Counts {
     let mut counted = counts::none();
     let mut i: usize = 0;
     while i < places {
-        counted = try_place(plan, change, i, counted);
+        counted = try_place(compiled, change, i, counted);
         i += 1;
     }
     counted

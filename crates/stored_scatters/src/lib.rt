@@ -1,9 +1,6 @@
 // A stored scatter, whole: compile, then the call.
 use layout::Answer;
-use layout::RAW_FUSED_RANK_LIMIT;
-use replay::WindowReplay;
 use scatter_plan::CompiledScatter;
-use scatter_plan::ScatterPlan;
 use stored_reader::packed;
 use stored_reader::packed::list;
 use stored_reader::packed::signed_list;
@@ -24,24 +21,20 @@ fn compile(head: &[u8], words: &[u64], numbers: &[i64]) -> CompiledScatter {
     )
 }
 
-fn rows_of(walk: WindowReplay) -> [[i64; 4]; RAW_FUSED_RANK_LIMIT] {
-    let axes = walk.axes;
-    replay::rows_of(axes)
-}
-
 // The call of a plan, with the rows of its walks.
 fn run_i32(
-    plan: ScatterPlan,
+    compiled: CompiledScatter,
     head: &[u8],
     words: &[u64],
     numbers: &[i64],
     source: &[i32],
     into: &mut [i32],
 ) -> Answer {
-    let batch = plan.batch;
-    let window = plan.window;
-    let batch_rows = rows_of(batch);
-    let window_rows = rows_of(window);
+    let plan = compiled.plan;
+    let batch_axes = compiled.batch_axes;
+    let window_axes = compiled.window_axes;
+    let batch_rows = replay::rows_of(batch_axes);
+    let window_rows = replay::rows_of(window_axes);
     let index = views::call_view(head, words, numbers, 0);
     let updates = views::call_view(head, words, numbers, 1);
     let dest = views::call_view(head, words, numbers, 2);
@@ -69,10 +62,9 @@ pub fn call_i32(
 ) -> Answer {
     let compiled = compile(head, words, numbers);
     let answer = compiled.answer;
-    let plan = compiled.plan;
     let refused = views::refusal(answer, head, words, numbers);
     if layout::is_done(refused) {
-        run_i32(plan, head, words, numbers, source, into)
+        run_i32(compiled, head, words, numbers, source, into)
     } else {
         refused
     }
@@ -80,17 +72,18 @@ pub fn call_i32(
 
 // The call of a plan, with the rows of its walks.
 fn run_f64(
-    plan: ScatterPlan,
+    compiled: CompiledScatter,
     head: &[u8],
     words: &[u64],
     numbers: &[i64],
     source: &[f64],
     into: &mut [f64],
 ) -> Answer {
-    let batch = plan.batch;
-    let window = plan.window;
-    let batch_rows = rows_of(batch);
-    let window_rows = rows_of(window);
+    let plan = compiled.plan;
+    let batch_axes = compiled.batch_axes;
+    let window_axes = compiled.window_axes;
+    let batch_rows = replay::rows_of(batch_axes);
+    let window_rows = replay::rows_of(window_axes);
     let index = views::call_view(head, words, numbers, 0);
     let updates = views::call_view(head, words, numbers, 1);
     let dest = views::call_view(head, words, numbers, 2);
@@ -118,10 +111,9 @@ pub fn call_f64(
 ) -> Answer {
     let compiled = compile(head, words, numbers);
     let answer = compiled.answer;
-    let plan = compiled.plan;
     let refused = views::refusal(answer, head, words, numbers);
     if layout::is_done(refused) {
-        run_f64(plan, head, words, numbers, source, into)
+        run_f64(compiled, head, words, numbers, source, into)
     } else {
         refused
     }

@@ -91,7 +91,7 @@ fn compile(extents: &[u64], sources: &[i64], dests: &[i64]) {
     let made = replay::compile_window_replay(shape, s, d, extents.len());
     let answer = made.answer;
     let plan = made.replay;
-    let axes = plan.axes;
+    let axes = made.axes;
     if layout::is_done(answer) {
         put_axes(axes, plan.rank);
     } else {
@@ -161,7 +161,8 @@ fn walk_from(
     let answer = made.answer;
     let plan = made.replay;
     let spans = plan.spans;
-    let axes = plan.axes;
+    let axes = made.axes;
+    let merged = plan.extents;
     if !layout::is_done(answer) {
         return put_refused(answer);
     }
@@ -174,7 +175,6 @@ fn walk_from(
     if !walk::covers(spans.dest_low, spans.dest_high, dest_base) {
         return printing::put(b" out of reach\n");
     }
-    let merged = replay::shape_of(axes);
     let rows = replay::rows_of(axes);
     let count = plan.rank;
     places(merged, rows, count, source_base, dest_base, total);

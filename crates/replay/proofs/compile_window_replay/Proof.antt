@@ -10,12 +10,12 @@ use Rattle.integer.specs.Z.{back}
 use Rattle.layout.specs.declared.OffsetSpan.{OffsetSpan}
 use Rattle.layout.specs.declared.OffsetSpan.the-variants as S
 use Rattle.layout.specs.Spans.{spanned}
-use Rattle.replay.specs.Replays.{fused, theSpans, refusedReplay, compiledBy, compiledReplay}
+use Rattle.replay.specs.Replays.{givenAxes, theSpans, refusedReplay, walkOf, compiledReplay}
 use Rattle.replay.proofs.compile_window_replay.Statement.{statement}
 use Rattle.replay.proofs.compile_window_replay.Tie as tie
 
 module _ (ds : List ℕ) (ss ts : List ℤ) (x y : OffsetSpan) (ex : x ≡ spanned ds ss) (ey : y ≡ spanned ds ts) where
-  passes : (a b c d : ℤ) → x ≡ S.Fits a b → y ≡ S.Fits c d → compiledBy (fused ds ss ts) (theSpans a b c d) ≡ compiledReplay ds ss ts
+  passes : (a b c d : ℤ) → x ≡ S.Fits a b → y ≡ S.Fits c d → walkOf (givenAxes ds ss ts) (theSpans a b c d) ≡ compiledReplay ds ss ts
   unfolding compiledReplay
   passes a b c d ox oy = rw (← ex, ox, ← ey, oy)
 
@@ -67,7 +67,7 @@ returns c =
     let fc : SFits w64 (y .0) = sfits-of (u .known-told2 .given .0 .1) in
     let fd : SFits w64 (y .1 .0) = sfits-of (u .known-told2 .given .1 .0 .1) in
     c .fuse .ensures
-    ∙ (λ ι. compiledBy (fused (take (s .args .rank) (s .args .shape)) (take (s .args .rank) (s .args .source-strides)) (take (s .args .rank) (s .args .dest-strides))) (theSpans (back fa ι) (back fb ι) (back fc ι) (back fd ι)))
+    ∙ (λ ι. walkOf (givenAxes (take (s .args .rank) (s .args .shape)) (take (s .args .rank) (s .args .source-strides)) (take (s .args .rank) (s .args .dest-strides))) (theSpans (back fa ι) (back fb ι) (back fc ι) (back fd ι)))
     ∙ passes (take (s .args .rank) (s .args .shape)) (take (s .args .rank) (s .args .source-strides)) (take (s .args .rank) (s .args .dest-strides)) (v .before .held-span .result) (v .held-span2 .result) (v .before .held-span .ensures) (v .held-span2 .ensures) (x .0) (x .1 .0) (y .0) (y .1 .0) (k .before .source-span .given .1) (u .before .dest-span .given .1)
 
 returns-2 : tie.Need-returns-2

@@ -2,13 +2,14 @@ use mathlib.Core.Path.{_≡_, ap, ap₂, _∙_}
 use Prim.Native.Nat.{_<_}
 use native.Mathlib.Omega.{arith}
 use lib.ListN.{length, getD, replicate}
-use lib.IntN.{pos}
+use lib.IntN.{ℤ, pos}
 use mir.Syntax.{w64}
 use mir.Val.{SFits}
 use Rattle.integer.specs.Z.{back}
 use Rattle.layout.specs.Layouts.{rankLimit}
 use Rattle.replay.specs.declared.WindowReplayAxis.{WindowReplayAxis}
-use Rattle.replay.specs.Replays.{Merged, axisOf, doneReplay, compiledBy}
+use Rattle.replay.specs.Replays.{axisOf, doneReplay}
+use Rattle.replay.specs.Parts.{checkedAxis}
 use Rattle.replay.proofs.Turns.{fuse-none, first-over, first-fits}
 use borrow.Author.Needs.{needs}
 use Rattle.replay.proofs.fuse.Statement.{statement}
@@ -25,12 +26,12 @@ some : (m : tie.After-make-axis) → 0 < m .before .before .before .before .args
 some m = omega (arith, m .before .before .before .if1 .left)
 
 -- what the call of `make_axis` returned, of the numbers themselves
-first-axis : (m : tie.After-make-axis) → m .make-axis .result ≡ axisOf (getD (m .before .before .before .before .args .t1) 0 0) (getD (m .before .before .before .before .args .t2) 0 (pos 0)) (getD (m .before .before .before .before .args .t3) 0 (pos 0))
+first-axis : (m : tie.After-make-axis) → m .make-axis .result ≡ checkedAxis (axisOf (getD (m .before .before .before .before .args .t1) 0 0) (getD (m .before .before .before .before .args .t2) 0 (pos 0)) (getD (m .before .before .before .before .args .t3) 0 (pos 0)))
 first-axis m =
     let s = m .before .before .before .before in
     let f : SFits w64 (getD (s .args .t2) 0 (pos 0)) = search needs in
     let g : SFits w64 (getD (s .args .t3) 0 (pos 0)) = search needs in
-    m .make-axis .ensures ∙ ap₂ (axisOf (getD (s .args .t1) 0 0)) (back f) (back g)
+    m .make-axis .ensures ∙ ap₂ (λ (x y : ℤ). checkedAxis (axisOf (getD (s .args .t1) 0 0) x y)) (back f) (back g)
 
 no-axis-requires : tie.Need-no-axis-requires
 no-axis-requires c κs = tt
@@ -74,13 +75,13 @@ returns-2 c =
     let k = c .before .before in
     let m = k .before .before in
     let s = m .before .before .before .before in
-    c .fuse-rest .ensures ∙ ap (λ (x : Merged). compiledBy x (s .args .spans)) (first-fits (s .args .t1) (s .args .t2) (s .args .t3) (s .args .rank) (full s .0) (full s .1) (full s .2) (some m) (m .make-axis .result) (first-axis m) (k .first .given .0 .0) (k .first .given .1))
+    c .fuse-rest .ensures ∙ first-fits (s .args .t1) (s .args .t2) (s .args .t3) (s .args .rank) (full s .0) (full s .1) (full s .2) (some m) (m .make-axis .result) (first-axis m) (s .args .spans) (k .first .given .0 .0) (k .first .given .1)
 
 returns-3 : tie.Need-returns-3
 returns-3 c =
     let m = c .before .before .before in
     let s = m .before .before .before .before in
-    c .refused-replay .ensures ∙ ap (λ (x : Merged). compiledBy x (s .args .spans)) (first-over (s .args .t1) (s .args .t2) (s .args .t3) (s .args .rank) (full s .0) (full s .1) (full s .2) (some m) (m .make-axis .result) (first-axis m) (c .before .enum-told .given .1))
+    c .refused-replay .ensures ∙ first-over (s .args .t1) (s .args .t2) (s .args .t3) (s .args .rank) (full s .0) (full s .1) (full s .2) (some m) (m .make-axis .result) (first-axis m) (s .args .spans) (c .before .enum-told .given .1)
 
 pub fuse-spec : {M : Type 1} → statement M
 fuse-spec =

@@ -1,15 +1,16 @@
-use mathlib.Core.Path.{_≡_, sym, ap, ap₂, subst, _∙_}
+use mathlib.Core.Path.{_≡_, sym, ap₂, subst, _∙_}
 use Prim.Native.Nat.{_-_, _<_, min}
 use native.Mathlib.Omega.{arith}
 use lib.ListN.{length, getD, replicate}
-use lib.IntN.{pos}
+use lib.IntN.{ℤ, pos}
 use mir.Syntax.{w64}
 use mir.Val.{SFits}
 use borrow.Author.Needs.{needs}
 use Rattle.integer.specs.Z.{back}
 use Rattle.layout.specs.Layouts.{rankLimit}
 use Rattle.replay.specs.declared.WindowReplayAxis.{WindowReplayAxis}
-use Rattle.replay.specs.Replays.{Merged, joinOf, compiledBy}
+use Rattle.replay.specs.Replays.{axisOf}
+use Rattle.replay.specs.Parts.{joinedAxis}
 use Rattle.replay.proofs.Turns.{Fusing, fusing-first, fusing-over, fusing-merged, fusing-apart, fusing-done}
 use Rattle.replay.proofs.fuse_rest.Statement.{statement}
 use Rattle.replay.proofs.fuse_rest.Tie as tie
@@ -35,14 +36,14 @@ full s =
     (a, b, d)
 
 -- what the call of `join` returned, of the numbers themselves
-joined : (j : tie.After-join Inv-loop μ-loop) → j .join .result ≡ joinOf (j .before .before .before .before .loop .last) (getD (start (j .before .before .before .before) .args .t2) (j .before .before .before .before .loop .i) 0) (getD (start (j .before .before .before .before) .args .t3) (j .before .before .before .before .loop .i) (pos 0)) (getD (start (j .before .before .before .before) .args .t4) (j .before .before .before .before .loop .i) (pos 0))
+joined : (j : tie.After-join Inv-loop μ-loop) → j .join .result ≡ joinedAxis (j .before .before .before .before .loop .last) (axisOf (getD (start (j .before .before .before .before) .args .t2) (j .before .before .before .before .loop .i) 0) (getD (start (j .before .before .before .before) .args .t3) (j .before .before .before .before .loop .i) (pos 0)) (getD (start (j .before .before .before .before) .args .t4) (j .before .before .before .before .loop .i) (pos 0)))
 joined j =
     let l = j .before .before .before .before in
     let s = start l in
     let i = l .loop .i in
     let f : SFits w64 (getD (s .args .t3) i (pos 0)) = search needs in
     let g : SFits w64 (getD (s .args .t4) i (pos 0)) = search needs in
-    j .join .ensures ∙ ap₂ (joinOf (l .loop .last) (getD (s .args .t2) i 0)) (back f) (back g)
+    j .join .ensures ∙ ap₂ (λ (x y : ℤ). joinedAxis (l .loop .last) (axisOf (getD (s .args .t2) i 0) x y)) (back f) (back g)
 
 here : (j : tie.After-join Inv-loop μ-loop) → j .before .before .before .before .loop .i < min (start (j .before .before .before .before) .args .rank) rankLimit
 here j = omega (arith, counted (j .before .before .before .before), j .before .before .before .loop-test .taken)
@@ -94,7 +95,7 @@ loop-again c =
     let j = c .before .before .before in
     let l = j .before .before .before .before in
     let s = start l in
-    fusing-merged (s .args .t2) (s .args .t3) (s .args .t4) (s .args .rank) (full s .0) (full s .1) (full s .2) (s .args .first) (l .loop .axes) (l .loop .last) (l .loop .n) (l .loop .i) (l .loop .inv) (here j) (j .join .result) (joined j) (c .before .joined .given .0 .0) (c .before .joined .given .1)
+    fusing-merged (s .args .t2) (s .args .t3) (s .args .t4) (s .args .rank) (full s .0) (full s .1) (full s .2) (s .args .first) (l .loop .axes) (l .loop .last) (l .loop .n) (l .loop .i) (l .loop .inv) (s .args .spans) (here j) (j .join .result) (joined j) (c .before .joined .given .0 .0) (c .before .joined .given .1)
 
 enum-known-joined-2 : tie.Need-enum-known-joined-2 Inv-loop μ-loop
 enum-known-joined-2 c = search needs
@@ -116,7 +117,7 @@ loop-again-2 c =
     let j = c .before .before .before in
     let l = j .before .before .before .before in
     let s = start l in
-    fusing-apart (s .args .t2) (s .args .t3) (s .args .t4) (s .args .rank) (full s .0) (full s .1) (full s .2) (s .args .first) (l .loop .axes) (l .loop .last) (l .loop .n) (l .loop .i) (l .loop .inv) (here j) (j .join .result) (joined j) (c .before .joined2 .given .0 .0) (c .before .joined2 .given .1)
+    fusing-apart (s .args .t2) (s .args .t3) (s .args .t4) (s .args .rank) (full s .0) (full s .1) (full s .2) (s .args .first) (l .loop .axes) (l .loop .last) (l .loop .n) (l .loop .i) (l .loop .inv) (s .args .spans) (here j) (j .join .result) (joined j) (c .before .joined2 .given .0 .0) (c .before .joined2 .given .1)
 
 enum-told : tie.Need-enum-told Inv-loop μ-loop
 enum-told c = search needs
@@ -129,7 +130,7 @@ returns c =
     let j = c .before .before .before in
     let l = j .before .before .before .before in
     let s = start l in
-    c .refused-replay .ensures ∙ ap (λ (m : Merged). compiledBy m (s .args .spans)) (fusing-over (s .args .t2) (s .args .t3) (s .args .t4) (s .args .rank) (full s .0) (full s .1) (full s .2) (s .args .first) (l .loop .axes) (l .loop .last) (l .loop .n) (l .loop .i) (l .loop .inv) (here j) (j .join .result) (joined j) (c .before .enum-told .given .1))
+    c .refused-replay .ensures ∙ fusing-over (s .args .t2) (s .args .t3) (s .args .t4) (s .args .rank) (full s .0) (full s .1) (full s .2) (s .args .first) (l .loop .axes) (l .loop .last) (l .loop .n) (l .loop .i) (l .loop .inv) (s .args .spans) (here j) (j .join .result) (joined j) (c .before .enum-told .given .1)
 
 mul-axes-2 : tie.Need-mul-axes-2 Inv-loop μ-loop
 mul-axes-2 c = search needs

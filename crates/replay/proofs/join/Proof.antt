@@ -6,8 +6,9 @@ use mir.Val.{SFits}
 use borrow.Author.Needs.{sfits-of, needs}
 use borrow.Author.Tests.{not-true, not-false}
 use Rattle.integer.specs.Z.{back}
-use Rattle.integer.specs.Defs.{checkedU, eqZ}
-use Rattle.replay.specs.Replays.{axisOf, joinAfterU, asMerged, asApart, past}
+use Rattle.integer.specs.Defs.{eqZ}
+use Rattle.replay.specs.Replays.{axisOf}
+use Rattle.replay.specs.Parts.{past, checkedAxis, asMerged, asApart}
 use Rattle.replay.proofs.Joins.{join-over, join-over2, join-merge, join-apart, join-apart2}
 use Rattle.replay.proofs.join.Statement.{statement}
 use Rattle.replay.proofs.join.Tie as tie
@@ -54,7 +55,7 @@ returns c =
     let fa : SFits w64 a = sfits-of (k .known-told .given .0 .1) in
     let fb : SFits w64 b = sfits-of (z .known-told2 .given .0 .1) in
     c .apart .ensures
-    ∙ ap asApart (ap₂ (axisOf (s .args .extent)) (back (s .fits .source)) (back (s .fits .dest)))
+    ∙ ap₂ (λ (x y : ℤ). asApart (checkedAxis (axisOf (s .args .extent) x y))) (back (s .fits .source)) (back (s .fits .dest))
     ∙ join-apart (s .args .before) (s .args .extent) (s .args .source) (s .args .dest) (h .before .past-last .result) (h .past-last2 .result) (expected h) (expected2 h) a b (k .before .expected-source .given .1) (z .before .expected-dest .given .1) (sym (c .before .before .same .ensures ∙ ap₂ eqZ (back (s .fits .source)) (back fa)) ∙ not-true _ (c .before .if1 .taken))
 
 same-requires-2 : tie.Need-same-requires-2
@@ -74,7 +75,7 @@ returns-2 c =
     let fa : SFits w64 a = sfits-of (k .known-told .given .0 .1) in
     let fb : SFits w64 b = sfits-of (z .known-told2 .given .0 .1) in
     c .apart2 .ensures
-    ∙ ap asApart (ap₂ (axisOf (s .args .extent)) (back (s .fits .source)) (back (s .fits .dest)))
+    ∙ ap₂ (λ (x y : ℤ). asApart (checkedAxis (axisOf (s .args .extent) x y))) (back (s .fits .source)) (back (s .fits .dest))
     ∙ join-apart2 (s .args .before) (s .args .extent) (s .args .source) (s .args .dest) (h .before .past-last .result) (h .past-last2 .result) (expected h) (expected2 h) a b (k .before .expected-source .given .1) (z .before .expected-dest .given .1) (sym (c .before .before .before .before .same .ensures ∙ ap₂ eqZ (back (s .fits .source)) (back fa)) ∙ not-false _ (c .before .before .before .if1 .left)) (sym (c .before .before .same2 .ensures ∙ ap₂ eqZ (back (s .fits .dest)) (back fb)) ∙ not-true _ (c .before .if2 .taken))
 
 merge-requires : tie.Need-merge-requires
@@ -97,7 +98,7 @@ returns-3 c =
     let fa : SFits w64 a = sfits-of (k .known-told .given .0 .1) in
     let fb : SFits w64 b = sfits-of (z .known-told2 .given .0 .1) in
     c .merge .ensures
-    ∙ ap₂ (λ (x y : ℤ). joinAfterU (checkedU (s .args .before .extent * s .args .extent)) (λ n. asMerged (axisOf n x y))) (back (source-fits s)) (back (dest-fits s))
+    ∙ ap₂ (λ (x y : ℤ). asMerged (checkedAxis (axisOf (s .args .before .extent * s .args .extent) x y))) (back (source-fits s)) (back (dest-fits s))
     ∙ join-merge (s .args .before) (s .args .extent) (s .args .source) (s .args .dest) (h .before .past-last .result) (h .past-last2 .result) (expected h) (expected2 h) a b (k .before .expected-source .given .1) (z .before .expected-dest .given .1) (sym (c .before .before .before .before .same .ensures ∙ ap₂ eqZ (back (s .fits .source)) (back fa)) ∙ not-false _ (c .before .before .before .if1 .left)) (sym (c .before .before .same2 .ensures ∙ ap₂ eqZ (back (s .fits .dest)) (back fb)) ∙ not-false _ (c .before .if2 .left))
 
 returns-4 : tie.Need-returns-4
@@ -105,7 +106,7 @@ returns-4 c =
     let k = c .before .before in
     let h = k .before .before .before in
     let s = h .before .before .before .before in
-    join-over2 (s .args .before) (s .args .extent) (s .args .source) (s .args .dest) (h .before .past-last .result) (h .past-last2 .result) (expected h) (expected2 h) (k .before .expected-source .given .0 .0) (k .before .expected-source .given .1) (c .enum-told .given .1)
+    join-over2 (s .args .before) (s .args .extent) (s .args .source) (s .args .dest) (h .before .past-last .result) (h .past-last2 .result) (expected h) (expected2 h) (c .enum-told .given .1)
 
 returns-5 : tie.Need-returns-5
 returns-5 c =

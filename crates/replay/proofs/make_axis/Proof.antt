@@ -1,29 +1,16 @@
-use mathlib.Core.Path.{_≡_, ap, _∙_}
+use mathlib.Core.Path.{_≡_, sym, ap, _∙_}
 use Prim.Native.Nat.{ℕ}
 use lib.IntN.{ℤ}
 use mir.Syntax.{w64}
 use mir.Val.{SFits}
 use borrow.Author.Needs.{sfits-of, needs}
 use Rattle.integer.specs.Z.{back}
-use Rattle.integer.specs.declared.Checked.{Checked}
-use Rattle.integer.specs.declared.Checked.the-variants as C
 use Rattle.layout.specs.Spans.{resetOf}
 use Rattle.replay.specs.declared.CheckedAxis.the-variants as A
-use Rattle.replay.specs.Replays.{theAxis, axisOf}
+use Rattle.replay.specs.Replays.{theAxis}
+use Rattle.replay.proofs.Joins.{axis-fits, axis-over, axis-over2}
 use Rattle.replay.proofs.make_axis.Statement.{statement}
 use Rattle.replay.proofs.make_axis.Tie as tie
-
-makes : (d : ℕ) (s t : ℤ) (x y : Checked) (a b : ℤ) → x ≡ resetOf d s → y ≡ resetOf d t → x ≡ C.Fits a → y ≡ C.Fits b → A.Fits (theAxis d s a t b) ≡ axisOf d s t
-unfolding axisOf
-makes d s t x y a b ex ey ox oy = rw (← ex, ox, ← ey, oy)
-
-over : (d : ℕ) (s t : ℤ) (x : Checked) → x ≡ resetOf d s → x ≡ C.Overflow → A.Overflow ≡ axisOf d s t
-unfolding axisOf
-over d s t x ex ox = rw (← ex, ox)
-
-over2 : (d : ℕ) (s t : ℤ) (x y : Checked) (a : ℤ) → x ≡ resetOf d s → y ≡ resetOf d t → x ≡ C.Fits a → y ≡ C.Overflow → A.Overflow ≡ axisOf d s t
-unfolding axisOf
-over2 d s t x y a ex ey ox oy = rw (← ex, ox, ← ey, oy)
 
 made : (d : ℕ) (s s′ t t′ a a′ b b′ : ℤ) → s ≡ s′ → a ≡ a′ → t ≡ t′ → b ≡ b′ → A.Fits (theAxis d s a t b) ≡ A.Fits (theAxis d s′ a′ t′ b′)
 made d s s′ t t′ a a′ b b′ e f g h = cc
@@ -56,20 +43,20 @@ returns c =
     let fa : SFits w64 a = sfits-of (k .known-told .given .0 .1) in
     let fb : SFits w64 b = sfits-of (c .known-told2 .given .0 .1) in
     made (s .args .extent) _ (s .args .source) _ (s .args .dest) _ a _ b (back (s .fits .source)) (back fa) (back (s .fits .dest)) (back fb)
-    ∙ makes (s .args .extent) (s .args .source) (s .args .dest) (h .before .checked-replay-reset .result) (h .checked-replay-reset2 .result) a b (h .before .checked-replay-reset .ensures ∙ ap (resetOf (s .args .extent)) (back (s .fits .source))) (h .checked-replay-reset2 .ensures ∙ ap (resetOf (s .args .extent)) (back (s .fits .dest))) (k .before .source-reset .given .1) (c .before .dest-reset .given .1)
+    ∙ axis-fits (s .args .extent) (s .args .source) (s .args .dest) a b (sym (h .before .checked-replay-reset .ensures ∙ ap (resetOf (s .args .extent)) (back (s .fits .source))) ∙ k .before .source-reset .given .1) (sym (h .checked-replay-reset2 .ensures ∙ ap (resetOf (s .args .extent)) (back (s .fits .dest))) ∙ c .before .dest-reset .given .1)
 
 returns-2 : tie.Need-returns-2
 returns-2 c =
     let k = c .before .before in
     let h = k .before .before .before in
     let s = h .before .before in
-    over2 (s .args .extent) (s .args .source) (s .args .dest) (h .before .checked-replay-reset .result) (h .checked-replay-reset2 .result) (k .before .source-reset .given .0 .0) (h .before .checked-replay-reset .ensures ∙ ap (resetOf (s .args .extent)) (back (s .fits .source))) (h .checked-replay-reset2 .ensures ∙ ap (resetOf (s .args .extent)) (back (s .fits .dest))) (k .before .source-reset .given .1) (c .enum-told .given .1)
+    axis-over2 (s .args .extent) (s .args .source) (s .args .dest) (sym (h .checked-replay-reset2 .ensures ∙ ap (resetOf (s .args .extent)) (back (s .fits .dest))) ∙ c .enum-told .given .1)
 
 returns-3 : tie.Need-returns-3
 returns-3 c =
     let h = c .before .before in
     let s = h .before .before in
-    over (s .args .extent) (s .args .source) (s .args .dest) (h .before .checked-replay-reset .result) (h .before .checked-replay-reset .ensures ∙ ap (resetOf (s .args .extent)) (back (s .fits .source))) (c .enum-told2 .given .1)
+    axis-over (s .args .extent) (s .args .source) (s .args .dest) (sym (h .before .checked-replay-reset .ensures ∙ ap (resetOf (s .args .extent)) (back (s .fits .source))) ∙ c .enum-told2 .given .1)
 
 pub make-axis-spec : {M : Type 1} → statement M
 make-axis-spec =

@@ -1,8 +1,12 @@
 use mathlib.Core.Path.{sym, ap, ap₂, _∙_}
+use Prim.Native.Nat.{ℕ, _*_}
+use lib.IntN.{ℤ}
 use Rattle.integer.specs.Z.{back}
-use Rattle.integer.specs.declared.CheckedU.{CheckedU}
-use Rattle.replay.specs.Replays.{axisOf, joinAfterU, asMerged}
+use Rattle.integer.specs.Machine.{checkedU-fits, checkedU-over}
+use Rattle.replay.specs.Replays.{axisOf}
+use Rattle.replay.specs.Parts.{checkedAxis, asMerged}
 use borrow.Author.Needs.{needs}
+use Rattle.replay.proofs.Joins.{axis-large}
 use Rattle.replay.proofs.merge.Statement.{statement}
 use Rattle.replay.proofs.merge.Tie as tie
 
@@ -27,14 +31,15 @@ returns c =
     let m = k .before .before .before in
     let s = m .before in
     let n = k .before .size .given .0 .0 in
-    c .as-merged .ensures ∙ ap asMerged (c .before .make-axis .ensures ∙ ap₂ (axisOf n) (back (s .fits .source)) (back (s .fits .dest)))
-    ∙ sym (ap (λ (x : CheckedU). joinAfterU x (λ n. asMerged (axisOf n (s .args .source) (s .args .dest)))) (sym (m .checked-mul-u64 .ensures) ∙ k .before .size .given .1))
+    let e = checkedU-fits (s .args .before * s .args .extent) n (sym (m .checked-mul-u64 .ensures) ∙ k .before .size .given .1) in
+    c .as-merged .ensures
+    ∙ ap asMerged (c .before .make-axis .ensures ∙ ap₂ (λ (x y : ℤ). checkedAxis (axisOf n x y)) (back (s .fits .source)) (back (s .fits .dest)) ∙ ap (λ (l : ℕ). checkedAxis (axisOf l (s .args .source) (s .args .dest))) (sym e))
 
 returns-2 : tie.Need-returns-2
 returns-2 c =
     let m = c .before .before in
     let s = m .before in
-    sym (ap (λ (x : CheckedU). joinAfterU x (λ n. asMerged (axisOf n (s .args .source) (s .args .dest)))) (sym (m .checked-mul-u64 .ensures) ∙ c .enum-told .given .1))
+    ap asMerged (axis-large (s .args .before * s .args .extent) (s .args .source) (s .args .dest) (checkedU-over (s .args .before * s .args .extent) (sym (m .checked-mul-u64 .ensures) ∙ c .enum-told .given .1)))
 
 pub merge-spec : {M : Type 1} → statement M
 merge-spec =

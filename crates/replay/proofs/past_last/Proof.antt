@@ -4,7 +4,7 @@ use Rattle.integer.specs.Z.{back}
 use Rattle.integer.specs.Defs.{checked}
 use Rattle.integer.specs.declared.Checked.{Checked}
 use Rattle.layout.specs.Spans.{andThen}
-use Rattle.replay.specs.Replays.{past}
+use Rattle.replay.specs.Parts.{past}
 use Rattle.replay.proofs.past_last.Statement.{statement}
 use Rattle.replay.proofs.past_last.Tie as tie
 

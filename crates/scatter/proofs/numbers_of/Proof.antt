@@ -2,12 +2,6 @@ use Rattle.scatter.proofs.Planned.{numbers-are}
 use Rattle.scatter.proofs.numbers_of.Statement.{statement}
 use Rattle.scatter.proofs.numbers_of.Tie as tie
 
-shape-of-requires : tie.Need-shape-of-requires
-shape-of-requires c κs = tt
-
-shape-of-requires-2 : tie.Need-shape-of-requires-2
-shape-of-requires-2 c κs = tt
-
 source-steps-requires : tie.Need-source-steps-requires
 source-steps-requires c κs = tt
 
@@ -27,14 +21,12 @@ limits-of-requires : tie.Need-limits-of-requires
 limits-of-requires c κs = tt
 
 returns : tie.Need-returns
-returns c = let s = c .before .before .before .before .before .before .before .before .before .before .before .before .before .before .before .before .before .before .before in numbers-are (s .args .plan) (s .args .batch-rows) (s .args .window-rows) (s .pre) _ _ _ _ _ _ _ _ (c .before .before .before .before .before .before .before .before .before .shape-of .ensures) (c .before .before .before .before .before .before .before .before .shape-of2 .ensures) (c .before .before .before .before .before .before .before .source-steps .ensures) (c .before .before .before .before .before .before .unless-none .ensures) (c .before .before .before .before .before .dest-steps .ensures) (c .before .before .before .before .source-steps2 .ensures) (c .before .before .before .dest-steps2 .ensures) (c .before .before .limits-of .ensures)
+returns c = let s = c .before .before .before .before .before .before .before .before .before .before .before .before .before .before .before .before .before in numbers-are (s .args .plan) (s .args .batch-rows) (s .args .window-rows) (s .pre) _ _ _ _ _ _ (c .before .before .before .before .before .before .before .source-steps .ensures) (c .before .before .before .before .before .before .unless-none .ensures) (c .before .before .before .before .before .dest-steps .ensures) (c .before .before .before .before .source-steps2 .ensures) (c .before .before .before .dest-steps2 .ensures) (c .before .before .limits-of .ensures)
 
 pub numbers-of-spec : {M : Type 1} → statement M
 numbers-of-spec =
     tie.close
     (tie.spec
-    shape-of-requires
-    shape-of-requires-2
     source-steps-requires
     unless-none-requires
     dest-steps-requires

@@ -1,4 +1,4 @@
-use mathlib.Core.Path.{refl, sym, ap, ap₂, _∙_}
+use mathlib.Core.Path.{sym, ap, ap₂, _∙_}
 use Prim.Native.Nat.{ℕ}
 use lib.IntN.{ℤ, pos}
 use borrow.Author.Needs.{needs}
@@ -62,16 +62,20 @@ numbers-of-requires c κs =
 start-base-requires : tie.Need-start-base-requires
 start-base-requires c κs = tt
 
+axes-from-requires : tie.Need-axes-from-requires
+axes-from-requires c κs = tt
+
 returns-2 : tie.Need-returns-2
 unfolding scatterNumbers
 returns-2 c =
-    let s = c .before .before .before .before .before .before .before .before .before .before .before .before .before .before .before in
-    let a = answer-is (s .args .plan) (s .args .batch-rows) (s .args .window-rows) (scatterOf (s .args .plan) (s .args .index) (s .args .updates) (s .args .dest)) (s .args .starts-len) (s .args .updates-len) (s .args .dest-len) (c .before .before .before .before .before .before .before .before .before .before .before .before .before .before .plan-fits .ensures) (c .before .before .before .before .before .before .before .before .before .before .before .before .before .check-plan .ensures) (c .before .before .before .before .before .before .before .before .before .before .before .before .view-reach .ensures) (c .before .before .before .before .before .before .before .before .before .before .before .view-reach2 .ensures) (c .before .before .before .before .before .before .before .before .before .before .view-reach3 .ensures) (c .before .before .before .before .before .before .before .before .before .check-bounds .ensures) (c .before .before .before .before .before .before .before .before .or-else .ensures) in
-    let d = ap isDone (sym a) ∙ sym (c .before .before .before .before .before .before .before .is-done .ensures) ∙ not-false _ (c .before .before .before .before .before .before .if1 .left) in
+    let d = c .before .before in
+    let s = d .before .before .before .before .before .before .before .before .before .before .before .before .before .before .before in
+    let a = answer-is (s .args .plan) (s .args .batch-rows) (s .args .window-rows) (scatterOf (s .args .plan) (s .args .index) (s .args .updates) (s .args .dest)) (s .args .starts-len) (s .args .updates-len) (s .args .dest-len) (d .before .before .before .before .before .before .before .before .before .before .before .before .before .before .plan-fits .ensures) (d .before .before .before .before .before .before .before .before .before .before .before .before .before .check-plan .ensures) (d .before .before .before .before .before .before .before .before .before .before .before .before .view-reach .ensures) (d .before .before .before .before .before .before .before .before .before .before .before .view-reach2 .ensures) (d .before .before .before .before .before .before .before .before .before .before .view-reach3 .ensures) (d .before .before .before .before .before .before .before .before .before .check-bounds .ensures) (d .before .before .before .before .before .before .before .before .or-else .ensures) in
+    let done = ap isDone (sym a) ∙ sym (d .before .before .before .before .before .before .before .is-done .ensures) ∙ not-false _ (d .before .before .before .before .before .before .if1 .left) in
     let (f, fu, fd) = offsets s in
-    let fb : SFits w64 (c .before .before .before .start-base .result) = search needs in
-    let b = c .before .before .before .start-base .ensures ∙ ap₂ (λ (n : ℕ) (z : ℤ). unlessNone n (pos 0) z) (ap (λ (w : ScatterNumbers). w .count) (c .before .before .before .before .before .numbers-of .ensures)) (back f) in
-    record { answered = a; ready = λ t. ready (s .args .plan) (s .args .batch-rows) (s .args .window-rows) (s .args .index) (s .args .updates) (s .args .dest) (s .args .starts-len) (s .args .updates-len) (s .args .dest-len) d _ (c .before .before .before .before .before .before .before .before .before .before .view-reach3 .ensures) (c .before .before .before .before .before .numbers-of .ensures) refl (back fb ∙ b) (back fu) (back fd) }
+    let fb : SFits w64 (d .before .before .before .start-base .result) = search needs in
+    let b = d .before .before .before .start-base .ensures ∙ ap₂ (λ (n : ℕ) (z : ℤ). unlessNone n (pos 0) z) (ap (λ (w : ScatterNumbers). w .count) (d .before .before .before .before .before .numbers-of .ensures)) (back f) in
+    record { answered = a; ready = λ t. ready (s .args .plan) (s .args .batch-rows) (s .args .window-rows) (s .args .index) (s .args .updates) (s .args .dest) (s .args .starts-len) (s .args .updates-len) (s .args .dest-len) done _ (d .before .before .before .before .before .before .before .before .before .before .view-reach3 .ensures) (d .before .before .before .before .before .numbers-of .ensures) (c .before .before .axes-from .ensures) (back fb ∙ b) (back fu) (back fd) }
 
 pub prepare-spec : {M : Type 1} → statement M
 prepare-spec =
@@ -89,4 +93,5 @@ prepare-spec =
     returns
     numbers-of-requires
     start-base-requires
+    axes-from-requires
     returns-2)

@@ -67,11 +67,10 @@ or-else-requires-5 c κs = tt
 returns : tie.Need-returns
 unfolding windowShape
 returns c =
-    let o = c .before .before in
-    let s = o .before .before .before .before .before .before .before .before .before .before .before .before .before .before .before .before .before .before .before .before .before in
-    walks-are (asked s) (o .before .before .before .before .before .before .before .before .before .before .before .check-windows .result) (o .before .before .before .before .before .before .before .before .before .before .check-product .result) (o .before .before .before .before .before .before .before .before .before .check-product2 .result) (o .before .before .before .before .before .check-components .result) (o .before .before .before .before .or-else .result) (o .before .before .before .or-else2 .result) (o .before .before .or-else3 .result) (o .before .or-else4 .result) (o .or-else5 .result) (o .before .before .before .before .before .before .before .before .walk-along .result) (o .before .before .before .before .before .before .before .walk-along2 .result)
-    (o .before .before .before .before .before .before .before .before .before .before .before .check-windows .ensures ∙ windows-are (asked s) _ _ _ (s .pre .listed)) (o .before .before .before .before .before .before .before .before .before .before .check-product .ensures ∙ batch-total (asked s) _ _ _ (s .pre .listed)) (o .before .before .before .before .before .before .before .before .before .check-product2 .ensures) (from-batch (o .before .before .before .before .before .before .before .before)) (from-cell (o .before .before .before .before .before .before .before)) (offsets (o .before .before .before .before .before))
-    (o .before .before .before .before .or-else .ensures) (o .before .before .before .or-else2 .ensures) (o .before .before .or-else3 .ensures) (o .before .or-else4 .ensures) (o .or-else5 .ensures)
+    let s = c .before .before .before .before .before .before .before .before .before .before .before .before .before .before .before .before .before .before .before .before .before in
+    walks-are (asked s) (c .before .before .before .before .before .before .before .before .before .before .before .check-windows .result) (c .before .before .before .before .before .before .before .before .before .before .check-product .result) (c .before .before .before .before .before .before .before .before .before .check-product2 .result) (c .before .before .before .before .before .check-components .result) (c .before .before .before .before .or-else .result) (c .before .before .before .or-else2 .result) (c .before .before .or-else3 .result) (c .before .or-else4 .result) (c .or-else5 .result) (c .before .before .before .before .before .before .before .before .walk-along .result) (c .before .before .before .before .before .before .before .walk-along2 .result)
+    (c .before .before .before .before .before .before .before .before .before .before .before .check-windows .ensures ∙ windows-are (asked s) _ _ _ (s .pre .listed)) (c .before .before .before .before .before .before .before .before .before .before .check-product .ensures ∙ batch-total (asked s) _ _ _ (s .pre .listed)) (c .before .before .before .before .before .before .before .before .before .check-product2 .ensures) (from-batch (c .before .before .before .before .before .before .before .before)) (from-cell (c .before .before .before .before .before .before .before)) (offsets (c .before .before .before .before .before))
+    (c .before .before .before .before .or-else .ensures) (c .before .before .before .or-else2 .ensures) (c .before .before .or-else3 .ensures) (c .before .or-else4 .ensures) (c .or-else5 .ensures)
 
 pub examine-walks-spec : {M : Type 1} → statement M
 examine-walks-spec =

@@ -15,12 +15,6 @@ use Rattle.scatter_lists.proofs.Lent.{fits, counted, numbers-are}
 use Rattle.scatter_lists.proofs.numbers_on.Statement.{statement}
 use Rattle.scatter_lists.proofs.numbers_on.Tie as tie
 
-shape-of-requires : tie.Need-shape-of-requires
-shape-of-requires c κs = tt
-
-shape-of-requires-2 : tie.Need-shape-of-requires-2
-shape-of-requires-2 c κs = tt
-
 rows-of-requires : tie.Need-rows-of-requires
 rows-of-requires c κs = tt
 
@@ -52,24 +46,22 @@ strides-on-requires : tie.Need-strides-on-requires
 strides-on-requires c κs = tt
 
 limits-by-requires : tie.Need-limits-by-requires
-limits-by-requires c κs = let s = c .before .before .before .before .before .before .before .before .before .before .before .before .before .before .before .before .before .before .before .before .before in (fits (scatterFrom (s .args .index-extents .now) (s .args .index-strides .now) (s .args .updates-extents .now) (s .args .updates-strides .now) (s .args .dest-extents .now) (s .args .dest-strides .now) (s .args .update-window-dims .now) (s .args .inserted-window-dims .now) (s .args .scatter-dims-to-operand-dims .now) (s .args .index-vector-dim)) _ _ (s .pre) .dest-rank, counted (scatterFrom (s .args .index-extents .now) (s .args .index-strides .now) (s .args .updates-extents .now) (s .args .updates-strides .now) (s .args .dest-extents .now) (s .args .dest-strides .now) (s .args .update-window-dims .now) (s .args .inserted-window-dims .now) (s .args .scatter-dims-to-operand-dims .now) (s .args .index-vector-dim)) _ _ (s .pre))
+limits-by-requires c κs = let s = c .before .before .before .before .before .before .before .before .before .before .before .before .before .before .before .before .before .before .before .before .before .before .before in (fits (scatterFrom (s .args .index-extents .now) (s .args .index-strides .now) (s .args .updates-extents .now) (s .args .updates-strides .now) (s .args .dest-extents .now) (s .args .dest-strides .now) (s .args .update-window-dims .now) (s .args .inserted-window-dims .now) (s .args .scatter-dims-to-operand-dims .now) (s .args .index-vector-dim)) _ _ (s .pre) .dest-rank, counted (scatterFrom (s .args .index-extents .now) (s .args .index-strides .now) (s .args .updates-extents .now) (s .args .updates-strides .now) (s .args .dest-extents .now) (s .args .dest-strides .now) (s .args .update-window-dims .now) (s .args .inserted-window-dims .now) (s .args .scatter-dims-to-operand-dims .now) (s .args .index-vector-dim)) _ _ (s .pre))
 
 batch-elems-requires : tie.Need-batch-elems-requires
-batch-elems-requires c κs = let s = c .before .before .before .before .before .before .before .before .before .before .before .before .before .before .before .before .before .before .before .before .before .before in fits (scatterFrom (s .args .index-extents .now) (s .args .index-strides .now) (s .args .updates-extents .now) (s .args .updates-strides .now) (s .args .dest-extents .now) (s .args .dest-strides .now) (s .args .update-window-dims .now) (s .args .inserted-window-dims .now) (s .args .scatter-dims-to-operand-dims .now) (s .args .index-vector-dim)) _ _ (s .pre) .updates-rank
+batch-elems-requires c κs = let s = c .before .before .before .before .before .before .before .before .before .before .before .before .before .before .before .before .before .before .before .before .before .before .before .before in fits (scatterFrom (s .args .index-extents .now) (s .args .index-strides .now) (s .args .updates-extents .now) (s .args .updates-strides .now) (s .args .dest-extents .now) (s .args .dest-strides .now) (s .args .update-window-dims .now) (s .args .inserted-window-dims .now) (s .args .scatter-dims-to-operand-dims .now) (s .args .index-vector-dim)) _ _ (s .pre) .updates-rank
 
 returns : tie.Need-returns
 returns c =
-    let s = c .before .before .before .before .before .before .before .before .before .before .before .before .before .before .before .before .before .before .before .before .before .before .before in
+    let s = c .before .before .before .before .before .before .before .before .before .before .before .before .before .before .before .before .before .before .before .before .before .before .before .before .before in
     let f : SFits w64 (c .before .before .before .before .before .stride-at .result) = search needs in
     let o = c .before .before .before .before .index-component-offsets .ensures ∙ ap (λ (z : ℤ). heldSteps (tabulate (min (length (s .args .scatter-dims-to-operand-dims .now)) rankLimit) (offsetOr z))) (back f ∙ c .before .before .before .before .before .stride-at .ensures) in
-    numbers-are (scatterFrom (s .args .index-extents .now) (s .args .index-strides .now) (s .args .updates-extents .now) (s .args .updates-strides .now) (s .args .dest-extents .now) (s .args .dest-strides .now) (s .args .update-window-dims .now) (s .args .inserted-window-dims .now) (s .args .scatter-dims-to-operand-dims .now) (s .args .index-vector-dim)) (s .args .batch) (s .args .window) (s .pre) _ _ _ _ _ _ _ _ _ _ _ _ _ (c .before .before .before .before .before .before .before .before .before .before .before .before .before .before .shape-of .ensures) (c .before .before .before .before .before .before .before .before .before .before .before .before .before .shape-of2 .ensures) (c .before .before .before .before .before .before .before .before .before .before .before .before .rows-of .ensures) (c .before .before .before .before .before .before .before .before .before .before .before .rows-of2 .ensures) (c .before .before .before .before .before .before .before .before .before .before .source-steps .ensures) (c .before .before .before .before .before .before .before .before .before .unless-none .ensures) (c .before .before .before .before .before .before .before .before .dest-steps .ensures) (c .before .before .before .before .before .before .before .source-steps2 .ensures) (c .before .before .before .before .before .before .dest-steps2 .ensures) o (c .before .before .strides-on .ensures) (c .before .limits-by .ensures) (c .batch-elems .ensures)
+    numbers-are (scatterFrom (s .args .index-extents .now) (s .args .index-strides .now) (s .args .updates-extents .now) (s .args .updates-strides .now) (s .args .dest-extents .now) (s .args .dest-strides .now) (s .args .update-window-dims .now) (s .args .inserted-window-dims .now) (s .args .scatter-dims-to-operand-dims .now) (s .args .index-vector-dim)) (s .args .from-batch) (s .args .from-cell) (s .pre) _ _ _ _ _ _ _ _ _ _ _ (c .before .before .before .before .before .before .before .before .before .before .before .before .rows-of .ensures) (c .before .before .before .before .before .before .before .before .before .before .before .rows-of2 .ensures) (c .before .before .before .before .before .before .before .before .before .before .source-steps .ensures) (c .before .before .before .before .before .before .before .before .before .unless-none .ensures) (c .before .before .before .before .before .before .before .before .dest-steps .ensures) (c .before .before .before .before .before .before .before .source-steps2 .ensures) (c .before .before .before .before .before .before .dest-steps2 .ensures) o (c .before .before .strides-on .ensures) (c .before .limits-by .ensures) (c .batch-elems .ensures)
 
 pub numbers-on-spec : {M : Type 1} → statement M
 numbers-on-spec =
     tie.close
     (tie.spec
-    shape-of-requires
-    shape-of-requires-2
     rows-of-requires
     rows-of-requires-2
     source-steps-requires

@@ -58,9 +58,10 @@ start-base-requires c κs = tt
 
 returns-3 : tie.Need-returns-3
 returns-3 c =
-    let s = c .before .before .before .before .before .before .before .before .before .before .before .before .before .before .before .before .before .before .before in
-    let fb : SFits w64 (c .start-base .result) = search needs in
-    prepared (scatterFrom (s .args .index-extents .now) (s .args .index-strides .now) (s .args .updates-extents .now) (s .args .updates-strides .now) (s .args .dest-extents .now) (s .args .dest-strides .now) (s .args .update-window-dims .now) (s .args .inserted-window-dims .now) (s .args .scatter-dims-to-operand-dims .now) (s .args .index-vector-dim)) (s .args .index-offset) (s .args .updates-offset) (s .args .dest-offset) (s .args .starts-len) (s .args .updates-len) (s .args .dest-len) {x = c .before .before .before .before .before .before .before .before .before .reach-of .result} {y = c .before .before .before .before .before .before .before .before .reach-of2 .result} {z = c .before .before .before .before .before .before .before .reach-of3 .result} (c .before .before .before .before .before .before .before .before .before .before .before .before .examine .ensures .answered) (sym (c .before .before .before .before .before .before .before .before .before .before .before .is-done .ensures) ∙ not-false _ (c .before .before .before .before .before .before .before .before .before .before .if1 .left)) (c .before .before .before .before .before .before .before .before .before .reach-of .ensures ∙ ap (λ (z : ℤ). viewReach (s .args .index-extents .now) (s .args .index-strides .now) z (s .args .starts-len)) (back (s .fits .index-offset))) (c .before .before .before .before .before .before .before .before .reach-of2 .ensures ∙ ap (λ (z : ℤ). viewReach (s .args .updates-extents .now) (s .args .updates-strides .now) z (s .args .updates-len)) (back (s .fits .updates-offset))) (c .before .before .before .before .before .before .before .reach-of3 .ensures ∙ ap (λ (z : ℤ). viewReach (s .args .dest-extents .now) (s .args .dest-strides .now) z (s .args .dest-len)) (back (s .fits .dest-offset))) (c .before .before .before .before .before .before .check-bounds .ensures) _ _ (c .before .before .before .before .before .before .before .before .before .before .before .before .examine .ensures .found (sym (c .before .before .before .before .before .before .before .before .before .before .before .is-done .ensures) ∙ not-false _ (c .before .before .before .before .before .before .before .before .before .before .if1 .left))) (sym (c .before .before .before .before .before .is-done2 .ensures) ∙ not-false _ (c .before .before .before .before .if2 .left)) _ refl refl (c .before .numbers-on .ensures) refl (back fb ∙ c .start-base .ensures ∙ ap (λ (z : ℤ). unlessNone (length (s .args .scatter-dims-to-operand-dims .now)) (pos 0) z) (back (s .fits .index-offset))) (back (s .fits .updates-offset)) (back (s .fits .dest-offset))
+    let d = c .before in
+    let s = d .before .before .before .before .before .before .before .before .before .before .before .before .before .before .before .before .before .before .before in
+    let fb : SFits w64 (d .start-base .result) = search needs in
+    prepared (scatterFrom (s .args .index-extents .now) (s .args .index-strides .now) (s .args .updates-extents .now) (s .args .updates-strides .now) (s .args .dest-extents .now) (s .args .dest-strides .now) (s .args .update-window-dims .now) (s .args .inserted-window-dims .now) (s .args .scatter-dims-to-operand-dims .now) (s .args .index-vector-dim)) (s .args .index-offset) (s .args .updates-offset) (s .args .dest-offset) (s .args .starts-len) (s .args .updates-len) (s .args .dest-len) {x = d .before .before .before .before .before .before .before .before .before .reach-of .result} {y = d .before .before .before .before .before .before .before .before .reach-of2 .result} {z = d .before .before .before .before .before .before .before .reach-of3 .result} (d .before .before .before .before .before .before .before .before .before .before .before .before .examine .ensures .answered) (sym (d .before .before .before .before .before .before .before .before .before .before .before .is-done .ensures) ∙ not-false _ (d .before .before .before .before .before .before .before .before .before .before .if1 .left)) (d .before .before .before .before .before .before .before .before .before .reach-of .ensures ∙ ap (λ (z : ℤ). viewReach (s .args .index-extents .now) (s .args .index-strides .now) z (s .args .starts-len)) (back (s .fits .index-offset))) (d .before .before .before .before .before .before .before .before .reach-of2 .ensures ∙ ap (λ (z : ℤ). viewReach (s .args .updates-extents .now) (s .args .updates-strides .now) z (s .args .updates-len)) (back (s .fits .updates-offset))) (d .before .before .before .before .before .before .before .reach-of3 .ensures ∙ ap (λ (z : ℤ). viewReach (s .args .dest-extents .now) (s .args .dest-strides .now) z (s .args .dest-len)) (back (s .fits .dest-offset))) (d .before .before .before .before .before .before .check-bounds .ensures) _ _ (d .before .before .before .before .before .before .before .before .before .before .before .before .examine .ensures .found (sym (d .before .before .before .before .before .before .before .before .before .before .before .is-done .ensures) ∙ not-false _ (d .before .before .before .before .before .before .before .before .before .before .if1 .left))) (sym (d .before .before .before .before .before .is-done2 .ensures) ∙ not-false _ (d .before .before .before .before .if2 .left)) _ refl refl (d .before .numbers-on .ensures) refl (back fb ∙ d .start-base .ensures ∙ ap (λ (z : ℤ). unlessNone (length (s .args .scatter-dims-to-operand-dims .now)) (pos 0) z) (back (s .fits .index-offset))) (back (s .fits .updates-offset)) (back (s .fits .dest-offset))
 
 pub prepare-spec : {M : Type 1} → statement M
 prepare-spec =

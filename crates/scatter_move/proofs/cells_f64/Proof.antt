@@ -43,20 +43,20 @@ rows-of-requires : tie.Need-rows-of-requires
 rows-of-requires c κs = tt
 
 mul-run-f64 : tie.Need-mul-run-f64
-mul-run-f64 c = let s = c .before .before .before .before .before .before .before in omega (arith, low-high (s .args .p) (s .args .low) (s .args .high) (s .args .starts .now) (length (s .args .source .now)) (length (s .args .into .now)) (s .pre), high-in (s .args .p) (s .args .low) (s .args .high) (s .args .starts .now) (length (s .args .source .now)) (length (s .args .into .now)) (s .pre), s .good .1 .1 .1 .1 .0 .1)
+mul-run-f64 c = let s = c .before .before .before .before .before .before in omega (arith, low-high (s .args .p) (s .args .low) (s .args .high) (s .args .starts .now) (length (s .args .source .now)) (length (s .args .into .now)) (s .pre), high-in (s .args .p) (s .args .low) (s .args .high) (s .args .starts .now) (length (s .args .source .now)) (length (s .args .into .now)) (s .pre), s .good .1 .1 .1 .1 .0 .1)
 
 sub-run-f64 : tie.Need-sub-run-f64
-sub-run-f64 c = let s = c .before .before .before .before .before .before .before in omega (arith, low-high (s .args .p) (s .args .low) (s .args .high) (s .args .starts .now) (length (s .args .source .now)) (length (s .args .into .now)) (s .pre))
+sub-run-f64 c = let s = c .before .before .before .before .before .before in omega (arith, low-high (s .args .p) (s .args .low) (s .args .high) (s .args .starts .now) (length (s .args .source .now)) (length (s .args .into .now)) (s .pre))
 
 part-run-f64-start : tie.Need-part-run-f64-start
-part-run-f64-start c = let s = c .before .before .before .before .before .before .before in omega (arith, low-high (s .args .p) (s .args .low) (s .args .high) (s .args .starts .now) (length (s .args .source .now)) (length (s .args .into .now)) (s .pre))
+part-run-f64-start c = let s = c .before .before .before .before .before .before in omega (arith, low-high (s .args .p) (s .args .low) (s .args .high) (s .args .starts .now) (length (s .args .source .now)) (length (s .args .into .now)) (s .pre))
 
 part-run-f64-end : tie.Need-part-run-f64-end
-part-run-f64-end c = let s = c .before .before .before .before .before .before .before in omega (arith, high-in (s .args .p) (s .args .low) (s .args .high) (s .args .starts .now) (length (s .args .source .now)) (length (s .args .into .now)) (s .pre))
+part-run-f64-end c = let s = c .before .before .before .before .before .before in omega (arith, high-in (s .args .p) (s .args .low) (s .args .high) (s .args .starts .now) (length (s .args .source .now)) (length (s .args .into .now)) (s .pre))
 
 run-f64-requires : tie.Need-run-f64-requires
 run-f64-requires c κs =
-    let s = c .before .before .before .before .before .before .before .before in
+    let s = c .before .before .before .before .before .before .before in
     let w = s .args .p .numbers in (
       subst (Scattering (s .args .starts .now) (w .offsets) (w .strides) (w .limits) (w .count) (s .args .p .index) (s .args .p .updates) (read (read (s .args .p .dest) -ℤ toZ w64 (s .args .low))) (w .«batch_extents») (w .«index_steps») (w .«update_steps») (w .«batch_rank») (w .«window_extents») (w .«window_steps») (w .«dest_steps») (w .«window_rank») (length (s .args .source .now)))
           (sym (part-length s))
@@ -69,7 +69,7 @@ same-length c = search needs
 
 returns : tie.Need-returns
 returns c =
-    let s = c .before .before .before .before .before .before .before .before .before .before .before in
+    let s = c .before .before .before .before .before .before .before .before .before .before in
     λ k. part-leaves (s .args .p) (s .args .low) (s .args .high) (s .args .starts .now) (length (s .args .source .now)) (length (s .args .into .now)) k _ refl _ (place-is (s .args .p) (s .args .low) (s .args .high) (s .args .starts .now) (length (s .args .source .now)) (length (s .args .into .now)) k (dest-fits s) (dest-room s)) nan (ruleF64 (s .args .rule)) (s .args .source .now) (s .args .into .now) refl _ (c .before .before .run-f64 .ensures)
 
 pub cells-f64-spec : {M : Type 1} → statement M

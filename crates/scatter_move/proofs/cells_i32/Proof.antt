@@ -42,20 +42,20 @@ rows-of-requires : tie.Need-rows-of-requires
 rows-of-requires c κs = tt
 
 mul-run-i32 : tie.Need-mul-run-i32
-mul-run-i32 c = let s = c .before .before .before .before .before in omega (arith, low-high (s .args .p) (s .args .low) (s .args .high) (s .args .starts .now) (length (s .args .source .now)) (length (s .args .into .now)) (s .pre), high-in (s .args .p) (s .args .low) (s .args .high) (s .args .starts .now) (length (s .args .source .now)) (length (s .args .into .now)) (s .pre), s .good .1 .1 .1 .1 .0 .1)
+mul-run-i32 c = let s = c .before .before .before .before in omega (arith, low-high (s .args .p) (s .args .low) (s .args .high) (s .args .starts .now) (length (s .args .source .now)) (length (s .args .into .now)) (s .pre), high-in (s .args .p) (s .args .low) (s .args .high) (s .args .starts .now) (length (s .args .source .now)) (length (s .args .into .now)) (s .pre), s .good .1 .1 .1 .1 .0 .1)
 
 sub-run-i32 : tie.Need-sub-run-i32
-sub-run-i32 c = let s = c .before .before .before .before .before in omega (arith, low-high (s .args .p) (s .args .low) (s .args .high) (s .args .starts .now) (length (s .args .source .now)) (length (s .args .into .now)) (s .pre))
+sub-run-i32 c = let s = c .before .before .before .before in omega (arith, low-high (s .args .p) (s .args .low) (s .args .high) (s .args .starts .now) (length (s .args .source .now)) (length (s .args .into .now)) (s .pre))
 
 part-run-i32-start : tie.Need-part-run-i32-start
-part-run-i32-start c = let s = c .before .before .before .before .before in omega (arith, low-high (s .args .p) (s .args .low) (s .args .high) (s .args .starts .now) (length (s .args .source .now)) (length (s .args .into .now)) (s .pre))
+part-run-i32-start c = let s = c .before .before .before .before in omega (arith, low-high (s .args .p) (s .args .low) (s .args .high) (s .args .starts .now) (length (s .args .source .now)) (length (s .args .into .now)) (s .pre))
 
 part-run-i32-end : tie.Need-part-run-i32-end
-part-run-i32-end c = let s = c .before .before .before .before .before in omega (arith, high-in (s .args .p) (s .args .low) (s .args .high) (s .args .starts .now) (length (s .args .source .now)) (length (s .args .into .now)) (s .pre))
+part-run-i32-end c = let s = c .before .before .before .before in omega (arith, high-in (s .args .p) (s .args .low) (s .args .high) (s .args .starts .now) (length (s .args .source .now)) (length (s .args .into .now)) (s .pre))
 
 run-i32-requires : tie.Need-run-i32-requires
 run-i32-requires c κs =
-    let s = c .before .before .before .before .before .before in
+    let s = c .before .before .before .before .before in
     let w = s .args .p .numbers in (
       subst (Scattering (s .args .starts .now) (w .offsets) (w .strides) (w .limits) (w .count) (s .args .p .index) (s .args .p .updates) (read (read (s .args .p .dest) -ℤ toZ w64 (s .args .low))) (w .«batch_extents») (w .«index_steps») (w .«update_steps») (w .«batch_rank») (w .«window_extents») (w .«window_steps») (w .«dest_steps») (w .«window_rank») (length (s .args .source .now)))
           (sym (part-length s))
@@ -68,7 +68,7 @@ same-length c = search needs
 
 returns : tie.Need-returns
 returns c =
-    let s = c .before .before .before .before .before .before .before .before in
+    let s = c .before .before .before .before .before .before .before in
     λ k. part-leaves (s .args .p) (s .args .low) (s .args .high) (s .args .starts .now) (length (s .args .source .now)) (length (s .args .into .now)) k _ refl _ (place-is (s .args .p) (s .args .low) (s .args .high) (s .args .starts .now) (length (s .args .source .now)) (length (s .args .into .now)) k (dest-fits s) (dest-room s)) (pos 0) (ruleI32 (s .args .rule)) (s .args .source .now) (s .args .into .now) refl _ (c .before .run-i32 .ensures)
 
 pub cells-i32-spec : {M : Type 1} → statement M

@@ -17,7 +17,10 @@ plan-of-requires : tie.Need-plan-of-requires
 plan-of-requires c κs = c .before .before .before .before .before .before .before .before .before .before .pre (sym (c .before .before .before .is-done .ensures) ∙ not-false _ (c .before .before .if1 .left))
 
 returns-2 : tie.Need-returns-2
-returns-2 c = compiled-done _ _ _ (sym (c .before .before .before .before .is-done .ensures) ∙ not-false _ (c .before .before .before .if1 .left)) (c .plan-of .ensures)
+returns-2 c =
+    let m = c .before .before in
+    let d = sym (m .before .before .before .before .is-done .ensures) ∙ not-false _ (m .before .before .before .if1 .left) in
+    compiled-done _ _ _ _ _ d (m .plan-of .ensures) (m .before .before .before .before .before .before .before .before .before .before .before .pre d)
 
 pub compiled-from-spec : {M : Type 1} → statement M
 compiled-from-spec =

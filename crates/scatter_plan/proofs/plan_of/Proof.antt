@@ -20,6 +20,9 @@ use Rattle.scatter_plan.proofs.plan_of.Tie as tie
 abbrev asked : tie.Start → Scatter
 asked s = scatterFrom (s .args .index-extents .now) (s .args .index-strides .now) (s .args .updates-extents .now) (s .args .updates-strides .now) (s .args .dest-extents .now) (s .args .dest-strides .now) (s .args .window .now) (s .args .inserted .now) (s .args .map .now) (s .args .vector)
 
+stride-fits : (c : tie.After-stride-at) → SFits w64 (c .stride-at .result)
+stride-fits c = search needs
+
 make-layout-requires : tie.Need-make-layout-requires
 make-layout-requires c κs = tt
 
@@ -58,10 +61,11 @@ product-value-requires c κs = let s = c .before .before .before .before .before
 
 returns : tie.Need-returns
 returns c =
-    let s = c .before .before .before .before .before .before .before .before .before .before .before .before .before .before .before .before .before .before .before .before .before in
-    let f : SFits w64 (c .before .before .before .before .before .before .before .stride-at .result) = search needs in
-    let o = c .before .before .before .before .before .before .index-component-offsets .ensures ∙ ap (λ (z : ℤ). heldSteps (tabulate (min (length (s .args .map .now)) rankLimit) (offsetOr z))) (back f ∙ c .before .before .before .before .before .before .before .stride-at .ensures) in
-    plan-is (asked s) (s .args .from-batch) (s .args .from-cell) (s .pre) _ _ _ _ _ _ _ _ _ _ _ (c .before .before .before .before .before .before .before .before .before .before .before .before .before .before .make-layout .ensures) (c .before .before .before .before .before .before .before .before .before .before .before .before .before .make-layout2 .ensures) (c .before .before .before .before .before .before .before .before .before .before .before .before .make-layout3 .ensures) (c .before .before .before .before .before .before .before .before .windows-of .ensures) o (c .before .before .before .before .before .strides-on .ensures) (c .before .before .before .before .numbers-from .ensures) (c .before .before .before .numbers-from2 .ensures) (c .before .before .numbers-from3 .ensures) (c .before .batch-elems .ensures) (c .product-value .ensures)
+    let d = c .before .before in
+    let s = d .before .before .before .before .before .before .before .before .before .before .before .before .before .before .before .before .before .before .before .before .before in
+    let f = stride-fits (d .before .before .before .before .before .before .before) in
+    let o = d .before .before .before .before .before .before .index-component-offsets .ensures ∙ ap (λ (z : ℤ). heldSteps (tabulate (min (length (s .args .map .now)) rankLimit) (offsetOr z))) (back f ∙ d .before .before .before .before .before .before .before .stride-at .ensures) in
+    plan-is (asked s) (s .args .from-batch) (s .args .from-cell) (s .pre) _ _ _ _ _ _ _ _ _ _ _ (d .before .before .before .before .before .before .before .before .before .before .before .before .before .before .make-layout .ensures) (d .before .before .before .before .before .before .before .before .before .before .before .before .before .make-layout2 .ensures) (d .before .before .before .before .before .before .before .before .before .before .before .before .make-layout3 .ensures) (d .before .before .before .before .before .before .before .before .windows-of .ensures) o (d .before .before .before .before .before .strides-on .ensures) (d .before .before .before .before .numbers-from .ensures) (d .before .before .before .numbers-from2 .ensures) (d .before .before .numbers-from3 .ensures) (d .before .batch-elems .ensures) (d .product-value .ensures)
 
 pub plan-of-spec : {M : Type 1} → statement M
 plan-of-spec =

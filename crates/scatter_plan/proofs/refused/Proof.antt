@@ -5,7 +5,7 @@ refused-replay-requires : tie.Need-refused-replay-requires
 refused-replay-requires c κs = tt
 
 returns : tie.Need-returns
-returns c = rw (c .before .refused-replay .ensures)
+returns c = rw (c .before .before .refused-replay .ensures)
 
 pub refused-spec : {M : Type 1} → statement M
 refused-spec = tie.close (tie.spec refused-replay-requires returns)

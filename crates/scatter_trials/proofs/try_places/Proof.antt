@@ -4,10 +4,10 @@ use Rattle.scatter_trials.proofs.try_places.Statement.{statement}
 use Rattle.scatter_trials.proofs.try_places.Tie as tie
 
 abbrev Inv-loop : tie.InvT-loop
-Inv-loop plan change places counted₀ i₀ counted i = Unit {0}
+Inv-loop compiled change places counted₀ i₀ counted i = Unit {0}
 
 abbrev μ-loop : tie.MeasureT-loop
-μ-loop plan change places counted₀ i₀ counted i = places - i
+μ-loop compiled change places counted₀ i₀ counted i = places - i
 
 none-requires : tie.Need-none-requires Inv-loop μ-loop
 none-requires c κs = tt

@@ -1,4 +1,4 @@
-use mathlib.Core.Path.{_≡_, sym, ap, ap₂, _∙_}
+use mathlib.Core.Path.{_≡_, refl, sym, ap, ap₂, _∙_}
 use mathlib.Core.Bool.{true}
 use mathlib.Core.List.{List}
 use Prim.Native.Nat.{ℕ, _≤_}
@@ -68,9 +68,6 @@ put-requires-3 c κs = tt
 returns-4 : tie.Need-returns-4
 returns-4 c = tt
 
-shape-of-requires : tie.Need-shape-of-requires
-shape-of-requires c κs = tt
-
 rows-of-requires : tie.Need-rows-of-requires
 rows-of-requires c κs = tt
 
@@ -107,11 +104,11 @@ module _ (s : tie.Start) where
       (omega (arith, e), omega (arith, e, f), omega (arith, e, g))
 
 -- the spans of the destination are numbers of i64
-dest-spans : (h : tie.After-struct-told3) → SFits w64 (h .before .before .before .before .before .before .before .before .before .before .before .before .compile-window-replay .result .replay .spans .«dest_low») × SFits w64 (h .before .before .before .before .before .before .before .before .before .before .before .before .compile-window-replay .result .replay .spans .«dest_high»)
+dest-spans : (h : tie.After-struct-told3) → SFits w64 (h .before .before .before .before .before .before .before .before .before .before .before .before .before .compile-window-replay .result .replay .spans .«dest_low») × SFits w64 (h .before .before .before .before .before .before .before .before .before .before .before .before .before .compile-window-replay .result .replay .spans .«dest_high»)
 dest-spans h = (search needs, search needs)
 
 -- what the tests have shown by the time that the shape and the rows are made
-known : (d : tie.After-rows-of) → Walking (ds (start d)) (ss (start d)) (ts (start d)) (sb (start d)) (db (start d)) (d .before .shape-of .result) (d .rows-of .result) (compiled d .replay .rank)
+known : (d : tie.After-rows-of) → Walking (ds (start d)) (ss (start d)) (ts (start d)) (sb (start d)) (db (start d)) (compiled d .replay .extents) (d .rows-of .result) (compiled d .replay .rank)
 known d =
     let m = d .before .before .before .before .before .before .before .before .before .before .before .before .before .before .before .before .before in
     let s = start d in
@@ -119,15 +116,15 @@ known d =
     let l = lengths s in
     let f1 : SFits w64 (r .replay .spans .«source_low») = search needs in
     let f2 : SFits w64 (r .replay .spans .«source_high») = search needs in
-    let f3 = dest-spans (d .before .before .before .before .before) .0 in
-    let f4 = dest-spans (d .before .before .before .before .before) .1 in
-    let e1 : coversOf (r .replay .spans .«source_low») (r .replay .spans .«source_high») (sb s) ≡ true = sym (d .before .before .before .before .before .before .before .covers .ensures ∙ ap₂ (λ (x y : ℤ). coversOf x y (sb s)) (back f1) (back f2)) ∙ not-false _ (d .before .before .before .before .before .before .if3 .left) in
-    let e2 : coversOf (r .replay .spans .«dest_low») (r .replay .spans .«dest_high») (db s) ≡ true = sym (d .before .before .before .covers2 .ensures ∙ ap₂ (λ (x y : ℤ). coversOf x y (db s)) (back f3) (back f4)) ∙ not-false _ (d .before .before .if4 .left) in
-    let n : r .answer ≡ N.Done = done-is (r .answer) (sym (d .before .before .before .before .before .before .before .before .before .before .before .before .before .is-done .ensures) ∙ not-false _ (d .before .before .before .before .before .before .before .before .before .before .before .before .if1 .left)) in
-    let z = sym (d .before .before .before .before .before .before .before .before .before .before .before .has-zero .ensures) ∙ d .before .before .before .before .before .before .before .before .before .before .if2 .left in
+    let f3 = dest-spans (d .before .before .before .before) .0 in
+    let f4 = dest-spans (d .before .before .before .before) .1 in
+    let e1 : coversOf (r .replay .spans .«source_low») (r .replay .spans .«source_high») (sb s) ≡ true = sym (d .before .before .before .before .before .before .covers .ensures ∙ ap₂ (λ (x y : ℤ). coversOf x y (sb s)) (back f1) (back f2)) ∙ not-false _ (d .before .before .before .before .before .if3 .left) in
+    let e2 : coversOf (r .replay .spans .«dest_low») (r .replay .spans .«dest_high») (db s) ≡ true = sym (d .before .before .covers2 .ensures ∙ ap₂ (λ (x y : ℤ). coversOf x y (db s)) (back f3) (back f4)) ∙ not-false _ (d .before .if4 .left) in
+    let n : r .answer ≡ N.Done = done-is (r .answer) (sym (d .before .before .before .before .before .before .before .before .before .before .before .before .is-done .ensures) ∙ not-false _ (d .before .before .before .before .before .before .before .before .before .before .before .if1 .left)) in
+    let z = sym (d .before .before .before .before .before .before .before .before .before .before .has-zero .ensures) ∙ d .before .before .before .before .before .before .before .before .before .if2 .left in
     let t = spans-cover (ds s) (ss s) (ts s) (l .0) (l .1) (l .2) r (m .compile-window-replay .ensures) n (sb s) (db s) e1 e2 in
     let q : Ready (ds s) (ss s) (ts s) (sb s) (db s) = record { done = ap (λ (x : CompiledReplay). x .answer) (sym (m .compile-window-replay .ensures)) ∙ n; positive = all-cells (ds s) z; source-reach = t .0; dest-reach = t .1 } in
-    walking (ds s) (ss s) (ts s) (l .0) (l .1) (l .2) r (m .compile-window-replay .ensures) (sb s) (db s) q (d .before .shape-of .result) (d .rows-of .result) (d .before .shape-of .ensures) (d .rows-of .ensures)
+    walking (ds s) (ss s) (ts s) (l .0) (l .1) (l .2) r (m .compile-window-replay .ensures) (sb s) (db s) q (r .replay .extents) (d .rows-of .result) refl (d .rows-of .ensures)
 
 places-requires : tie.Need-places-requires
 places-requires c κs = known c .walk
@@ -158,7 +155,6 @@ walk-from-spec =
     slice-aggregate-put-3
     put-requires-3
     returns-4
-    shape-of-requires
     rows-of-requires
     places-requires
     places-back-requires
