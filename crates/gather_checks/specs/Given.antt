@@ -4,7 +4,7 @@ use mathlib.Core.Bool.{Bool, true, cond, _&&_}
 use mathlib.Core.List.{List, []}
 use Prim.Native.Nat.{ℕ, _+_, _≤_}
 use lib.Dec.{eqb}
-use lib.ListN.{length, getD}
+use lib.ListN.{length}
 use lib.IntN.{ℤ, pos}
 use Rattle.indexing.specs.Coordinates.{pick, spread}
 use Rattle.indexing.specs.Gather.{Gather}
@@ -50,7 +50,7 @@ abbrev pub answerBy : List ℕ → List ℤ → List ℕ → List ℤ → List �
 answerBy oe os ie is de ds offsets collapsed map vector sizes four shown starts others =
     orElse four (orElse (listsRefusal oe ie collapsed map vector sizes)
     (orElse (countsBy (componentsOf ie vector) (length shown) (length starts) offsets map) (orElse (shapeAnswer shown starts others ie de offsets sizes)
-    (resetsRefusal de ds (stepsBy (length de) offsets shown os) (stepsBy (length de) others starts is) (getD is vector (pos 0)) (length map)))))
+    (resetsRefusal de ds (stepsBy (length de) offsets shown os) (stepsBy (length de) others starts is)))))
 
 unfoldable pub examinedBy : List ℕ → List ℤ → List ℕ → List ℤ → List ℕ → List ℤ → List ℕ → List ℕ → List ℕ → ℕ → List ℕ → Answer → List ℕ → List ℕ → List ℕ → Examined
 examinedBy oe os ie is de ds offsets collapsed map vector sizes four shown starts others =
