@@ -34,6 +34,11 @@ use Rattle.gather_plan.proofs.Roles.{window-moves, window-stays, batch-
 use Rattle.gather_plan.proofs.Valid.{valid, shown-count}
 use Rattle.gather_plan.proofs.Accepted.{Accepted, accepted, length-window, length-batch}
 
+-- ---- the total: the number of cells, each of which is read once
+pub total-is : (g : Gather) (starts : List ℤ) → planOf g .total ≡ length (reads g starts)
+unfolding reads cells
+total-is g starts = sym (length-tabulate (product (g .result .extents)) _)
+
 -- ---- steps and resets of axis records as strides and extents
 stepped-is : (step back : GatherReplayAxis → ℤ) (ds : List ℕ) (axes : List GatherReplayAxis) (ss : List ℤ) (cs : List ℕ) (z : ℤ) → length ss ≡ length ds → length ds ≤ length axes
     → ((a : ℕ) → a < length ds → (step (getD axes a noAxis) ≡ getD ss a (pos 0)) × (back (getD axes a noAxis) ≡ reset (getD ds a 0) (getD ss a (pos 0))))
@@ -145,8 +150,3 @@ module _ (g : Gather) (done : isDone (refusalOf A.Done g) ≡ true) where
       where
         turn : (a b c : ℤ) → a +ℤ (b +ℤ c) ≡ a +ℤ c +ℤ b
         turn a b c = simp +ℤ-ac
-
--- ---- the total: the number of cells, each of which is read once
-pub total-is : (g : Gather) (starts : List ℤ) → planOf g .total ≡ length (reads g starts)
-unfolding reads cells
-total-is g starts = sym (length-tabulate (product (g .result .extents)) _)
