@@ -1,4 +1,4 @@
--- Extents of an accepted span. Assumes nothing.
+-- Reaches and extents of an accepted span. Assumes nothing.
 use mathlib.Core.Path.{_≡_, refl}
 use mathlib.Core.Bool.{true}
 use mathlib.Core.List.{List, [], _∷_}

@@ -29,7 +29,7 @@ use Rattle.gather_checks.specs.Refusals.{refusalOf}
 use Rattle.gather_plan.specs.declared.Role.the-variants.{Batch, Window}
 use Rattle.gather_plan.specs.declared.GatherReplayAxis.{GatherReplayAxis}
 use Rattle.gather_plan.specs.Plan.{reset, noAxis, axisOf, planOf}
-use Rattle.gather_plan.specs.Numbers.{WindowAxis, BatchAxis, stepped, windowAt, componentAt, NextCell}
+use Rattle.gather_plan.specs.Numbers.{WindowAxis, BatchAxis, stepped, windowPlace, componentPlace, NextCell}
 use Rattle.gather_plan.proofs.Roles.{window-moves, window-stays, batch-stays, among-batch}
 use Rattle.gather_plan.proofs.Valid.{valid, shown-count}
 use Rattle.gather_plan.proofs.Accepted.{Accepted, accepted, length-window, length-batch}
@@ -111,8 +111,9 @@ module _ (g : Gather) (done : isDone (refusalOf A.Done g) ≡ true) where
       let r = sym (ap (λ (y : GatherReplayAxis). y .role) x) ∙ e in
       let p = place-of (batchDims g) a (among-batch g a h (shown-count A.Done g done) r) in
       record {
-        place = p .0;
-        stands = p .2;
+        number = p .0;
+        among = p .1;
+        there = p .2;
         window = ap (λ (y : GatherReplayAxis). y .«window_step») x ∙ window-stays g a r;
         batch = ap (λ (y : GatherReplayAxis). y .«index_batch_step») x ∙ ap (λ (m : ℕ). getD (batchSteps g) m (pos 0)) (sym (p .2)) ∙ batch-moves (p .0) (p .1);
       }
@@ -122,22 +123,22 @@ module _ (g : Gather) (done : isDone (refusalOf A.Done g) ≡ true) where
 
   -- ---- from cell to cell
 
-  module _ (k : ℕ) (h : k + 1 < planOf g .total) where
+  module _ (k : ℕ) (h : 0 < planOf g .total) where
     side : (step back : GatherReplayAxis → ℤ) (ss : List ℤ) (base : ℤ) → length ss ≡ n
         → ((a : ℕ) → (step (axisOf g a) ≡ getD ss a (pos 0)) × (back (axisOf g a) ≡ reset (getD (g .result .extents) a 0) (getD ss a (pos 0))))
         → stepped step back (g .result .extents) axes (unravel (g .result .extents) k) (offsetAt base (g .result .extents) ss k) ≡ offsetAt base (g .result .extents) ss (k + 1)
     side step back ss base l each =
         stepped-is step back (g .result .extents) axes ss (unravel (g .result .extents) k) (offsetAt base (g .result .extents) ss k) l (omega (arith, fits .dest-rank, length-padded rankLimit noAxis (tabulate n (axisOf g))))
         (λ a m. let x = axis-at a m in (ap step x ∙ each a .0, ap back x ∙ each a .1))
-        ∙ advance-offset base (g .result .extents) ss k (index-pos (g .result .extents) (k + 1) h) l
+        ∙ advance-offset base (g .result .extents) ss k (index-pos (g .result .extents) 0 h) l
 
     pub next-cell : NextCell g axes k
     unfolding offsetAt
     next-cell =
         let ds = g .result .extents in
-        let at : (c j : ℕ) → componentAt g c j ≡ offsetAt (g .indices .offset +ℤ vectorStride (g .indices) (g .spec .index-vector-dim) *ℤ pos c) ds (batchSteps g) j =
+        let at : (c j : ℕ) → componentPlace g c j ≡ offsetAt (g .indices .offset +ℤ vectorStride (g .indices) (g .spec .index-vector-dim) *ℤ pos c) ds (batchSteps g) j =
         λ c j. gather-component-at g v (unravel ds j) c ∙ turn (g .indices .offset) (dot (batchSteps g) (unravel ds j)) (vectorStride (g .indices) (g .spec .index-vector-dim) *ℤ pos c) in
-        let into : (j : ℕ) → windowAt g j ≡ offsetAt (g .operand .offset) ds (windowSteps g) j =
+        let into : (j : ℕ) → windowPlace g j ≡ offsetAt (g .operand .offset) ds (windowSteps g) j =
         λ j. place-ints (g .operand) (fullOffset g (unravel ds j)) ∙ ap (λ (z : ℤ). g .operand .offset +ℤ z) (dot-window g (v .shown) (unravel ds j)) in
         record {
           dest = ap (λ (z : ℤ). stepped (λ a. a .«dest_step») (λ a. a .«dest_reset») ds axes (unravel ds k) z) (write-place g k)
