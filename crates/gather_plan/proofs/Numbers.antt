@@ -2,16 +2,16 @@
 use mathlib.Core.Path.{_≡_, refl, sym, ap, _∙_}
 use mathlib.Core.Bool.{Bool, true, false, cond, _||_, true≢false}
 use mathlib.Core.List.{List, [], _∷_}
-use Prim.Native.Nat.{ℕ, zero, suc, _+_, _<_, _≤_}
+use Prim.Native.Nat.{ℕ, suc, _+_, _<_, _≤_}
 use native.Mathlib.Omega.{arith}
 use borrow.Author.Tests.{eqb-true}
 use lib.Dec.{eqb, ltb}
 use lib.ListN.{length, getD}
 use lib.IntN.{ℤ, pos, _+ℤ_, _*ℤ_}
 use Rattle.integer.specs.Laws.{+ℤ-ac}
-use Rattle.indexing.specs.Coordinates.{rank, product, unravel, dot, ints, pick, spread, has, others, tabulate}
+use Rattle.indexing.specs.Coordinates.{rank, product, unravel, dot, spread, has, others, tabulate}
 use Rattle.indexing.specs.Start.{without}
-use Rattle.indexing.specs.Gather.{Gather, batchDims, shownDims, fullOffset, writeAt, cells, reads}
+use Rattle.indexing.specs.Gather.{Gather, batchDims, fullOffset, cells, reads}
 use Rattle.indexing.specs.Linear.{index-pos}
 use Rattle.indexing.specs.Odometer.{offsetAt, advance, advance-offset}
 use Rattle.indexing.specs.Axes.{length-pick, getD-pick, pick-spread, axes-others}
@@ -21,7 +21,7 @@ use Rattle.indexing.specs.Valid.{ValidGather}
 use Rattle.indexing.specs.Places.{gather-component-at}
 use Rattle.layout.specs.declared.Answer.the-variants as A
 use Rattle.layout.specs.Answers.{isDone}
-use Rattle.layout.specs.Layouts.{rankLimit, padded}
+use Rattle.layout.specs.Layouts.{rankLimit}
 use Rattle.axis_lists.proofs.Without.{length-starts}
 use Rattle.components.proofs.Padded.{padded-entry}
 use Rattle.checks.proofs.Held.{length-padded}
@@ -142,11 +142,11 @@ module _ (g : Gather) (done : isDone (refusalOf A.Done g) ≡ true) where
         λ j. place-ints (g .operand) (fullOffset g (unravel ds j)) ∙ ap (λ (z : ℤ). g .operand .offset +ℤ z) (dot-window g (v .shown) (unravel ds j)) in
         record {
           dest = ap (λ (z : ℤ). stepped (λ a. a .«dest_step») (λ a. a .«dest_reset») ds axes (unravel ds k) z) (write-place g k)
-          ∙ side (λ a. a .«dest_step») (λ a. a .«dest_reset») (g .result .strides) (g .result .offset) (v .result-strided) (λ a. (refl, refl)) ∙ sym (write-place g (k + 1));
+              ∙ side (λ a. a .«dest_step») (λ a. a .«dest_reset») (g .result .strides) (g .result .offset) (v .result-strided) (λ a. (refl, refl)) ∙ sym (write-place g (k + 1));
           window = ap (λ (z : ℤ). stepped (λ a. a .«window_step») (λ a. a .«window_reset») ds axes (unravel ds k) z) (into k)
-          ∙ side (λ a. a .«window_step») (λ a. a .«window_reset») (windowSteps g) (g .operand .offset) (length-window g) (λ a. (refl, refl)) ∙ sym (into (k + 1));
+              ∙ side (λ a. a .«window_step») (λ a. a .«window_reset») (windowSteps g) (g .operand .offset) (length-window g) (λ a. (refl, refl)) ∙ sym (into (k + 1));
           batch = λ c. ap (λ (z : ℤ). stepped (λ a. a .«index_batch_step») (λ a. a .«index_batch_reset») ds axes (unravel ds k) z) (at c k)
-          ∙ side (λ a. a .«index_batch_step») (λ a. a .«index_batch_reset») (batchSteps g) (g .indices .offset +ℤ vectorStride (g .indices) (g .spec .index-vector-dim) *ℤ pos c) (length-batch g) (λ a. (refl, refl)) ∙ sym (at c (k + 1));
+              ∙ side (λ a. a .«index_batch_step») (λ a. a .«index_batch_reset») (batchSteps g) (g .indices .offset +ℤ vectorStride (g .indices) (g .spec .index-vector-dim) *ℤ pos c) (length-batch g) (λ a. (refl, refl)) ∙ sym (at c (k + 1));
         }
       where
         turn : (a b c : ℤ) → a +ℤ (b +ℤ c) ≡ a +ℤ c +ℤ b

@@ -8,7 +8,7 @@ use lib.ListN.{length, getD}
 use lib.IntN.{ℤ, pos, _*ℤ_}
 use Rattle.indexing.specs.Coordinates.{product, pick, elementAt, tabulate}
 use Rattle.indexing.specs.Start.{without}
-use Rattle.indexing.specs.Scatter.{Scatter, Update, joined, landsAt, updateAt, placedUpdates}
+use Rattle.indexing.specs.Scatter.{Scatter, joined, landsAt, updateAt, placedUpdates}
 use Rattle.indexing.specs.Axes.{length-pick, getD-pick}
 use Rattle.indexing.specs.Steps.{vectorStride}
 use Rattle.indexing.specs.Updates.{length-tabulate, getD-tabulate}
