@@ -19,17 +19,18 @@ use layout::RAW_FUSED_RANK_LIMIT;
 use layout::View;
 
 // What an axis adds to the place in the operand, and to the one in the index view.
-pub struct AxisMove {
-    pub window: i64,
-    pub batch: i64,
+struct AxisMove {
+    window: i64,
+    batch: i64,
 }
 
 // The same of every axis.
-pub struct Moves {
-    pub window: [i64; RAW_FUSED_RANK_LIMIT],
-    pub batch: [i64; RAW_FUSED_RANK_LIMIT],
+struct Moves {
+    window: [i64; RAW_FUSED_RANK_LIMIT],
+    batch: [i64; RAW_FUSED_RANK_LIMIT],
 }
 
+// An axis moves by its role, one place or the other.
 fn axis_move(axis: GatherReplayAxis) -> AxisMove
     ensures { λ r. ⌜ r ≡ moveOf axis ⌝ }
 {
