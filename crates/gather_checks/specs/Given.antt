@@ -34,10 +34,8 @@ abbrev pub shapeAnswer : List ℕ → List ℕ → List ℕ → List ℕ → Lis
 shapeAnswer shown starts others ie de offsets sizes =
     cond (shapeBy shown starts others ie de offsets sizes) A.Done (A.ShapeMismatch (length de) (length starts + length offsets))
 
--- lists that neither 1 nor 2 refuses, and no more batch axes than the rank limit
-pub record Made (oe : List ℕ) (os : List ℤ) (ie : List ℕ) (is : List ℤ) (de : List ℕ) (ds : List ℤ) (starts : List ℕ) : Type 0 where
-  pub operand : length os ≡ length oe
-  pub index : length is ≡ length ie
+-- a destination that neither 1 nor 2 refuses, and no more batch axes than the rank limit
+pub record Made (de : List ℕ) (ds : List ℤ) (starts : List ℕ) : Type 0 where
   pub dest : length ds ≡ length de
   pub few : length de ≤ rankLimit
   pub batch : length starts ≤ rankLimit

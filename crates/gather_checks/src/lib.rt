@@ -217,7 +217,7 @@ fn examine_axes(
     starts: &[u64],
     others: &[u64],
 ) -> Examined
-    requires { ⌜ Made (now oe) (now os) (now ie) (now is) (now de) (now ds) (now starts) ⌝ }
+    requires { ⌜ Made (now de) (now ds) (now starts) ⌝ }
     ensures { λ r. ⌜ r ≡ examinedBy (now (oe .entry)) (now (os .entry)) (now (ie .entry)) (now (is .entry)) (now (de .entry)) (now (ds .entry)) (now («offset_dims» .entry)) (now (collapsed .entry)) (now (map .entry)) vector (now (sizes .entry)) four (now (shown .entry)) (now (starts .entry)) (now (others .entry)) ⌝ }
 {
     let window = axis_lists::spread_picked(de.len(), offset_dims, shown, os);
