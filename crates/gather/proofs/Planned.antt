@@ -26,16 +26,20 @@ use Rattle.calls.specs.Calls.{sameView, sameViews, planRefusal, reachIn, bounds
 use Rattle.calls.proofs.Same.{same-view-is}
 use Rattle.calls.proofs.Does.{plan-done}
 use Rattle.gather_checks.specs.Refusals.{specRefusal, refusalOf}
+use Rattle.gather_plan.specs.declared.Role.{Role}
+use Rattle.gather_plan.specs.declared.Role.the-variants.{Batch, Window}
 use Rattle.gather_plan.specs.declared.GatherReplayAxis.{GatherReplayAxis}
 use Rattle.gather_plan.specs.declared.GatherPlan.{GatherPlan}
 use Rattle.gather_plan.specs.Plan.{noAxis, axisOf, planOf, heldGather}
 use Rattle.gather_plan.proofs.Accepted.{Accepted, accepted, length-window, length-batch}
+use Rattle.gather_plan.proofs.Roles.{window-stays, batch-stays}
 use Rattle.gather_same.specs.Same.{isCompiled}
 use Rattle.gather_same.proofs.Compiled.{compiled-is}
 use Rattle.gather_move.specs.Prepared.{gatherNumbers, startBase, Ready}
 use Rattle.gather_move.specs.declared.GatherNumbers.{GatherNumbers}
 use Rattle.gather_move.specs.declared.PreparedGather.{PreparedGather}
-use Rattle.gather.specs.Calls.{gatherOf, planFits, callAnswer, windowStepsOf, batchStepsOf}
+use Rattle.gather.specs.Calls.{gatherOf, planFits, callAnswer, moveBy, moveOf, movesOf}
+use Rattle.gather.specs.declared.Moves.{Moves}
 
 -- ---- a compiled plan's numbers are those of its gather
 module _ (p : GatherPlan) (ok : isCompiled p ≡ true) where
@@ -58,20 +62,30 @@ module _ (p : GatherPlan) (ok : isCompiled p ≡ true) where
       ap (λ (q : GatherPlan). tabulate rankLimit (λ a. f (getD (q .axes) a noAxis))) is
       ∙ each-padded f noAxis (tabulate n (axisOf g)) l none (omega (arith, m, fits .dest-rank)) (k ∙ sym m) (λ a h. ap f (getD-tabulate n (axisOf g) a noAxis (omega (arith, m))) ∙ each a)
 
-  window-is : windowStepsOf (p .axes) ≡ padded rankLimit (pos 0) (windowSteps g)
-  window-is = steps-are (λ a. a .«window_step») (windowSteps g) refl (length-window g) (λ a. refl)
+  -- by its role an axis moves as its steps say: compile gives 0 where it stands still
+  moves-are : (a : ℕ) → (moveOf (axisOf g a) .window ≡ getD (windowSteps g) a (pos 0)) × (moveOf (axisOf g a) .batch ≡ getD (batchSteps g) a (pos 0))
+  moves-are a = go (axisOf g a .role) refl
+    where
+      go : (r : Role) → axisOf g a .role ≡ r → (moveBy r (getD (windowSteps g) a (pos 0)) (getD (batchSteps g) a (pos 0)) .window ≡ getD (windowSteps g) a (pos 0)) × (moveBy r (getD (windowSteps g) a (pos 0)) (getD (batchSteps g) a (pos 0)) .batch ≡ getD (batchSteps g) a (pos 0))
+      go (Window k) e = (refl, sym (batch-stays g a k e))
+      go Batch e = (sym (window-stays g a e), refl)
 
-  batch-is : batchStepsOf (p .axes) ≡ padded rankLimit (pos 0) (batchSteps g)
-  batch-is = steps-are (λ a. a .«index_batch_step») (batchSteps g) refl (length-batch g) (λ a. refl)
+  window-is : movesOf (p .axes) .window ≡ padded rankLimit (pos 0) (windowSteps g)
+  unfolding movesOf
+  window-is = steps-are (λ a. moveOf a .window) (windowSteps g) refl (length-window g) (λ a. moves-are a .0)
 
-  pub numbers-are : (window batch stepped : List ℤ) (limits : List ℕ) → window ≡ windowStepsOf (p .axes) → batch ≡ batchStepsOf (p .axes)
-      → stepped ≡ unlessNone (p .«start_index_map» .count) (replicate rankLimit (pos 0)) batch
+  batch-is : movesOf (p .axes) .batch ≡ padded rankLimit (pos 0) (batchSteps g)
+  unfolding movesOf
+  batch-is = steps-are (λ a. moveOf a .batch) (batchSteps g) refl (length-batch g) (λ a. moves-are a .1)
+
+  pub numbers-are : (moves : Moves) (stepped : List ℤ) (limits : List ℕ) → moves ≡ movesOf (p .axes)
+      → stepped ≡ unlessNone (p .«start_index_map» .count) (replicate rankLimit (pos 0)) (moves .batch)
       → limits ≡ tabulate rankLimit (limitAt (extentsOf (p .operand)) (numbersOf (p .«slice_sizes»)) (numbersOf (p .«start_index_map»)))
       → _≡_ {A = GatherNumbers}
       (record {
         rank = p .dest .rank;
         extents = p .dest .extents;
-        «window_steps» = window;
+        «window_steps» = moves .window;
         «batch_steps» = stepped;
         «dest_steps» = p .dest .strides;
         count = p .«start_index_map» .count;
@@ -81,13 +95,13 @@ module _ (p : GatherPlan) (ok : isCompiled p ≡ true) where
       })
       (gatherNumbers g)
   unfolding gatherNumbers
-  numbers-are window batch stepped limits ew eb es el =
+  numbers-are moves stepped limits em es el =
       let n = ap (λ (q : GatherPlan). q .«start_index_map» .count) is in
       λ i. record {
         rank = is i .dest .rank;
         extents = is i .dest .extents;
-        «window_steps» = (ew ∙ window-is) i;
-        «batch_steps» = (es ∙ ap₂ (λ (m : ℕ) (l : List ℤ). unlessNone m (replicate rankLimit (pos 0)) l) n (eb ∙ batch-is)) i;
+        «window_steps» = (ap (λ (m : Moves). m .window) em ∙ window-is) i;
+        «batch_steps» = (es ∙ ap₂ (λ (m : ℕ) (l : List ℤ). unlessNone m (replicate rankLimit (pos 0)) l) n (ap (λ (m : Moves). m .batch) em ∙ batch-is)) i;
         «dest_steps» = is i .dest .strides;
         count = n i;
         offsets = is i .«index_component_offsets» .entries;

@@ -3,7 +3,7 @@ use mathlib.Core.Bool.{Bool, _&&_}
 use mathlib.Core.List.{List}
 use Prim.Native.Nat.{ℕ}
 use lib.ListN.{length, getD}
-use lib.IntN.{ℤ}
+use lib.IntN.{ℤ, pos}
 use Rattle.indexing.specs.Coordinates.{tabulate}
 use Rattle.indexing.specs.Gather.{Gather}
 use Rattle.layout.specs.declared.Answer.{Answer}
@@ -11,10 +11,14 @@ use Rattle.layout.specs.declared.View.{View}
 use Rattle.layout.specs.Answers.{orElse}
 use Rattle.layout.specs.Layouts.{rankLimit}
 use Rattle.calls.specs.Calls.{viewOf, sameViews, planRefusal, boundsRefusal, GatherCall}
+use Rattle.gather_plan.specs.declared.Role.{Role}
+use Rattle.gather_plan.specs.declared.Role.the-variants.{Batch, Window}
 use Rattle.gather_plan.specs.declared.GatherReplayAxis.{GatherReplayAxis}
 use Rattle.gather_plan.specs.declared.GatherPlan.{GatherPlan}
 use Rattle.gather_plan.specs.Plan.{noAxis, heldGather}
 use Rattle.gather_same.specs.Same.{isCompiled}
+use Rattle.gather.specs.declared.AxisMove.{AxisMove}
+use Rattle.gather.specs.declared.Moves.{Moves}
 
 -- the gather of a call: the plan's spec on the call's operand, index and destination
 abbrev pub gatherOf : GatherPlan → View → View → View → Gather
@@ -32,9 +36,14 @@ callAnswer p g on sn dn = orElse (planRefusal (planFits p g)) (boundsRefusal (g 
 abbrev pub byPlan : GatherPlan → View → View → View → List ℤ → GatherCall
 byPlan p o i d starts = record { answer = λ on dn. callAnswer p (gatherOf p o i d) on (length starts) dn; gather = gatherOf p o i d; starts = starts }
 
--- the steps of a plan's axes in the operand, and in the index view
-abbrev pub windowStepsOf : List GatherReplayAxis → List ℤ
-windowStepsOf axes = tabulate rankLimit (λ a. getD axes a noAxis .«window_step»)
+-- how an axis moves, by its role: a window axis goes along the operand and stands still in the index view, a batch axis the other way round
+abbrev pub moveBy : Role → ℤ → ℤ → AxisMove
+moveBy (Window k) window batch = record { window = window; batch = pos 0 }
+moveBy Batch window batch = record { window = pos 0; batch = batch }
 
-abbrev pub batchStepsOf : List GatherReplayAxis → List ℤ
-batchStepsOf axes = tabulate rankLimit (λ a. getD axes a noAxis .«index_batch_step»)
+abbrev pub moveOf : GatherReplayAxis → AxisMove
+moveOf axis = moveBy (axis .role) (axis .«window_step») (axis .«index_batch_step»)
+
+-- and how all axes of a plan do
+unfoldable pub movesOf : List GatherReplayAxis → Moves
+movesOf axes = record { window = tabulate rankLimit (λ a. moveOf (getD axes a noAxis) .window); batch = tabulate rankLimit (λ a. moveOf (getD axes a noAxis) .batch) }

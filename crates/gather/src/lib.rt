@@ -8,41 +8,61 @@ ghost use Rattle.calls.specs.Calls.{asIs, Gathers};
 ghost use Rattle.gather_same.specs.Same.{isCompiled};
 ghost use Rattle.gather_plan.specs.Plan.{heldGather};
 ghost use Rattle.gather_move.specs.Prepared.{gatherNumbers, Prepares};
-ghost use Rattle.gather.specs.Calls.{gatherOf, planFits, callAnswer, byPlan, windowStepsOf, batchStepsOf};
+ghost use Rattle.gather.specs.Calls.{gatherOf, planFits, callAnswer, byPlan, moveOf, movesOf};
 use gather_move::GatherNumbers;
 use gather_move::PreparedGather;
 use gather_plan::GatherPlan;
 use gather_plan::GatherReplayAxis;
+use gather_plan::Role;
 use layout::Answer;
 use layout::RAW_FUSED_RANK_LIMIT;
 use layout::View;
 
-fn window_steps(axes: [GatherReplayAxis; RAW_FUSED_RANK_LIMIT]) -> [i64; RAW_FUSED_RANK_LIMIT]
-    ensures { λ r. ⌜ r ≡ windowStepsOf axes ⌝ }
-{
-    let mut out = [0i64; RAW_FUSED_RANK_LIMIT];
-    let mut i: usize = 0;
-    while i < RAW_FUSED_RANK_LIMIT {
-        let axis = axes[i];
-        let step = axis.window_step;
-        out[i] = step;
-        i += 1;
-    }
-    out
+// What an axis adds to the place in the operand, and to the one in the index view.
+struct AxisMove {
+    window: i64,
+    batch: i64,
 }
 
-fn batch_steps(axes: [GatherReplayAxis; RAW_FUSED_RANK_LIMIT]) -> [i64; RAW_FUSED_RANK_LIMIT]
-    ensures { λ r. ⌜ r ≡ batchStepsOf axes ⌝ }
+// The same of every axis.
+struct Moves {
+    window: [i64; RAW_FUSED_RANK_LIMIT],
+    batch: [i64; RAW_FUSED_RANK_LIMIT],
+}
+
+// An axis moves by its role, one place or the other.
+fn axis_move(axis: GatherReplayAxis) -> AxisMove
+    ensures { λ r. ⌜ r ≡ moveOf axis ⌝ }
 {
-    let mut out = [0i64; RAW_FUSED_RANK_LIMIT];
+    let role = axis.role;
+    match role {
+        Role::Window(_) => AxisMove {
+            window: axis.window_step,
+            batch: 0,
+        },
+        Role::Batch => AxisMove {
+            window: 0,
+            batch: axis.index_batch_step,
+        },
+    }
+}
+
+fn moves_of(axes: [GatherReplayAxis; RAW_FUSED_RANK_LIMIT]) -> Moves
+    ensures { λ r. ⌜ r ≡ movesOf axes ⌝ }
+{
+    let mut window = [0i64; RAW_FUSED_RANK_LIMIT];
+    let mut batch = [0i64; RAW_FUSED_RANK_LIMIT];
     let mut i: usize = 0;
     while i < RAW_FUSED_RANK_LIMIT {
         let axis = axes[i];
-        let step = axis.index_batch_step;
-        out[i] = step;
+        let moved = axis_move(axis);
+        let w = moved.window;
+        let b = moved.batch;
+        window[i] = w;
+        batch[i] = b;
         i += 1;
     }
-    out
+    Moves { window, batch }
 }
 
 // The numbers that the cells of a plan are moved with.
@@ -57,8 +77,9 @@ fn numbers_of(plan: GatherPlan) -> GatherNumbers
     let axes = plan.axes;
     let index_component_offsets = plan.index_component_offsets;
     let index_operand_strides = plan.index_operand_strides;
-    let window = window_steps(axes);
-    let batch = batch_steps(axes);
+    let moves = moves_of(axes);
+    let window = moves.window;
+    let batch = moves.batch;
     let stepped = components::unless_none(map.count, batch);
     let limits = components::limits_of(operand, sizes, map);
     let extents = dest.extents;

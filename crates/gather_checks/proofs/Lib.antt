@@ -1,2 +1,3 @@
 pub mod Collapsed
 pub mod Found
+pub mod Offsets

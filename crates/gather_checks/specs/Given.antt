@@ -4,7 +4,7 @@ use mathlib.Core.Bool.{Bool, true, cond, _&&_}
 use mathlib.Core.List.{List, []}
 use Prim.Native.Nat.{ℕ, _+_, _≤_}
 use lib.Dec.{eqb}
-use lib.ListN.{length, getD}
+use lib.ListN.{length}
 use lib.IntN.{ℤ, pos}
 use Rattle.indexing.specs.Coordinates.{pick, spread}
 use Rattle.indexing.specs.Gather.{Gather}
@@ -34,10 +34,8 @@ abbrev pub shapeAnswer : List ℕ → List ℕ → List ℕ → List ℕ → Lis
 shapeAnswer shown starts others ie de offsets sizes =
     cond (shapeBy shown starts others ie de offsets sizes) A.Done (A.ShapeMismatch (length de) (length starts + length offsets))
 
--- lists that neither 1 nor 2 refuses, and no more batch axes than the rank limit
-pub record Made (oe : List ℕ) (os : List ℤ) (ie : List ℕ) (is : List ℤ) (de : List ℕ) (ds : List ℤ) (starts : List ℕ) : Type 0 where
-  pub operand : length os ≡ length oe
-  pub index : length is ≡ length ie
+-- a destination that neither 1 nor 2 refuses, and no more batch axes than the rank limit
+pub record Made (de : List ℕ) (ds : List ℤ) (starts : List ℕ) : Type 0 where
   pub dest : length ds ≡ length de
   pub few : length de ≤ rankLimit
   pub batch : length starts ≤ rankLimit
@@ -50,7 +48,7 @@ abbrev pub answerBy : List ℕ → List ℤ → List ℕ → List ℤ → List �
 answerBy oe os ie is de ds offsets collapsed map vector sizes four shown starts others =
     orElse four (orElse (listsRefusal oe ie collapsed map vector sizes)
     (orElse (countsBy (componentsOf ie vector) (length shown) (length starts) offsets map) (orElse (shapeAnswer shown starts others ie de offsets sizes)
-    (resetsRefusal de ds (stepsBy (length de) offsets shown os) (stepsBy (length de) others starts is) (getD is vector (pos 0)) (length map)))))
+    (resetsRefusal de ds (stepsBy (length de) offsets shown os) (stepsBy (length de) others starts is)))))
 
 unfoldable pub examinedBy : List ℕ → List ℤ → List ℕ → List ℤ → List ℕ → List ℤ → List ℕ → List ℕ → List ℕ → ℕ → List ℕ → Answer → List ℕ → List ℕ → List ℕ → Examined
 examinedBy oe os ie is de ds offsets collapsed map vector sizes four shown starts others =

@@ -8,14 +8,14 @@ use lib.IntN.{ℤ, pos}
 use Rattle.indexing.specs.Coordinates.{pick, others}
 use Rattle.indexing.specs.Start.{without}
 use Rattle.indexing.specs.Gather.{Gather}
-use Rattle.indexing.specs.Steps.{vectorStride, windowSteps, batchSteps}
+use Rattle.indexing.specs.Steps.{windowSteps, batchSteps}
 use Rattle.layout.specs.declared.Answer.{Answer}
 use Rattle.layout.specs.declared.Answer.the-variants as A
 use Rattle.layout.specs.Answers.{orElse}
 use Rattle.layout.specs.Lists.{uniqueAxes}
 use Rattle.layout.specs.Spans.{totalOf, spanned, resetOf}
 use Rattle.axis_lists.specs.Held.{sameList}
-use Rattle.checks.specs.Checks.{viewFrom, layoutsRefusal, firstOf, totalFits, spanFits, numberFits, offsetFits, nestedRefusal, sameCount, vectorAxis, componentsOf, windowsFit}
+use Rattle.checks.specs.Checks.{viewFrom, layoutsRefusal, firstOf, totalFits, spanFits, numberFits, nestedRefusal, sameCount, vectorAxis, componentsOf, windowsFit}
 
 -- a gather from its layouts and its spec's lists; where its views begin does not matter to a plan
 abbrev pub gatherFrom : List ℕ → List ℤ → List ℕ → List ℤ → List ℕ → List ℤ → List ℕ → List ℕ → List ℕ → ℕ → List ℕ → Gather
@@ -75,9 +75,8 @@ axisResets d s w b = orElse (numberFits (resetOf d s)) (orElse (numberFits (rese
 abbrev pub resetsAt : List ℕ → List ℤ → List ℤ → List ℤ → ℕ → Answer
 resetsAt ds ss ws bs i = axisResets (getD ds i 0) (getD ss i (pos 0)) (getD ws i (pos 0)) (getD bs i (pos 0))
 
--- and the offsets of the components, the vector axis's stride times c
-abbrev pub resetsRefusal : List ℕ → List ℤ → List ℤ → List ℤ → ℤ → ℕ → Answer
-resetsRefusal de ds window batch stride components = orElse (firstOf (resetsAt de ds window batch) (length de) 0) (firstOf (offsetFits stride) components 0)
+abbrev pub resetsRefusal : List ℕ → List ℤ → List ℤ → List ℤ → Answer
+resetsRefusal de ds window batch = firstOf (resetsAt de ds window batch) (length de) 0
 
 -- what comes after 4
 unfoldable pub specRefusal : Gather → Answer
@@ -85,7 +84,7 @@ specRefusal g =
     orElse (listsRefusal (g .operand .extents) (g .indices .extents) (g .spec .collapsed-slice-dims) (g .spec .start-index-map) (g .spec .index-vector-dim) (g .spec .slice-sizes))
     (orElse (countsRefusal (g .operand .extents) (g .indices .extents) (g .spec .offset-dims) (g .spec .collapsed-slice-dims) (g .spec .start-index-map) (g .spec .index-vector-dim))
     (orElse (shapeRefusal (g .operand .extents) (g .indices .extents) (g .result .extents) (g .spec .offset-dims) (g .spec .collapsed-slice-dims) (g .spec .index-vector-dim) (g .spec .slice-sizes))
-    (resetsRefusal (g .result .extents) (g .result .strides) (windowSteps g) (batchSteps g) (vectorStride (g .indices) (g .spec .index-vector-dim)) (length (g .spec .start-index-map)))))
+    (resetsRefusal (g .result .extents) (g .result .strides) (windowSteps g) (batchSteps g))))
 
 -- THE REFUSAL of a gather, given what is answered in the place of 4
 abbrev pub refusalOf : Answer → Gather → Answer

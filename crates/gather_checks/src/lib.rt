@@ -7,8 +7,8 @@ ghost use Rattle.layout.specs.declared.Answer.the-variants as Ans;
 ghost use Rattle.layout.specs.Answers.{isDone};
 ghost use Rattle.layout.specs.Layouts.{rankLimit};
 ghost use Rattle.layout.specs.Spans.{resetOf};
-ghost use Rattle.checks.specs.Checks.{firstOf, numberFits, nestedRefusal, componentsOf};
-ghost use Rattle.gather_checks.specs.Refusals.{gatherFrom, numbersRefusal, sizesRefusal, compileRefusal, listsRefusal, resetsRefusal, collapsedOne, axisResets, resetsAt};
+ghost use Rattle.checks.specs.Checks.{numberFits, nestedRefusal, componentsOf};
+ghost use Rattle.gather_checks.specs.Refusals.{gatherFrom, numbersRefusal, sizesRefusal, compileRefusal, listsRefusal, resetsRefusal, collapsedOne, axisResets};
 ghost use Rattle.gather_checks.specs.Given.{countsBy, shapeBy, shapeAnswer, Made, examinedBy, Examines};
 use integer::Checked;
 use layout::Answer;
@@ -94,9 +94,9 @@ fn check_axis(extent: u64, dest: i64, window: i64, batch: i64) -> Answer
 }
 
 // 3 for the resets of each axis.
-fn check_axes(de: &[u64], ds: &[i64], window: &[i64], batch: &[i64]) -> Answer
+fn check_resets(de: &[u64], ds: &[i64], window: &[i64], batch: &[i64]) -> Answer
     requires { ⌜ (length (now ds) ≡ length (now de)) × (length (now window) ≡ length (now de)) × (length (now batch) ≡ length (now de)) ⌝ }
-    ensures { λ r. ⌜ r ≡ firstOf (resetsAt (now (de .entry)) (now (ds .entry)) (now (window .entry)) (now (batch .entry))) (length (now (de .entry))) 0 ⌝ }
+    ensures { λ r. ⌜ r ≡ resetsRefusal (now (de .entry)) (now (ds .entry)) (now (window .entry)) (now (batch .entry)) ⌝ }
 {
     let mut i: usize = 0;
     while i < de.len() {
@@ -198,23 +198,6 @@ fn check_shape(
     Answer::ShapeMismatch(de.len() as u64, expected)
 }
 
-// 3 for resets and component offsets.
-fn check_resets(
-    de: &[u64],
-    ds: &[i64],
-    window: &[i64],
-    batch: &[i64],
-    stride: i64,
-    components: u64,
-) -> Answer
-    requires { ⌜ (length (now ds) ≡ length (now de)) × (length (now window) ≡ length (now de)) × (length (now batch) ≡ length (now de)) ⌝ }
-    ensures { λ r. ⌜ r ≡ resetsRefusal (now (de .entry)) (now (ds .entry)) (now (window .entry)) (now (batch .entry)) stride components ⌝ }
-{
-    let axes = check_axes(de, ds, window, batch);
-    let offsets = components::check_components(stride, components);
-    checks::or_else(axes, offsets)
-}
-
 // What is asked from 4 on, given what is answered in its place, the operand's axes that are shown, the index view's batch axes and the
 // destination's other axes.
 fn examine_axes(
@@ -234,7 +217,7 @@ fn examine_axes(
     starts: &[u64],
     others: &[u64],
 ) -> Examined
-    requires { ⌜ Made (now oe) (now os) (now ie) (now is) (now de) (now ds) (now starts) ⌝ }
+    requires { ⌜ Made (now de) (now ds) (now starts) ⌝ }
     ensures { λ r. ⌜ r ≡ examinedBy (now (oe .entry)) (now (os .entry)) (now (ie .entry)) (now (is .entry)) (now (de .entry)) (now (ds .entry)) (now («offset_dims» .entry)) (now (collapsed .entry)) (now (map .entry)) vector (now (sizes .entry)) four (now (shown .entry)) (now (starts .entry)) (now (others .entry)) ⌝ }
 {
     let window = axis_lists::spread_picked(de.len(), offset_dims, shown, os);
@@ -242,16 +225,8 @@ fn examine_axes(
     let b = check_lists(oe, ie, collapsed, map, vector, sizes);
     let c = check_counts(ie, shown.len(), starts.len(), offset_dims, map, vector);
     let d = check_shape(shown, starts, others, ie, de, offset_dims, sizes);
-    let stride = axis_lists::stride_at(is, vector);
     let n = de.len();
-    let e = check_resets(
-        de,
-        ds,
-        &window[0..n],
-        &batch[0..n],
-        stride,
-        map.len() as u64,
-    );
+    let e = check_resets(de, ds, &window[0..n], &batch[0..n]);
     let shape = checks::or_else(c, checks::or_else(d, e));
     let answer = checks::or_else(four, checks::or_else(b, shape));
     Examined {

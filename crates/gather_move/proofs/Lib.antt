@@ -1,4 +1,3 @@
-pub mod Accepts
 pub mod Numbers
 pub mod Moving
 pub mod Parts

@@ -29,6 +29,7 @@ use Rattle.components.proofs.Padded.{unless-some}
 use Rattle.calls.proofs.Covers.{no-zero, covered}
 use Rattle.calls.proofs.Sums.{sum-same, clamp-limit, zero-dot, axis-below}
 use Rattle.gather_checks.specs.Refusals.{refusalOf}
+use Rattle.gather_plan.proofs.Valid.{small, valid}
 use Rattle.runs.specs.Runs.{cellAt}
 use Rattle.runs.proofs.Turns.{same-turns}
 use Rattle.windows.specs.Windows.{placeAt}
@@ -37,7 +38,6 @@ use Rattle.indexed_runs.proofs.Starts.{in-wider}
 use Rattle.gather_windows.specs.Gathering.{gatheredBy, Gathering}
 use Rattle.gather_move.specs.Prepared.{gatherNumbers, startBase}
 use Rattle.gather_move.specs.declared.GatherNumbers.{GatherNumbers}
-use Rattle.gather_move.proofs.Accepts.{small, valid}
 use Rattle.gather_move.proofs.Numbers.{rank-few, map-few, array-room, extents-are, dest-steps, window-steps, batch-steps, offset-at, stride-at, limit-at}
 
 module _ (g : Gather) (done : isDone (refusalOf A.Done g) ≡ true) where

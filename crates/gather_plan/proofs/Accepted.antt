@@ -1,13 +1,13 @@
 -- What is known of a gather that is not refused: its lists fit, its numbers fit, and what the code makes is its plan. Assumes nothing.
 use mathlib.Core.Path.{_≡_, sym, ap, _∙_}
 use mathlib.Core.Bool.{true}
-use mathlib.Core.List.{List, []}
+use mathlib.Core.List.{List}
 use Prim.Native.Nat.{ℕ, _<_, _≤_, min}
 use native.Mathlib.Omega.{arith}
 use lib.ListN.{length, getD, take}
 use lib.Seq.{take-all}
 use lib.IntN.{ℤ, pos, _*ℤ_}
-use Rattle.indexing.specs.Coordinates.{product, pick, others, tabulate}
+use Rattle.indexing.specs.Coordinates.{product, pick, tabulate}
 use Rattle.indexing.specs.Start.{without}
 use Rattle.indexing.specs.Gather.{Gather, shownDims, batchDims}
 use Rattle.indexing.specs.Axes.{length-spread}
@@ -15,18 +15,18 @@ use Rattle.indexing.specs.Steps.{vectorStride, windowSteps, batchSteps}
 use Rattle.layout.specs.declared.Answer.{Answer}
 use Rattle.layout.specs.Answers.{isDone}
 use Rattle.layout.specs.Layouts.{rankLimit, padded, layoutOf, extentsOf, stridesOf, strideLength, rankAtMost}
-use Rattle.layout.specs.Lists.{uniqueAxes}
 use Rattle.layout.specs.Spans.{totalOf, resetOf}
 use Rattle.layout.specs.Laws.{total-is, reset-is}
 use Rattle.axis_lists.proofs.Filling.{read-back, length-others}
-use Rattle.checks.specs.Checks.{firstOf, totalFits, numberFits, offsetFits, sameCount, componentsOf, layoutsRefusal}
+use Rattle.checks.specs.Checks.{totalFits, numberFits}
 use Rattle.checks.specs.Values.{resetOr, offsetOr, totalOr}
-use Rattle.checks.proofs.Made.{or-done, same-length, few-axes}
-use Rattle.checks.proofs.Lists.{unique-axes, axes-few, tabulate-same}
-use Rattle.checks.proofs.Fits.{fits-value, total-value, offset-value, first-each, same-count}
-use Rattle.gather_checks.specs.Refusals.{resetsAt, sizesRefusal, specRefusal, numbersRefusal, listsRefusal, countsRefusal, shapeRefusal, refusalOf}
+use Rattle.checks.proofs.Made.{or-done, few-axes}
+use Rattle.checks.proofs.Lists.{axes-few, tabulate-same}
+use Rattle.checks.proofs.Fits.{fits-value, total-value, offset-value, first-each}
+use Rattle.gather_checks.specs.Refusals.{resetsAt, refusalOf}
 use Rattle.gather_plan.specs.Plan.{reset, axisOf, noAxis, roleOf}
 use Rattle.gather_plan.specs.Made.{axisFrom, axesFrom}
+use Rattle.gather_plan.proofs.Valid.{checks, valid, shown-count, offsets-fit}
 
 -- ---- a reset that was accepted is the reset
 reset-value : (d : ℕ) (s : ℤ) → isDone (numberFits (resetOf d s)) ≡ true → resetOr d s ≡ reset d s
@@ -86,43 +86,33 @@ module _ (g : Gather) where
     pub offsets-fit : (c : ℕ) → c < length map → offsetOr stride c ≡ stride *ℤ pos c
 
   pub accepted : (four : Answer) → isDone (refusalOf four g) ≡ true → Accepted
-  unfolding sizesRefusal specRefusal
+  unfolding shownDims
   accepted four done =
-      let t0 = or-done (sizesRefusal oe os ie is de ds) _ done in
-      let t1 = or-done (layoutsRefusal (length oe) (length os) (length ie) (length is) (length de) (length ds)) (numbersRefusal oe os ie is de ds) (t0 .0) in
-      let t2 = or-done four (specRefusal g) (t0 .1) in
-      let t3 = or-done (listsRefusal oe ie (g .spec .collapsed-slice-dims) map (g .spec .index-vector-dim) (g .spec .slice-sizes)) _ (t2 .1) in
-      let t4 = or-done (countsRefusal oe ie (g .spec .offset-dims) (g .spec .collapsed-slice-dims) map (g .spec .index-vector-dim)) _ (t3 .1) in
-      let t5 = or-done (shapeRefusal oe ie de (g .spec .offset-dims) (g .spec .collapsed-slice-dims) (g .spec .index-vector-dim) (g .spec .slice-sizes)) _ (t4 .1) in
-      let a1 = or-done (strideLength (length oe) (length os)) _ (t1 .0) in
+      let t = checks four g done in
+      let v = valid four g done in
+      let a1 = or-done (strideLength (length oe) (length os)) _ (t .0) in
       let a2 = or-done (strideLength (length ie) (length is)) _ (a1 .1) in
       let a3 = or-done (strideLength (length de) (length ds)) _ (a2 .1) in
       let a4 = or-done (rankAtMost (length oe)) _ (a3 .1) in
       let a5 = or-done (rankAtMost (length ie)) _ (a4 .1) in
-      let b1 = or-done (totalFits (totalOf oe)) _ (t1 .1) in
+      let b1 = or-done (totalFits (totalOf oe)) _ (t .1) in
       let b2 = or-done (totalFits (totalOf ie)) _ (b1 .1) in
       let b3 = or-done (totalFits (totalOf de)) _ (b2 .1) in
-      let c1 = or-done (sameCount (length (g .spec .slice-sizes)) (length oe)) _ (t3 .0) in
-      let c2 = or-done (uniqueAxes (length oe) [] (g .spec .collapsed-slice-dims)) _ (c1 .1) in
-      let c3 = or-done (uniqueAxes (length oe) [] map) _ (c2 .1) in
-      let d1 = or-done (sameCount (componentsOf ie (g .spec .index-vector-dim)) (length map)) _ (t4 .0) in
-      let d2 = or-done (sameCount (length (g .spec .offset-dims)) (length (others (length oe) (g .spec .collapsed-slice-dims)))) _ (d1 .1) in
-      let e1 = or-done (firstOf (resetsAt de ds (windowSteps g) (batchSteps g)) (length de) 0) _ (t5 .1) in
       let few : length oe ≤ rankLimit = few-axes (length oe) (a4 .0) in
       record {
-        operand-strides = same-length (length oe) (length os) (a1 .0);
-        index-strides = same-length (length ie) (length is) (a2 .0);
-        dest-strides = same-length (length de) (length ds) (a3 .0);
+        operand-strides = v .operand-strided;
+        index-strides = v .indices-strided;
+        dest-strides = v .result-strided;
         operand-rank = few;
         index-rank = few-axes (length ie) (a5 .0);
         dest-rank = few-axes (length de) (a5 .1);
-        offsets-few = omega (arith, few, same-count (length (g .spec .offset-dims)) (length (others (length oe) (g .spec .collapsed-slice-dims))) (d2 .0), length-others 0 (length oe) (g .spec .collapsed-slice-dims));
-        collapsed-few = omega (arith, few, axes-few (length oe) (g .spec .collapsed-slice-dims) (unique-axes (length oe) (g .spec .collapsed-slice-dims) (c2 .0)));
-        map-few = omega (arith, few, axes-few (length oe) map (unique-axes (length oe) map (c3 .0)));
-        sizes-few = omega (arith, few, same-count (length (g .spec .slice-sizes)) (length oe) (c1 .0));
+        offsets-few = omega (arith, few, shown-count four g done, length-others 0 (length oe) (g .spec .collapsed-slice-dims));
+        collapsed-few = omega (arith, few, axes-few (length oe) (g .spec .collapsed-slice-dims) (v .collapsed));
+        map-few = omega (arith, few, axes-few (length oe) map (v .mapped));
+        sizes-few = omega (arith, few, v .sizes);
         total-fits = total-value (totalOf de) (product de) (b3 .0) (total-is de);
-        resets-fit-all = λ a h. resets-fit de ds (windowSteps g) (batchSteps g) a (first-each (resetsAt de ds (windowSteps g) (batchSteps g)) (length de) (e1 .0) a h);
-        offsets-fit = λ c h. offset-value stride c (first-each (offsetFits stride) (length map) (e1 .1) c h);
+        resets-fit-all = λ a h. resets-fit de ds (windowSteps g) (batchSteps g) a (first-each (resetsAt de ds (windowSteps g) (batchSteps g)) (length de) (t .5) a h);
+        offsets-fit = λ c h. offset-value stride c (offsets-fit four g done c h);
       }
 
   pub length-window : length (windowSteps g) ≡ length de

@@ -2,3 +2,4 @@ pub mod Accepted
 pub mod Planned
 pub mod Valid
 pub mod Compiled
+pub mod Numbers

@@ -2,11 +2,8 @@ use Rattle.gather.proofs.Planned.{numbers-are}
 use Rattle.gather.proofs.numbers_of.Statement.{statement}
 use Rattle.gather.proofs.numbers_of.Tie as tie
 
-window-steps-requires : tie.Need-window-steps-requires
-window-steps-requires c κs = tt
-
-batch-steps-requires : tie.Need-batch-steps-requires
-batch-steps-requires c κs = tt
+moves-of-requires : tie.Need-moves-of-requires
+moves-of-requires c κs = tt
 
 unless-none-requires : tie.Need-unless-none-requires
 unless-none-requires c κs = tt
@@ -15,14 +12,13 @@ limits-of-requires : tie.Need-limits-of-requires
 limits-of-requires c κs = tt
 
 returns : tie.Need-returns
-returns c = let s = c .before .before .before .before .before .before .before .before .before .before .before .before .before .before .before in numbers-are (s .args .plan) (s .pre) _ _ _ _ (c .before .before .before .before .before .before .before .window-steps .ensures) (c .before .before .before .before .before .before .batch-steps .ensures) (c .before .before .before .before .before .unless-none .ensures) (c .before .before .before .before .limits-of .ensures)
+returns c = let s : tie.Start = search in numbers-are (s .args .plan) (s .pre) _ _ _ (c .before .before .before .before .before .before .before .before .moves-of .ensures) (c .before .before .before .before .before .unless-none .ensures) (c .before .before .before .before .limits-of .ensures)
 
 pub numbers-of-spec : {M : Type 1} → statement M
 numbers-of-spec =
     tie.close
     (tie.spec
-    window-steps-requires
-    batch-steps-requires
+    moves-of-requires
     unless-none-requires
     limits-of-requires
     returns)

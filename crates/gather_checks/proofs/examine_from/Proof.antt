@@ -64,7 +64,7 @@ examine-axes-requires c κs =
     let n : ℕ = length (s .args .index-extents .now) in
     let few = few-others n (s .args .index-vector-dim ∷ []) (l .index-few) in
     let e = held-part (c .before .before .before .before .before .before .before .before .before .before .other-axes2 .result) (others n (s .args .index-vector-dim ∷ [])) (others-held _ n _ (c .before .before .before .before .before .before .before .before .before .before .other-axes2 .ensures) (l .index-few)) few in
-    record { operand = l .operand; index = l .index; dest = l .dest; few = l .dest-few; batch = omega (arith, few, ap length e) }
+    record { dest = l .dest; few = l .dest-few; batch = omega (arith, few, ap length e) }
 
 returns : tie.Need-returns
 returns c =

@@ -1,4 +1,4 @@
--- A gather that compile does not refuse is valid, and its numbers are small. Assumes nothing.
+-- A gather that compile does not refuse is valid, its extents are small, and its component offsets fit. Assumes nothing.
 use mathlib.Core.Path.{_≡_, refl, sym, ap, subst, _∙_}
 use mathlib.Core.Bool.{Bool, true, false, cond, _||_, true≢false}
 use mathlib.Core.List.{List, [], _∷_}
@@ -11,6 +11,7 @@ use Rattle.indexing.specs.Coordinates.{rank, pick, has, others}
 use Rattle.indexing.specs.Start.{without, components}
 use Rattle.indexing.specs.Gather.{Gather, batchDims, shownDims}
 use Rattle.indexing.specs.Valid.{Strided, ValidGather}
+use Rattle.indexing.specs.Steps.{vectorStride, windowSteps, batchSteps}
 use Rattle.layout.specs.declared.Answer.{Answer}
 use Rattle.layout.specs.declared.Answer.the-variants as A
 use Rattle.layout.specs.Answers.{isDone}
@@ -18,8 +19,9 @@ use Rattle.layout.specs.Layouts.{strideLength}
 use Rattle.layout.specs.Lists.{uniqueAxes}
 use Rattle.layout.specs.Spans.{spanned, totalOf}
 use Rattle.axis_lists.specs.Held.{sameList}
-use Rattle.checks.specs.Checks.{totalFits, spanFits, sameCount, vectorAxis, componentsOf, windowsFrom, windowsFit, layoutsRefusal}
-use Rattle.gather_checks.specs.Refusals.{collapsedOne, numbersRefusal, sizesRefusal, specRefusal, listsRefusal, countsRefusal, shapeFits, shapeRefusal, refusalOf}
+use Rattle.checks.specs.Checks.{totalFits, spanFits, offsetFits, sameCount, vectorAxis, componentsOf, windowsFrom, windowsFit, layoutsRefusal}
+use Rattle.gather_checks.specs.Refusals.{collapsedOne, numbersRefusal, sizesRefusal, specRefusal, listsRefusal, countsRefusal, shapeFits, shapeRefusal, resetsRefusal, refusalOf}
+use Rattle.gather_checks.proofs.Offsets.{component-offsets}
 use Rattle.checks.proofs.Made.{or-done, same-length}
 use Rattle.checks.proofs.Small.{spans-small}
 use Rattle.checks.proofs.Fits.{same-count}
@@ -83,11 +85,12 @@ pub record Small (g : Gather) : Type 0 where
   pub result : (a : ℕ) → a < rank (g .result) → getD (g .result .extents) a 0 ≤ 2 ^ 63
 
 module _ (four : Answer) (g : Gather) (done : isDone (refusalOf four g) ≡ true) where
-  checks : isDone (layoutsRefusal (rank (g .operand)) (length (g .operand .strides)) (rank (g .indices)) (length (g .indices .strides)) (rank (g .result)) (length (g .result .strides))) ≡ true
+  pub checks : isDone (layoutsRefusal (rank (g .operand)) (length (g .operand .strides)) (rank (g .indices)) (length (g .indices .strides)) (rank (g .result)) (length (g .result .strides))) ≡ true
       × (isDone (numbersRefusal (g .operand .extents) (g .operand .strides) (g .indices .extents) (g .indices .strides) (g .result .extents) (g .result .strides)) ≡ true)
       × (isDone (listsRefusal (g .operand .extents) (g .indices .extents) (g .spec .collapsed-slice-dims) (g .spec .start-index-map) (g .spec .index-vector-dim) (g .spec .slice-sizes)) ≡ true)
       × (isDone (countsRefusal (g .operand .extents) (g .indices .extents) (g .spec .offset-dims) (g .spec .collapsed-slice-dims) (g .spec .start-index-map) (g .spec .index-vector-dim)) ≡ true)
       × (isDone (shapeRefusal (g .operand .extents) (g .indices .extents) (g .result .extents) (g .spec .offset-dims) (g .spec .collapsed-slice-dims) (g .spec .index-vector-dim) (g .spec .slice-sizes)) ≡ true)
+      × (isDone (resetsRefusal (g .result .extents) (g .result .strides) (windowSteps g) (batchSteps g)) ≡ true)
   unfolding sizesRefusal specRefusal
   checks =
       let s = or-done (sizesRefusal (g .operand .extents) (g .operand .strides) (g .indices .extents) (g .indices .strides) (g .result .extents) (g .result .strides)) _ done in
@@ -96,7 +99,7 @@ module _ (four : Answer) (g : Gather) (done : isDone (refusalOf four g) ≡ true
       let c = or-done (listsRefusal (g .operand .extents) (g .indices .extents) (g .spec .collapsed-slice-dims) (g .spec .start-index-map) (g .spec .index-vector-dim) (g .spec .slice-sizes)) _ (b .1) in
       let d = or-done (countsRefusal (g .operand .extents) (g .indices .extents) (g .spec .offset-dims) (g .spec .collapsed-slice-dims) (g .spec .start-index-map) (g .spec .index-vector-dim)) _ (c .1) in
       let e = or-done (shapeRefusal (g .operand .extents) (g .indices .extents) (g .result .extents) (g .spec .offset-dims) (g .spec .collapsed-slice-dims) (g .spec .index-vector-dim) (g .spec .slice-sizes)) _ (d .1) in
-      (a .0, a .1, c .0, d .0, e .0)
+      (a .0, a .1, c .0, d .0, e .0, e .1)
 
   strided : Strided (g .operand) × Strided (g .indices) × Strided (g .result)
   strided =
@@ -105,14 +108,17 @@ module _ (four : Answer) (g : Gather) (done : isDone (refusalOf four g) ≡ true
       let c = or-done (strideLength (rank (g .result)) (length (g .result .strides))) _ (b .1) in
       (same-length (rank (g .operand)) (length (g .operand .strides)) (a .0), same-length (rank (g .indices)) (length (g .indices .strides)) (b .0), same-length (rank (g .result)) (length (g .result .strides)) (c .0))
 
-  pub small : Small g
-  small =
+  spans : (isDone (spanFits (spanned (g .operand .extents) (g .operand .strides))) ≡ true) × (isDone (spanFits (spanned (g .indices .extents) (g .indices .strides))) ≡ true) × (isDone (spanFits (spanned (g .result .extents) (g .result .strides))) ≡ true)
+  spans =
       let a = or-done (totalFits (totalOf (g .operand .extents))) _ (checks .1) in
       let b = or-done (totalFits (totalOf (g .indices .extents))) _ (a .1) in
       let c = or-done (totalFits (totalOf (g .result .extents))) _ (b .1) in
       let d = or-done (spanFits (spanned (g .operand .extents) (g .operand .strides))) _ (c .1) in
       let e = or-done (spanFits (spanned (g .indices .extents) (g .indices .strides))) _ (d .1) in
-      record { operand = spans-small (g .operand .extents) (g .operand .strides) (strided .0) (d .0); result = spans-small (g .result .extents) (g .result .strides) (strided .2) (e .1) }
+      (d .0, e .0, e .1)
+
+  pub small : Small g
+  small = record { operand = spans-small (g .operand .extents) (g .operand .strides) (strided .0) (spans .0); result = spans-small (g .result .extents) (g .result .strides) (strided .2) (spans .2) }
 
   pub valid : ValidGather g
   unfolding components batchDims shownDims
@@ -142,3 +148,18 @@ module _ (four : Answer) (g : Gather) (done : isDone (refusalOf four g) ≡ true
         window-shape = q .1;
         batch-shape = q .2;
       }
+
+  -- as many axes are shown as there are window axes
+  pub shown-count : length (g .spec .offset-dims) ≡ length (shownDims g)
+  unfolding shownDims
+  shown-count =
+      let m = or-done (sameCount (componentsOf (g .indices .extents) (g .spec .index-vector-dim)) (length (g .spec .start-index-map))) _ (checks .3) in
+      let n = or-done (sameCount (length (g .spec .offset-dims)) (length (others (rank (g .operand)) (g .spec .collapsed-slice-dims)))) _ (m .1) in
+      same-count (length (g .spec .offset-dims)) (length (others (rank (g .operand)) (g .spec .collapsed-slice-dims))) (n .0)
+
+  -- THE COMPONENT OFFSETS fit: 3 is never answered of them, so that document 01's list for gather does not name them
+  pub offsets-fit : (c : ℕ) → c < length (g .spec .start-index-map) → isDone (offsetFits (vectorStride (g .indices) (g .spec .index-vector-dim)) c) ≡ true
+  unfolding components
+  offsets-fit c h =
+      component-offsets (g .indices .extents) (g .indices .strides) (g .spec .index-vector-dim) (valid .indices-strided) (spans .1) (valid .vector) c
+      (subst (λ (n : ℕ). c < n) (sym (valid .counted)) h)
