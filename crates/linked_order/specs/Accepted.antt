@@ -18,7 +18,7 @@ use Rattle.layout.specs.Lists.{uniqueAxes}
 use Rattle.layout.specs.Nested.{exceeds, hasZero, insert, longAxes, nested, ordered}
 use Rattle.layout.specs.Reach.{viewReach}
 use Rattle.layout.specs.Spans.{offsetAdd, reachOf, resetOf, spanFrom, totalFrom, widened}
-use Rattle.replay.specs.Replays.{axisOf, compiledReplay, fuseFrom, fused, joinOf, past}
+use Rattle.replay.specs.Replays.{givenAxes, mergedFrom, laterFit, compiledReplay}
 use Rattle.scatter_checks.specs.Refusals.{batchWalk, windowWalk, sizesRefusal as scatterSizes, specRefusal as scatterSpec}
 use Rattle.indexing.specs.Answers.{harbourWindows, harbourUpdates}
 use Rattle.layout.specs.declared.Answer.the-variants as A
@@ -32,7 +32,7 @@ abbrev pub harbourGather : LinkedGather
 harbourGather = LinkedGather.lists harbourWindows (harbourWindows .operand) (harbourWindows .indices) (harbourWindows .result) (pos 4 ∷ negsuc 0 ∷ [])
 
 pub scatter-accepted : scatterCall harbourScatter .answer 5 ≡ A.Done
-unfolding sameList firstOf windowsFrom sameBy has othersFrom pick spread highest lowest batchShape scatterDims windowDims windowShape windows without batchSteps landSteps updateBatchSteps updateWindowSteps windowSteps checked checkedU padded uniqueAxes exceeds hasZero insert longAxes nested ordered viewReach offsetAdd reachOf resetOf spanFrom totalFrom widened axisOf compiledReplay fuseFrom fused joinOf past batchWalk windowWalk scatterSizes scatterSpec
+unfolding sameList firstOf windowsFrom sameBy has othersFrom pick spread highest lowest batchShape scatterDims windowDims windowShape windows without batchSteps landSteps updateBatchSteps updateWindowSteps windowSteps checked checkedU padded uniqueAxes exceeds hasZero insert longAxes nested ordered viewReach offsetAdd reachOf resetOf spanFrom totalFrom widened givenAxes mergedFrom laterFit compiledReplay batchWalk windowWalk scatterSizes scatterSpec
 scatter-accepted = refl
 
 pub gather-accepted : gatherCall harbourGather .answer 5 4 ≡ A.Done

@@ -1,5 +1,6 @@
 // Forged plans of a scatter: each field of a compiled plan changed in turn, arrays past their counts as well, and each number
-// of the rows of its two walks. A call with such a plan or such rows is refused by 8 and leaves the destination as it was.
+// of the rows of its two walks. A call with such a plan or such rows is refused by 8 and leaves the destination as it was. Last, a
+// plan whose two cells share an element, compiled with 4 not tried: it is accepted, and both updates land there.
 use changed_plans::counts;
 use changed_scatters::Field;
 use layout::RAW_FUSED_RANK_LIMIT;
@@ -8,6 +9,7 @@ use scatter_trials::Change;
 use scatter_trials::batch_rows;
 use scatter_trials::call;
 use scatter_trials::call_on_scalars;
+use scatter_trials::call_shared;
 use scatter_trials::compile;
 use scatter_trials::try_places;
 use scatter_trials::window_rows;
@@ -230,6 +232,16 @@ fn batches() {
     );
 }
 
+fn shared() {
+    put_compiled(
+        b"compile of updates into [2] with stride 0",
+        scatter_trials::shared(),
+    );
+    let mut into = [5i32];
+    let answer = call_shared(scatter_trials::shared_again(), &mut into);
+    counts::put_called(b"the plan with 4 not tried", answer, &into);
+}
+
 fn main() {
     let compiled = compile(2);
     compiled_plan(compiled);
@@ -239,4 +251,5 @@ fn main() {
     exchanged_rows(compiled);
     refused();
     batches();
+    shared();
 }

@@ -168,3 +168,33 @@ pub fn try_places(compiled: CompiledScatter, change: Change, places: usize) -> C
     }
     counted
 }
+
+// One update for each start, into a destination [2] with stride 0: compiled, and compiled with 4 not tried.
+pub fn shared() -> CompiledScatter {
+    scatter_plan::compile(&[2], &[1], &[2], &[1], &[2], &[0], &[], &[0], &[0], 1)
+}
+
+pub fn shared_again() -> CompiledScatter {
+    scatter_plan::compile_again(&[2], &[1], &[2], &[1], &[2], &[0], &[], &[0], &[0], 1)
+}
+
+// The call with updates 3 4 on starts 0 1.
+pub fn call_shared(compiled: CompiledScatter, into: &mut [i32]) -> Answer {
+    let plan = compiled.plan;
+    let batch = batch_rows(compiled);
+    let window = window_rows(compiled);
+    let index = view(&[2], &[1]);
+    let updates = view(&[2], &[1]);
+    let dest = view(&[2], &[0]);
+    scatter::scatter_i32(
+        plan,
+        batch,
+        window,
+        index,
+        updates,
+        dest,
+        &[0, 1],
+        &[3, 4],
+        into,
+    )
+}
