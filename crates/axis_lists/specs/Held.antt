@@ -1,4 +1,4 @@
--- Lists as they are held by value. Definitions only.
+-- To be believed. Lists as they are held by value. Definitions only.
 use mathlib.Core.Path.{_≡_}
 use mathlib.Core.Bool.{Bool, true, false, cond, _&&_}
 use mathlib.Core.List.{List, [], _∷_}

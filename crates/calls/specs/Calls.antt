@@ -1,4 +1,4 @@
--- A call: what it answers, and what it leaves in the destination's slice. Definitions only.
+-- To be believed. A call: what it answers, and what it leaves in the destination's slice. Definitions only.
 use mathlib.Core.Path.{_≡_}
 use mathlib.Core.Bool.{Bool, cond, _&&_}
 use mathlib.Core.List.{List}

@@ -1,4 +1,4 @@
--- The checks that gather's compile and scatter's share, in document 01's words. Definitions only.
+-- To be believed. The checks that gather's compile and scatter's share, in document 01's words. Definitions only.
 use mathlib.Core.Bool.{cond}
 use mathlib.Core.List.{List, [], _∷_}
 use Prim.Native.Nat.{ℕ, zero, suc, _+_}

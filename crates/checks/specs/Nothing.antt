@@ -1,4 +1,4 @@
--- "No plan is given": the layout and the lists that stand in the place of a plan's, of no axes. Definitions only.
+-- To be believed. "No plan is given": the layout and the lists that stand in the place of a plan's, of no axes. Definitions only.
 use lib.ListN.{replicate}
 use lib.IntN.{pos}
 use Rattle.layout.specs.declared.Layout.{Layout}

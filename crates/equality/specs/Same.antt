@@ -1,4 +1,4 @@
--- Whether two lists, two layouts, two lists by value are the same. Definitions only.
+-- To be believed. Whether two lists, two layouts, two lists by value are the same. Definitions only.
 use mathlib.Core.Bool.{Bool, true, false, _&&_}
 use mathlib.Core.List.{List, [], _∷_}
 use lib.Dec.{eqb}

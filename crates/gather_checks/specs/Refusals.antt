@@ -1,4 +1,4 @@
--- "Gather, first hit counts": document 01's refusals of a gather, in its order. Definitions only.
+-- To be believed. "Gather, first hit counts": document 01's refusals of a gather, in its order. Definitions only.
 use mathlib.Core.Bool.{Bool, cond, _&&_}
 use mathlib.Core.List.{List, [], _∷_}
 use Prim.Native.Nat.{ℕ, _+_}

@@ -1,4 +1,4 @@
--- The plan of a gather by value, and what compile gives: document 01, "The window read". Definitions only.
+-- To be believed. The plan of a gather by value, and what compile gives: document 01, "The window read". Definitions only.
 use mathlib.Core.Bool.{cond}
 use mathlib.Core.List.{List, [], _∷_}
 use Prim.Native.Nat.{ℕ, _-_}

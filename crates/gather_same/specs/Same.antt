@@ -1,4 +1,4 @@
--- Whether two plans are the same, and whether a plan is compiled. Definitions only.
+-- To be believed. Whether two plans are the same, and whether a plan is compiled. Definitions only.
 use mathlib.Core.Bool.{Bool, true, false, _&&_}
 use lib.Dec.{eqb}
 use Rattle.integer.specs.Defs.{eqZ}

@@ -1,4 +1,4 @@
--- The least and the greatest sum that strides make over extents, and that every coordinate's offset lies between them. Assumes nothing.
+-- To be believed. The least and the greatest sum that strides make over extents, and that every coordinate's offset lies between them. Assumes nothing.
 use mathlib.Core.Path.{_≡_, refl, sym, ap, ap₂, _∙_}
 use mathlib.Core.Bool.{Bool, true, false, not, cond}
 use mathlib.Core.List.{List, [], _∷_}

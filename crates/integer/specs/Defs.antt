@@ -1,4 +1,4 @@
--- What the contracts of `src/` cite. Definitions only.
+-- To be believed. What the contracts of `src/` cite. Definitions only.
 use mathlib.Core.Bool.{Bool, true, false, cond}
 use Prim.Native.Nat.{ℕ, _-_, _%_, _^_}
 use lib.Dec.{eqb, ltb}

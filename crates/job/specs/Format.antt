@@ -1,4 +1,4 @@
--- Document 01, "The stored job (added)": the format, written and read. Definitions only.
+-- To be believed. Document 01, "The stored job (added)": the format, written and read. Definitions only.
 use mathlib.Core.Bool.{cond}
 use mathlib.Core.List.{List, [], _++_, map}
 use Prim.Native.Nat.{ℕ, _+_, _*_, min}

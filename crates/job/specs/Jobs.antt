@@ -1,4 +1,4 @@
--- A job by value, from extents, strides, offsets and lists: the refusals 1, 2 and 5. Definitions only.
+-- To be believed. A job by value, from extents, strides, offsets and lists: the refusals 1, 2 and 5. Definitions only.
 use mathlib.Core.Bool.{cond}
 use mathlib.Core.List.{List, []}
 use Prim.Native.Nat.{ℕ}

@@ -1,4 +1,4 @@
--- Document 01, "The stored job": numbers as bytes, and fields as they are read, one after another. Definitions only.
+-- To be believed. Document 01, "The stored job": numbers as bytes, and fields as they are read, one after another. Definitions only.
 use mathlib.Core.Bool.{true, false, cond, _&&_}
 use mathlib.Core.List.{List, [], _∷_, _++_}
 use Prim.Native.Nat.{ℕ, zero, suc, _+_, _*_, _/_, _%_, _^_}

@@ -1,4 +1,4 @@
--- Document 01, "The stored job": the version byte, the limits of what that version stores, and how they stand to each other and to the rank limit. Only this file has them.
+-- To be believed. Document 01, "The stored job": the version byte, the limits of what that version stores, and how they stand to each other and to the rank limit. Only this file has them.
 use Prim.Native.Nat.{ℕ, _≤_}
 use native.Mathlib.Omega.{arith}
 use Rattle.layout.specs.Layouts.{rankLimit}

@@ -1,4 +1,4 @@
--- "A read job is handed back to be compiled and called": a call by a stored job. Definitions only.
+-- To be believed. "A read job is handed back to be compiled and called": a call by a stored job. Definitions only.
 use mathlib.Core.List.{List}
 use Prim.Native.Nat.{ℕ}
 use lib.ListN.{length}

@@ -1,4 +1,4 @@
--- Parts of a job as they are handed back by value. Definitions only.
+-- To be believed. Parts of a job as they are handed back by value. Definitions only.
 use mathlib.Core.Bool.{true, false}
 use mathlib.Core.List.{[]}
 use Rattle.layout.specs.declared.Answer.the-variants as A

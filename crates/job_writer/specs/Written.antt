@@ -1,4 +1,4 @@
--- What the writer hands back, and what the lent bytes hold afterwards. Definitions only.
+-- To be believed. What the writer hands back, and what the lent bytes hold afterwards. Definitions only.
 use mathlib.Core.Path.{_≡_}
 use mathlib.Core.Bool.{cond}
 use mathlib.Core.List.{List, _++_}

@@ -1,4 +1,4 @@
--- Document 01, "The number handed back": the number, a and b of each answer. Definitions only.
+-- To be believed. Document 01, "The number handed back": the number, a and b of each answer. Definitions only.
 use mathlib.Core.Bool.{Bool, true, false, cond}
 use Prim.Native.Nat.{ℕ}
 use Rattle.layout.specs.declared.Answer.{Answer}

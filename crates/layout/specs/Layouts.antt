@@ -1,4 +1,4 @@
--- The rank limit, and a layout by value from extents and strides: refusals 1 and 2. Definitions only.
+-- To be believed. The rank limit, and a layout by value from extents and strides: refusals 1 and 2. Definitions only.
 use mathlib.Core.Bool.{cond}
 use mathlib.Core.List.{List, _++_}
 use Prim.Native.Nat.{ℕ, _-_}

@@ -1,4 +1,4 @@
--- The axis lists of a spec: "in range and unrepeated". Definitions only.
+-- To be believed. The axis lists of a spec: "in range and unrepeated". Definitions only.
 use mathlib.Core.Bool.{_||_, cond}
 use mathlib.Core.List.{List, [], _∷_, _++_}
 use Prim.Native.Nat.{ℕ}

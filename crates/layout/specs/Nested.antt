@@ -1,4 +1,4 @@
--- Nested: document 01's test that no two cells of a destination can share an element. Definitions only.
+-- To be believed. Nested: document 01's test that no two cells of a destination can share an element. Definitions only.
 use mathlib.Core.Bool.{Bool, true, false, cond, _||_, _&&_}
 use mathlib.Core.List.{List, [], _∷_}
 use Prim.Native.Nat.{ℕ, _+_, _*_, _-_}

@@ -1,4 +1,4 @@
--- The reach of a view, and the test of 9. Definitions only.
+-- To be believed. The reach of a view, and the test of 9. Definitions only.
 use mathlib.Core.Bool.{cond, _&&_}
 use mathlib.Core.List.{List}
 use Prim.Native.Nat.{ℕ}

@@ -1,4 +1,4 @@
--- Product, Span and Reset of document 01, where each number must fit: refusal 3. Definitions only.
+-- To be believed. Product, Span and Reset of document 01, where each number must fit: refusal 3. Definitions only.
 use mathlib.Core.Bool.{Bool, true, false}
 use mathlib.Core.List.{List, [], _∷_}
 use Prim.Native.Nat.{ℕ, zero, suc, _*_, _-_}

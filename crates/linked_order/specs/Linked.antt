@@ -1,4 +1,4 @@
--- Demand 3 of the exported calls, by their contracts alone: calls by lists, `strided_raw_scatter_i32` and `strided_raw_gather_i32`, and by stored jobs,
+-- To be believed. Demand 3 of the exported calls, by their contracts alone: calls by lists, `strided_raw_scatter_i32` and `strided_raw_gather_i32`, and by stored jobs,
 -- `strided_scatter_i32` and `strided_gather_i32`, in any mixture. Assumes nothing.
 use mathlib.Core.List.{List}
 use Prim.Native.Nat.{ℕ}

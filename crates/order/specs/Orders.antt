@@ -1,4 +1,4 @@
--- Demand 3: two scatters on one grid, and a gather beside a scatter, as claims about runs from beginning to end. The grid is a whole lent slice of i32,
+-- To be believed. Demand 3: two scatters on one grid, and a gather beside a scatter, as claims about runs from beginning to end. The grid is a whole lent slice of i32,
 -- and each ship's scatter, document 01's North and South, is a scatter call. What is handed back is the answer as `says` puts it. Definitions only.
 use mathlib.Core.Path.{_≡_}
 use mathlib.Core.Bool.{true, cond}

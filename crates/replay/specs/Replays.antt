@@ -1,4 +1,4 @@
--- The walk of a window over two sides, source and destination (000, `WindowReplay`): document 01's sentence on walks, over exact integers. Definitions only.
+-- To be believed. The walk of a window over two sides, source and destination (000, `WindowReplay`): document 01's sentence on walks, over exact integers. Definitions only.
 use mathlib.Core.Bool.{Bool, true, false, cond, _&&_}
 use mathlib.Core.List.{List, [], _∷_, map}
 use Prim.Native.Nat.{ℕ, _*_, _-_, _^_}

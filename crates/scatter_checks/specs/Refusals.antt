@@ -1,4 +1,4 @@
--- "Scatter": document 01's refusals of a scatter, in its order; the first hit counts. Definitions only.
+-- To be believed. "Scatter": document 01's refusals of a scatter, in its order; the first hit counts. Definitions only.
 use mathlib.Core.Bool.{cond}
 use mathlib.Core.List.{List, []}
 use Prim.Native.Nat.{ℕ, _-_}

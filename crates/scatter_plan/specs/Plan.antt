@@ -1,4 +1,4 @@
--- The plan of a scatter by value, and what compile gives: document 01, "The updates added". Definitions only.
+-- To be believed. The plan of a scatter by value, and what compile gives: document 01, "The updates added". Definitions only.
 use mathlib.Core.Bool.{cond}
 use lib.ListN.{length}
 use lib.IntN.{pos, _*ℤ_}

@@ -1,4 +1,4 @@
--- Whether two plans are the same, and whether a plan is compiled. Definitions only.
+-- To be believed. Whether two plans are the same, and whether a plan is compiled. Definitions only.
 use mathlib.Core.Bool.{Bool, _&&_}
 use mathlib.Core.List.{List}
 use lib.Dec.{eqb}

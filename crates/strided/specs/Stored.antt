@@ -1,4 +1,4 @@
--- Stored jobs as they are exported. Definitions only.
+-- To be believed. Stored jobs as they are exported. Definitions only.
 use mathlib.Core.Path.{_≡_}
 use mathlib.Core.Bool.{cond}
 use mathlib.Core.List.{List}

@@ -1,4 +1,4 @@
--- An answer as it is exported. Definitions only.
+-- To be believed. An answer as it is exported. Definitions only.
 use mathlib.Core.List.{List, [], _∷_}
 use Prim.Native.Nat.{ℕ}
 use Rattle.layout.specs.declared.Answer.{Answer}

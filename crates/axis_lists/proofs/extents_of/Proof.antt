@@ -7,9 +7,6 @@ use borrow.Author.Needs.{needs}
 use Rattle.axis_lists.proofs.extents_of.Statement.{statement}
 use Rattle.axis_lists.proofs.extents_of.Tie as tie
 
-axis-count-requires : tie.Need-axis-count-requires
-axis-count-requires c κs = tt
-
 sub-numbers-from : tie.Need-sub-numbers-from
 sub-numbers-from c = search needs
 
@@ -23,9 +20,6 @@ part-numbers-from-end c =
     let e : length (l .extents) ≡ rankLimit = search needs in
     part-fits (a .axis-count .result) (l .rank) rankLimit (l .extents) (a .axis-count .ensures) e
 
-numbers-from-requires : tie.Need-numbers-from-requires
-numbers-from-requires c κs = tt
-
 returns : tie.Need-returns
 returns c =
     let a = c .before .before .before in
@@ -37,9 +31,9 @@ pub extents-of-spec : {M : Type 1} → statement M
 extents-of-spec =
     tie.close
     (tie.spec
-    axis-count-requires
+    (λ c κs. tt)
     sub-numbers-from
     part-numbers-from-start
     part-numbers-from-end
-    numbers-from-requires
+    (λ c κs. tt)
     returns)

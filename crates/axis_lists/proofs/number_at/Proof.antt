@@ -7,9 +7,6 @@ use borrow.Author.Needs.{needs}
 use Rattle.axis_lists.proofs.number_at.Statement.{statement}
 use Rattle.axis_lists.proofs.number_at.Tie as tie
 
-axis-count-requires : tie.Need-axis-count-requires
-axis-count-requires c κs = tt
-
 mul-result : tie.Need-mul-result
 mul-result c = search needs
 
@@ -30,4 +27,4 @@ returns-2 c =
 
 pub number-at-spec : {M : Type 1} → statement M
 number-at-spec =
-    tie.close (tie.spec axis-count-requires mul-result array-read-result returns returns-2)
+    tie.close (tie.spec (λ c κs. tt) mul-result array-read-result returns returns-2)

@@ -15,9 +15,6 @@ use Rattle.axis_lists.proofs.ones.Tie as tie
 first-ones : (n : ℕ) → n ≤ rankLimit → take {A = ℕ} n (replicate rankLimit 1) ≡ replicate n 1
 first-ones n h = ap (take {A = ℕ} n) (all-same 1 n h) ∙ take-at {A = ℕ} (replicate n 1) (replicate (rankLimit - n) 1) n (length-replicate {A = ℕ} n 1)
 
-axis-count-requires : tie.Need-axis-count-requires
-axis-count-requires c κs = tt
-
 sub-numbers-from : tie.Need-sub-numbers-from
 sub-numbers-from c = search needs
 
@@ -26,9 +23,6 @@ part-numbers-from-start c = search needs
 
 part-numbers-from-end : tie.Need-part-numbers-from-end
 part-numbers-from-end c = search needs
-
-numbers-from-requires : tie.Need-numbers-from-requires
-numbers-from-requires c κs = tt
 
 returns : tie.Need-returns
 returns c =
@@ -40,9 +34,9 @@ pub ones-spec : {M : Type 1} → statement M
 ones-spec =
     tie.close
     (tie.spec
-    axis-count-requires
+    (λ c κs. tt)
     sub-numbers-from
     part-numbers-from-start
     part-numbers-from-end
-    numbers-from-requires
+    (λ c κs. tt)
     returns)

@@ -11,9 +11,6 @@ use borrow.Author.Needs.{needs}
 use Rattle.axis_lists.proofs.step_at.Statement.{statement}
 use Rattle.axis_lists.proofs.step_at.Tie as tie
 
-axis-count-requires : tie.Need-axis-count-requires
-axis-count-requires c κs = tt
-
 mul-result : tie.Need-mul-result
 mul-result c = search needs
 
@@ -35,4 +32,4 @@ returns-2 c =
 
 pub step-at-spec : {M : Type 1} → statement M
 step-at-spec =
-    tie.close (tie.spec axis-count-requires mul-result array-copy-out-result returns returns-2)
+    tie.close (tie.spec (λ c κs. tt) mul-result array-copy-out-result returns returns-2)

@@ -9,9 +9,6 @@ use borrow.Author.Needs.{needs}
 use Rattle.axis_lists.proofs.strides_of.Statement.{statement}
 use Rattle.axis_lists.proofs.strides_of.Tie as tie
 
-axis-count-requires : tie.Need-axis-count-requires
-axis-count-requires c κs = tt
-
 sub-padded-strides : tie.Need-sub-padded-strides
 sub-padded-strides c = search needs
 
@@ -25,9 +22,6 @@ part-padded-strides-end c =
     let e : length (l .strides) ≡ rankLimit = search needs in
     part-fits (a .axis-count .result) (l .rank) rankLimit (l .strides) (a .axis-count .ensures) e
 
-padded-strides-requires : tie.Need-padded-strides-requires
-padded-strides-requires c κs = tt
-
 returns : tie.Need-returns
 returns c =
     let a = c .before .before .before in
@@ -40,9 +34,9 @@ pub strides-of-spec : {M : Type 1} → statement M
 strides-of-spec =
     tie.close
     (tie.spec
-    axis-count-requires
+    (λ c κs. tt)
     sub-padded-strides
     part-padded-strides-start
     part-padded-strides-end
-    padded-strides-requires
+    (λ c κs. tt)
     returns)

@@ -6,9 +6,6 @@ use Rattle.layout.specs.Layouts.{rankLimit}
 use Rattle.axis_lists.proofs.with_number.Statement.{statement}
 use Rattle.axis_lists.proofs.with_number.Tie as tie
 
-axis-count-requires : tie.Need-axis-count-requires
-axis-count-requires c κs = tt
-
 mul-next : tie.Need-mul-next
 mul-next c = search needs
 
@@ -29,4 +26,4 @@ returns-2 c =
 
 pub with-number-spec : {M : Type 1} → statement M
 with-number-spec =
-    tie.close (tie.spec axis-count-requires mul-next array-write-next returns returns-2)
+    tie.close (tie.spec (λ c κs. tt) mul-next array-write-next returns returns-2)

@@ -7,9 +7,6 @@ use borrow.Author.Needs.{needs}
 use Rattle.axis_lists.proofs.with_step.Statement.{statement}
 use Rattle.axis_lists.proofs.with_step.Tie as tie
 
-axis-count-requires : tie.Need-axis-count-requires
-axis-count-requires c κs = tt
-
 mul-next : tie.Need-mul-next
 mul-next c = search needs
 
@@ -30,4 +27,4 @@ returns-2 c =
 
 pub with-step-spec : {M : Type 1} → statement M
 with-step-spec =
-    tie.close (tie.spec axis-count-requires mul-next array-set-from-next returns returns-2)
+    tie.close (tie.spec (λ c κs. tt) mul-next array-set-from-next returns returns-2)

@@ -13,12 +13,6 @@ use Rattle.calls.proofs.same_layout.Tie as tie
 lengths : (s : tie.Start) → (length (s .args .a .extents) ≡ rankLimit) × (length (s .args .a .strides) ≡ rankLimit) × (length (s .args .b .extents) ≡ rankLimit) × (length (s .args .b .strides) ≡ rankLimit)
 lengths s = (search needs, search needs, search needs, search needs)
 
-axis-count-requires : tie.Need-axis-count-requires
-axis-count-requires c κs = tt
-
-axis-count-requires-2 : tie.Need-axis-count-requires-2
-axis-count-requires-2 c κs = tt
-
 sub-same-view : tie.Need-sub-same-view
 sub-same-view c = search needs
 
@@ -55,9 +49,6 @@ part-same-view-start-4 c = search needs
 part-same-view-end-4 : tie.Need-part-same-view-end-4
 part-same-view-end-4 c = let s = c .before .before .before .before .before .before .before .before .before .before .before .before .before in part-fits (c .before .before .before .before .before .before .before .axis-count2 .result) (s .args .b .rank) (s .args .b .strides) (c .before .before .before .before .before .before .before .axis-count2 .ensures) (lengths s .3)
 
-same-view-requires : tie.Need-same-view-requires
-same-view-requires c κs = tt
-
 returns : tie.Need-returns
 returns c =
     let s = c .before .before .before .before .before .before .before .before .before .before .before .before .before .before .before in
@@ -71,8 +62,8 @@ pub same-layout-spec : {M : Type 1} → statement M
 same-layout-spec =
     tie.close
     (tie.spec
-    axis-count-requires
-    axis-count-requires-2
+    (λ c κs. tt)
+    (λ c κs. tt)
     sub-same-view
     part-same-view-start
     part-same-view-end
@@ -85,5 +76,5 @@ same-layout-spec =
     sub-same-view-4
     part-same-view-start-4
     part-same-view-end-4
-    same-view-requires
+    (λ c κs. tt)
     returns)

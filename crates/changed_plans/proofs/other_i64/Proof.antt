@@ -4,12 +4,6 @@ use borrow.Author.Needs.{needs}
 use Rattle.changed_plans.proofs.other_i64.Statement.{statement}
 use Rattle.changed_plans.proofs.other_i64.Tie as tie
 
-sum-requires : tie.Need-sum-requires
-sum-requires c κs = tt
-
-sum-requires-2 : tie.Need-sum-requires-2
-sum-requires-2 c κs = tt
-
 sub-result : tie.Need-sub-result
 sub-result c = rw (back (c .before .before .fits .n)) (simp znorm (simp zflat (omega (arith, known (c .before .before .fits .n)))))
 
@@ -24,4 +18,4 @@ returns-3 c = search needs
 
 pub other-i64-spec : {M : Type 1} → statement M
 other-i64-spec =
-    tie.close (tie.spec sum-requires sum-requires-2 sub-result returns returns-2 returns-3)
+    tie.close (tie.spec (λ c κs. tt) (λ c κs. tt) sub-result returns returns-2 returns-3)

@@ -2,9 +2,6 @@ use borrow.Author.Needs.{needs}
 use Rattle.checks.proofs.check_total.Statement.{statement}
 use Rattle.checks.proofs.check_total.Tie as tie
 
-checked-total-len-requires : tie.Need-checked-total-len-requires
-checked-total-len-requires c κs = tt
-
 enum-told : tie.Need-enum-told
 enum-told c = search needs
 
@@ -18,4 +15,4 @@ returns-2 : tie.Need-returns-2
 returns-2 c = rw (← c .before .before .checked-total-len .ensures, c .enum-told2 .given .1)
 
 pub check-total-spec : {M : Type 1} → statement M
-check-total-spec = tie.close (tie.spec checked-total-len-requires enum-told enum-told-2 returns returns-2)
+check-total-spec = tie.close (tie.spec (λ c κs. tt) enum-told enum-told-2 returns returns-2)

@@ -11,15 +11,6 @@ use Rattle.components.proofs.limits_of.Tie as tie
 lengths : (s : tie.Start) → (length (s .args .layout .extents) ≡ rankLimit) × (length (s .args .sizes .entries) ≡ rankLimit) × (length (s .args .map .entries) ≡ rankLimit)
 lengths s = (search needs, search needs, search needs)
 
-axis-count-requires : tie.Need-axis-count-requires
-axis-count-requires c κs = tt
-
-axis-count-requires-2 : tie.Need-axis-count-requires-2
-axis-count-requires-2 c κs = tt
-
-axis-count-requires-3 : tie.Need-axis-count-requires-3
-axis-count-requires-3 c κs = tt
-
 sub-limits-on : tie.Need-sub-limits-on
 sub-limits-on c = search needs
 
@@ -47,9 +38,6 @@ part-limits-on-start-3 c = search needs
 part-limits-on-end-3 : tie.Need-part-limits-on-end-3
 part-limits-on-end-3 c = let s = c .before .before .before .before .before .before .before .before .before .before .before in part-fits (c .before .before .before .before .before .before .axis-count2 .result) (s .args .sizes .count) (s .args .sizes .entries) (c .before .before .before .before .before .before .axis-count2 .ensures) (lengths s .1)
 
-limits-on-requires : tie.Need-limits-on-requires
-limits-on-requires c κs = tt
-
 returns : tie.Need-returns
 returns c =
     let s = c .before .before .before .before .before .before .before .before .before .before .before .before .before in
@@ -62,9 +50,9 @@ pub limits-of-spec : {M : Type 1} → statement M
 limits-of-spec =
     tie.close
     (tie.spec
-    axis-count-requires
-    axis-count-requires-2
-    axis-count-requires-3
+    (λ c κs. tt)
+    (λ c κs. tt)
+    (λ c κs. tt)
     sub-limits-on
     part-limits-on-start
     part-limits-on-end
@@ -74,5 +62,5 @@ limits-of-spec =
     sub-limits-on-3
     part-limits-on-start-3
     part-limits-on-end-3
-    limits-on-requires
+    (λ c κs. tt)
     returns)

@@ -29,17 +29,11 @@ module _ (o : tie.After-one-cell) where
       let e : tie.Else2 = search in
       some-cells (take (start .args .wrank) (start .args .wextents .now)) (sym (z .has-zero2 .ensures) ∙ e .if2 .left)
 
-has-zero-requires : tie.Need-has-zero-requires
-has-zero-requires c κs = tt
-
 returns : tie.Need-returns
 returns c =
     let z : tie.After-has-zero = search in
     let a : tie.Start = search in
     no-batch (a .args .starts .now) (a .args .offsets .now) (a .args .strides .now) (a .args .limits .now) (a .args .count) (a .args .t) (a .args .u) (a .args .d) (a .args .bextents .now) (a .args .ts .now) (a .args .us .now) (a .args .brank) (a .args .wextents .now) (a .args .ws .now) (a .args .ds .now) (a .args .wrank) nan (ruleF64 (a .args .rule)) (a .args .src .now) (a .args .dst .now) (sym (z .has-zero .ensures) ∙ c .if1 .taken)
-
-has-zero-requires-2 : tie.Need-has-zero-requires-2
-has-zero-requires-2 c κs = tt
 
 returns-2 : tie.Need-returns-2
 returns-2 c =
@@ -96,9 +90,9 @@ pub scatter-rows-spec : {M : Type 1} → statement M
 scatter-rows-spec =
     tie.close
     (tie.spec
-    has-zero-requires
+    (λ c κs. tt)
     returns
-    has-zero-requires-2
+    (λ c κs. tt)
     returns-2
     one-cell-requires
     scatter-each-requires

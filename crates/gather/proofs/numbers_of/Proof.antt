@@ -2,15 +2,6 @@ use Rattle.gather.proofs.Planned.{numbers-are}
 use Rattle.gather.proofs.numbers_of.Statement.{statement}
 use Rattle.gather.proofs.numbers_of.Tie as tie
 
-moves-of-requires : tie.Need-moves-of-requires
-moves-of-requires c κs = tt
-
-unless-none-requires : tie.Need-unless-none-requires
-unless-none-requires c κs = tt
-
-limits-of-requires : tie.Need-limits-of-requires
-limits-of-requires c κs = tt
-
 returns : tie.Need-returns
 returns c = let s : tie.Start = search in numbers-are (s .args .plan) (s .pre) _ _ _ (c .before .before .before .before .before .before .before .before .moves-of .ensures) (c .before .before .before .before .before .unless-none .ensures) (c .before .before .before .before .limits-of .ensures)
 
@@ -18,7 +9,7 @@ pub numbers-of-spec : {M : Type 1} → statement M
 numbers-of-spec =
     tie.close
     (tie.spec
-    moves-of-requires
-    unless-none-requires
-    limits-of-requires
+    (λ c κs. tt)
+    (λ c κs. tt)
+    (λ c κs. tt)
     returns)

@@ -4,24 +4,6 @@ use Rattle.calls.proofs.Same.{first-yes, first-no}
 use Rattle.gather.proofs.plan_fits.Statement.{statement}
 use Rattle.gather.proofs.plan_fits.Tie as tie
 
-same-layout-requires : tie.Need-same-layout-requires
-same-layout-requires c κs = tt
-
-same-layout-requires-2 : tie.Need-same-layout-requires-2
-same-layout-requires-2 c κs = tt
-
-same-layout-requires-3 : tie.Need-same-layout-requires-3
-same-layout-requires-3 c κs = tt
-
-both-requires : tie.Need-both-requires
-both-requires c κs = tt
-
-both-requires-2 : tie.Need-both-requires-2
-both-requires-2 c κs = tt
-
-is-compiled-requires : tie.Need-is-compiled-requires
-is-compiled-requires c κs = tt
-
 returns : tie.Need-returns
 returns c =
     let v = ap₂ _&&_ (c .before .before .before .before .before .before .same-layout .ensures) (c .before .before .before .both .ensures ∙ ap₂ _&&_ (c .before .before .before .before .before .same-layout2 .ensures) (c .before .before .before .before .same-layout3 .ensures)) in
@@ -36,11 +18,11 @@ pub plan-fits-spec : {M : Type 1} → statement M
 plan-fits-spec =
     tie.close
     (tie.spec
-    same-layout-requires
-    same-layout-requires-2
-    same-layout-requires-3
-    both-requires
-    both-requires-2
-    is-compiled-requires
+    (λ c κs. tt)
+    (λ c κs. tt)
+    (λ c κs. tt)
+    (λ c κs. tt)
+    (λ c κs. tt)
+    (λ c κs. tt)
     returns
     returns-2)

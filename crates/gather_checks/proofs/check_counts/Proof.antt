@@ -2,26 +2,8 @@ use borrow.Author.Needs.{needs}
 use Rattle.gather_checks.proofs.check_counts.Statement.{statement}
 use Rattle.gather_checks.proofs.check_counts.Tie as tie
 
-component-count-requires : tie.Need-component-count-requires
-component-count-requires c κs = tt
-
 add-rank : tie.Need-add-rank
 add-rank c = search needs
-
-check-same-count-requires : tie.Need-check-same-count-requires
-check-same-count-requires c κs = tt
-
-check-same-count-requires-2 : tie.Need-check-same-count-requires-2
-check-same-count-requires-2 c κs = tt
-
-validate-unique-axes-requires : tie.Need-validate-unique-axes-requires
-validate-unique-axes-requires c κs = tt
-
-or-else-requires : tie.Need-or-else-requires
-or-else-requires c κs = tt
-
-or-else-requires-2 : tie.Need-or-else-requires-2
-or-else-requires-2 c κs = tt
 
 returns : tie.Need-returns
 returns c = rw (c .or-else2 .ensures, c .before .or-else .ensures, c .before .before .validate-unique-axes .ensures, c .before .before .before .check-same-count2 .ensures, c .before .before .before .before .check-same-count .ensures, c .before .before .before .before .before .component-count .ensures)
@@ -30,11 +12,11 @@ pub check-counts-spec : {M : Type 1} → statement M
 check-counts-spec =
     tie.close
     (tie.spec
-    component-count-requires
+    (λ c κs. tt)
     add-rank
-    check-same-count-requires
-    check-same-count-requires-2
-    validate-unique-axes-requires
-    or-else-requires
-    or-else-requires-2
+    (λ c κs. tt)
+    (λ c κs. tt)
+    (λ c κs. tt)
+    (λ c κs. tt)
+    (λ c κs. tt)
     returns)

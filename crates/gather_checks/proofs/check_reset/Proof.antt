@@ -6,9 +6,6 @@ use borrow.Author.Needs.{needs}
 use Rattle.gather_checks.proofs.check_reset.Statement.{statement}
 use Rattle.gather_checks.proofs.check_reset.Tie as tie
 
-checked-replay-reset-requires : tie.Need-checked-replay-reset-requires
-checked-replay-reset-requires c κs = tt
-
 enum-told : tie.Need-enum-told
 enum-told c = search needs
 
@@ -27,4 +24,4 @@ returns-2 c =
 
 pub check-reset-spec : {M : Type 1} → statement M
 check-reset-spec =
-    tie.close (tie.spec checked-replay-reset-requires enum-told enum-told-2 returns returns-2)
+    tie.close (tie.spec (λ c κs. tt) enum-told enum-told-2 returns returns-2)

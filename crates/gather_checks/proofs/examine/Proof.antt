@@ -7,15 +7,6 @@ use Rattle.gather_checks.proofs.Found.{sizes-pass, examines-by}
 use Rattle.gather_checks.proofs.examine.Statement.{statement}
 use Rattle.gather_checks.proofs.examine.Tie as tie
 
-check-sizes-requires : tie.Need-check-sizes-requires
-check-sizes-requires c κs = tt
-
-is-done-requires : tie.Need-is-done-requires
-is-done-requires c κs = tt
-
-unexamined-requires : tie.Need-unexamined-requires
-unexamined-requires c κs = tt
-
 returns : tie.Need-returns
 returns c =
     let e = c .unexamined .ensures in
@@ -36,9 +27,9 @@ pub examine-spec : {M : Type 1} → statement M
 examine-spec =
     tie.close
     (tie.spec
-    check-sizes-requires
-    is-done-requires
-    unexamined-requires
+    (λ c κs. tt)
+    (λ c κs. tt)
+    (λ c κs. tt)
     returns
     check-nested-requires
     examine-from-requires

@@ -6,15 +6,6 @@ use Rattle.checks.proofs.Held.{never}
 use Rattle.gather_checks.proofs.examine_again.Statement.{statement}
 use Rattle.gather_checks.proofs.examine_again.Tie as tie
 
-check-sizes-requires : tie.Need-check-sizes-requires
-check-sizes-requires c κs = tt
-
-is-done-requires : tie.Need-is-done-requires
-is-done-requires c κs = tt
-
-unexamined-requires : tie.Need-unexamined-requires
-unexamined-requires c κs = tt
-
 returns : tie.Need-returns
 returns c =
     let e = c .unexamined .ensures in
@@ -32,9 +23,9 @@ pub examine-again-spec : {M : Type 1} → statement M
 examine-again-spec =
     tie.close
     (tie.spec
-    check-sizes-requires
-    is-done-requires
-    unexamined-requires
+    (λ c κs. tt)
+    (λ c κs. tt)
+    (λ c κs. tt)
     returns
     examine-from-requires
     returns-2)

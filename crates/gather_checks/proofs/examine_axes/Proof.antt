@@ -17,15 +17,6 @@ use Rattle.checks.proofs.Held.{length-padded, steps-part}
 use Rattle.gather_checks.proofs.examine_axes.Statement.{statement}
 use Rattle.gather_checks.proofs.examine_axes.Tie as tie
 
-spread-picked-requires : tie.Need-spread-picked-requires
-spread-picked-requires c κs = tt
-
-spread-picked-requires-2 : tie.Need-spread-picked-requires-2
-spread-picked-requires-2 c κs = tt
-
-check-lists-requires : tie.Need-check-lists-requires
-check-lists-requires c κs = tt
-
 check-counts-requires : tie.Need-check-counts-requires
 check-counts-requires c κs = search needs
 
@@ -63,18 +54,6 @@ check-resets-requires c κs =
     let e : length (c .before .before .before .before .before .before .before .before .spread-picked .result) ≡ rankLimit = ap length (c .before .before .before .before .before .before .before .before .spread-picked .ensures) ∙ length-padded rankLimit (pos 0) _ in
     (s .pre .dest, part-length n n rankLimit (c .before .before .before .before .before .before .before .before .spread-picked .result) q e, part-length n n rankLimit (c .before .before .before .before .before .before .before .spread-picked2 .result) q d)
 
-or-else-requires : tie.Need-or-else-requires
-or-else-requires c κs = tt
-
-or-else-requires-2 : tie.Need-or-else-requires-2
-or-else-requires-2 c κs = tt
-
-or-else-requires-3 : tie.Need-or-else-requires-3
-or-else-requires-3 c κs = tt
-
-or-else-requires-4 : tie.Need-or-else-requires-4
-or-else-requires-4 c κs = tt
-
 returns : tie.Need-returns
 unfolding examinedBy
 returns c =
@@ -96,9 +75,9 @@ pub examine-axes-spec : {M : Type 1} → statement M
 examine-axes-spec =
     tie.close
     (tie.spec
-    spread-picked-requires
-    spread-picked-requires-2
-    check-lists-requires
+    (λ c κs. tt)
+    (λ c κs. tt)
+    (λ c κs. tt)
     check-counts-requires
     check-shape-requires
     sub-check-resets
@@ -108,8 +87,8 @@ examine-axes-spec =
     part-check-resets-start-2
     part-check-resets-end-2
     check-resets-requires
-    or-else-requires
-    or-else-requires-2
-    or-else-requires-3
-    or-else-requires-4
+    (λ c κs. tt)
+    (λ c κs. tt)
+    (λ c κs. tt)
+    (λ c κs. tt)
     returns)

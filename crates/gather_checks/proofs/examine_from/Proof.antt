@@ -12,17 +12,8 @@ use Rattle.gather_checks.proofs.Found.{sizes-pass, found}
 use Rattle.gather_checks.proofs.examine_from.Statement.{statement}
 use Rattle.gather_checks.proofs.examine_from.Tie as tie
 
-other-axes-requires : tie.Need-other-axes-requires
-other-axes-requires c κs = tt
-
 slice-aggregate-other-axes : tie.Need-slice-aggregate-other-axes
 slice-aggregate-other-axes c = search needs
-
-other-axes-requires-2 : tie.Need-other-axes-requires-2
-other-axes-requires-2 c κs = tt
-
-other-axes-requires-3 : tie.Need-other-axes-requires-3
-other-axes-requires-3 c κs = tt
 
 sub-examine-axes : tie.Need-sub-examine-axes
 sub-examine-axes c = search needs
@@ -92,10 +83,10 @@ pub examine-from-spec : {M : Type 1} → statement M
 examine-from-spec =
     tie.close
     (tie.spec
-    other-axes-requires
+    (λ c κs. tt)
     slice-aggregate-other-axes
-    other-axes-requires-2
-    other-axes-requires-3
+    (λ c κs. tt)
+    (λ c κs. tt)
     sub-examine-axes
     part-examine-axes-start
     part-examine-axes-end

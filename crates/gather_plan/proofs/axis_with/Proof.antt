@@ -5,15 +5,6 @@ use borrow.Author.Needs.{needs}
 use Rattle.gather_plan.proofs.axis_with.Statement.{statement}
 use Rattle.gather_plan.proofs.axis_with.Tie as tie
 
-reset-value-requires : tie.Need-reset-value-requires
-reset-value-requires c κs = tt
-
-reset-value-requires-2 : tie.Need-reset-value-requires-2
-reset-value-requires-2 c κs = tt
-
-reset-value-requires-3 : tie.Need-reset-value-requires-3
-reset-value-requires-3 c κs = tt
-
 returns : tie.Need-returns
 returns c =
     let s = c .before .before .before in
@@ -24,4 +15,4 @@ returns c =
 
 pub axis-with-spec : {M : Type 1} → statement M
 axis-with-spec =
-    tie.close (tie.spec reset-value-requires reset-value-requires-2 reset-value-requires-3 returns)
+    tie.close (tie.spec (λ c κs. tt) (λ c κs. tt) (λ c κs. tt) returns)

@@ -16,44 +16,8 @@ use Rattle.gather_plan.proofs.Planned.{fits, plan-is}
 use Rattle.gather_plan.proofs.plan_of.Statement.{statement}
 use Rattle.gather_plan.proofs.plan_of.Tie as tie
 
-make-layout-requires : tie.Need-make-layout-requires
-make-layout-requires c κs = tt
-
-make-layout-requires-2 : tie.Need-make-layout-requires-2
-make-layout-requires-2 c κs = tt
-
-make-layout-requires-3 : tie.Need-make-layout-requires-3
-make-layout-requires-3 c κs = tt
-
-other-axes-requires : tie.Need-other-axes-requires
-other-axes-requires c κs = tt
-
 axes-of-requires : tie.Need-axes-of-requires
 axes-of-requires c κs = let s = c .before .before .before .before .before .before .before .before .before .before .before .before .before .before in fits (gatherFrom (s .args .operand-extents .now) (s .args .operand-strides .now) (s .args .index-extents .now) (s .args .index-strides .now) (s .args .dest-extents .now) (s .args .dest-strides .now) (s .args .offset-dims .now) (s .args .collapsed-slice-dims .now) (s .args .start-index-map .now) (s .args .index-vector-dim) (s .args .slice-sizes .now)) _ _ (s .pre) .dest-rank
-
-stride-at-requires : tie.Need-stride-at-requires
-stride-at-requires c κs = tt
-
-index-component-offsets-requires : tie.Need-index-component-offsets-requires
-index-component-offsets-requires c κs = tt
-
-strides-on-requires : tie.Need-strides-on-requires
-strides-on-requires c κs = tt
-
-numbers-from-requires : tie.Need-numbers-from-requires
-numbers-from-requires c κs = tt
-
-numbers-from-requires-2 : tie.Need-numbers-from-requires-2
-numbers-from-requires-2 c κs = tt
-
-numbers-from-requires-3 : tie.Need-numbers-from-requires-3
-numbers-from-requires-3 c κs = tt
-
-numbers-from-requires-4 : tie.Need-numbers-from-requires-4
-numbers-from-requires-4 c κs = tt
-
-total-value-requires : tie.Need-total-value-requires
-total-value-requires c κs = tt
 
 returns : tie.Need-returns
 returns c =
@@ -67,17 +31,17 @@ pub plan-of-spec : {M : Type 1} → statement M
 plan-of-spec =
     tie.close
     (tie.spec
-    make-layout-requires
-    make-layout-requires-2
-    make-layout-requires-3
-    other-axes-requires
+    (λ c κs. tt)
+    (λ c κs. tt)
+    (λ c κs. tt)
+    (λ c κs. tt)
     axes-of-requires
-    stride-at-requires
-    index-component-offsets-requires
-    strides-on-requires
-    numbers-from-requires
-    numbers-from-requires-2
-    numbers-from-requires-3
-    numbers-from-requires-4
-    total-value-requires
+    (λ c κs. tt)
+    (λ c κs. tt)
+    (λ c κs. tt)
+    (λ c κs. tt)
+    (λ c κs. tt)
+    (λ c κs. tt)
+    (λ c κs. tt)
+    (λ c κs. tt)
     returns)

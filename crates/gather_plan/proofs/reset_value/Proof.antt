@@ -8,9 +8,6 @@ use borrow.Author.Needs.{needs, sfits-of}
 use Rattle.gather_plan.proofs.reset_value.Statement.{statement}
 use Rattle.gather_plan.proofs.reset_value.Tie as tie
 
-checked-replay-reset-requires : tie.Need-checked-replay-reset-requires
-checked-replay-reset-requires c κs = tt
-
 enum-known-reset : tie.Need-enum-known-reset
 enum-known-reset c = search needs
 
@@ -30,4 +27,4 @@ returns-2 c =
 
 pub reset-value-spec : {M : Type 1} → statement M
 reset-value-spec =
-    tie.close (tie.spec checked-replay-reset-requires enum-known-reset enum-told returns returns-2)
+    tie.close (tie.spec (λ c κs. tt) enum-known-reset enum-told returns returns-2)

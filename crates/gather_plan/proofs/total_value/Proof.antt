@@ -4,9 +4,6 @@ use Rattle.checks.specs.Values.{valueOfU}
 use Rattle.gather_plan.proofs.total_value.Statement.{statement}
 use Rattle.gather_plan.proofs.total_value.Tie as tie
 
-checked-total-len-requires : tie.Need-checked-total-len-requires
-checked-total-len-requires c κs = tt
-
 enum-known-total : tie.Need-enum-known-total
 enum-known-total c = search needs
 
@@ -21,4 +18,4 @@ returns-2 c = ap valueOfU (sym (c .enum-told .given .1) ∙ c .before .before .c
 
 pub total-value-spec : {M : Type 1} → statement M
 total-value-spec =
-    tie.close (tie.spec checked-total-len-requires enum-known-total enum-told returns returns-2)
+    tie.close (tie.spec (λ c κs. tt) enum-known-total enum-told returns returns-2)

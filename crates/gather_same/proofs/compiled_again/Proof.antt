@@ -11,27 +11,6 @@ use Rattle.gather_same.proofs.compiled_again.Tie as tie
 lengths : (s : tie.Start) → (length (s .args .plan .operand .extents) ≡ rankLimit) × (length (s .args .plan .operand .strides) ≡ rankLimit) × (length (s .args .plan .index .extents) ≡ rankLimit) × (length (s .args .plan .index .strides) ≡ rankLimit) × (length (s .args .plan .dest .extents) ≡ rankLimit) × (length (s .args .plan .dest .strides) ≡ rankLimit) × (length (s .args .plan .«offset_dims» .entries) ≡ rankLimit) × (length (s .args .plan .«collapsed_slice_dims» .entries) ≡ rankLimit) × (length (s .args .plan .«start_index_map» .entries) ≡ rankLimit) × (length (s .args .plan .«slice_sizes» .entries) ≡ rankLimit)
 lengths s = (search needs, search needs, search needs, search needs, search needs, search needs, search needs, search needs, search (needs, s .good .0 .1 .1 .1 .1 .1 .1 .1 .0), search (needs, s .good .0 .1 .1 .1 .1 .1 .1 .1 .1 .1 .0))
 
-axis-count-requires : tie.Need-axis-count-requires
-axis-count-requires c κs = tt
-
-axis-count-requires-2 : tie.Need-axis-count-requires-2
-axis-count-requires-2 c κs = tt
-
-axis-count-requires-3 : tie.Need-axis-count-requires-3
-axis-count-requires-3 c κs = tt
-
-axis-count-requires-4 : tie.Need-axis-count-requires-4
-axis-count-requires-4 c κs = tt
-
-axis-count-requires-5 : tie.Need-axis-count-requires-5
-axis-count-requires-5 c κs = tt
-
-axis-count-requires-6 : tie.Need-axis-count-requires-6
-axis-count-requires-6 c κs = tt
-
-axis-count-requires-7 : tie.Need-axis-count-requires-7
-axis-count-requires-7 c κs = tt
-
 sub-compile-again : tie.Need-sub-compile-again
 sub-compile-again c = search needs
 
@@ -122,9 +101,6 @@ part-compile-again-start-10 c = search needs
 part-compile-again-end-10 : tie.Need-part-compile-again-end-10
 part-compile-again-end-10 c = part-fits (c .before .before .before .before .before .before .before .before .before .before .before .before .before .before .before .before .before .before .before .axis-count7 .result) (c .before .before .before .before .before .before .before .before .before .before .before .before .before .before .before .before .before .before .before .before .before .before .before .before .before .before .before .before .before .before .before .before .before .before .before .before .before .before .before .before .before .before .before .args .plan .«slice_sizes» .count) (c .before .before .before .before .before .before .before .before .before .before .before .before .before .before .before .before .before .before .before .before .before .before .before .before .before .before .before .before .before .before .before .before .before .before .before .before .before .before .before .before .before .before .before .args .plan .«slice_sizes» .entries) (c .before .before .before .before .before .before .before .before .before .before .before .before .before .before .before .before .before .before .before .axis-count7 .ensures) (lengths (c .before .before .before .before .before .before .before .before .before .before .before .before .before .before .before .before .before .before .before .before .before .before .before .before .before .before .before .before .before .before .before .before .before .before .before .before .before .before .before .before .before .before .before) .9)
 
-compile-again-requires : tie.Need-compile-again-requires
-compile-again-requires c κs = tt
-
 returns : tie.Need-returns
 returns c =
     let s = c .before .before .before .before .before .before .before .before .before .before .before .before .before .before .before .before .before .before .before .before .before .before .before .before .before .before .before .before .before .before .before .before .before .before .before .before .before .before .before .before .before .before .before .before .before in
@@ -144,13 +120,13 @@ pub compiled-again-spec : {M : Type 1} → statement M
 compiled-again-spec =
     tie.close
     (tie.spec
-    axis-count-requires
-    axis-count-requires-2
-    axis-count-requires-3
-    axis-count-requires-4
-    axis-count-requires-5
-    axis-count-requires-6
-    axis-count-requires-7
+    (λ c κs. tt)
+    (λ c κs. tt)
+    (λ c κs. tt)
+    (λ c κs. tt)
+    (λ c κs. tt)
+    (λ c κs. tt)
+    (λ c κs. tt)
     sub-compile-again
     part-compile-again-start
     part-compile-again-end
@@ -181,5 +157,5 @@ compiled-again-spec =
     sub-compile-again-10
     part-compile-again-start-10
     part-compile-again-end-10
-    compile-again-requires
+    (λ c κs. tt)
     returns)

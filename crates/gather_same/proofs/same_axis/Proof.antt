@@ -6,45 +6,6 @@ use borrow.Author.Needs.{needs}
 use Rattle.gather_same.proofs.same_axis.Statement.{statement}
 use Rattle.gather_same.proofs.same_axis.Tie as tie
 
-same-role-requires : tie.Need-same-role-requires
-same-role-requires c κs = tt
-
-same-i64-requires : tie.Need-same-i64-requires
-same-i64-requires c κs = tt
-
-same-i64-requires-2 : tie.Need-same-i64-requires-2
-same-i64-requires-2 c κs = tt
-
-same-i64-requires-3 : tie.Need-same-i64-requires-3
-same-i64-requires-3 c κs = tt
-
-same-i64-requires-4 : tie.Need-same-i64-requires-4
-same-i64-requires-4 c κs = tt
-
-same-i64-requires-5 : tie.Need-same-i64-requires-5
-same-i64-requires-5 c κs = tt
-
-same-i64-requires-6 : tie.Need-same-i64-requires-6
-same-i64-requires-6 c κs = tt
-
-both-requires : tie.Need-both-requires
-both-requires c κs = tt
-
-both-requires-2 : tie.Need-both-requires-2
-both-requires-2 c κs = tt
-
-both-requires-3 : tie.Need-both-requires-3
-both-requires-3 c κs = tt
-
-both-requires-4 : tie.Need-both-requires-4
-both-requires-4 c κs = tt
-
-both-requires-5 : tie.Need-both-requires-5
-both-requires-5 c κs = tt
-
-both-requires-6 : tie.Need-both-requires-6
-both-requires-6 c κs = tt
-
 returns : tie.Need-returns
 unfolding sameAxis
 returns c =
@@ -67,17 +28,17 @@ pub same-axis-spec : {M : Type 1} → statement M
 same-axis-spec =
     tie.close
     (tie.spec
-    same-role-requires
-    same-i64-requires
-    same-i64-requires-2
-    same-i64-requires-3
-    same-i64-requires-4
-    same-i64-requires-5
-    same-i64-requires-6
-    both-requires
-    both-requires-2
-    both-requires-3
-    both-requires-4
-    both-requires-5
-    both-requires-6
+    (λ c κs. tt)
+    (λ c κs. tt)
+    (λ c κs. tt)
+    (λ c κs. tt)
+    (λ c κs. tt)
+    (λ c κs. tt)
+    (λ c κs. tt)
+    (λ c κs. tt)
+    (λ c κs. tt)
+    (λ c κs. tt)
+    (λ c κs. tt)
+    (λ c κs. tt)
+    (λ c κs. tt)
     returns)

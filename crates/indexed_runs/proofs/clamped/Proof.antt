@@ -8,9 +8,6 @@ use Rattle.indexed_runs.proofs.Ones.{clamped-by}
 use Rattle.indexed_runs.proofs.clamped.Statement.{statement}
 use Rattle.indexed_runs.proofs.clamped.Tie as tie
 
-not-below-zero-requires : tie.Need-not-below-zero-requires
-not-below-zero-requires c κs = tt
-
 -- what is not below 0
 module _ (c : tie.After-not-below-zero) where
   abbrev from : ℤ
@@ -39,4 +36,4 @@ returns-2 c = let q = c .before in
     clamped-by _ (a .args .x) (a .args .limit) (a .pre) (omega (arith, zfacts, ups q, dns q, known (fits q), known (a .fits .limit), only (a .args .limit), a .pre)) (omega (arith, zfacts, ups q, dns q, known (fits q)))
 
 pub clamped-spec : {M : Type 1} → statement M
-clamped-spec = tie.close (tie.spec not-below-zero-requires returns returns-2)
+clamped-spec = tie.close (tie.spec (λ c κs. tt) returns returns-2)

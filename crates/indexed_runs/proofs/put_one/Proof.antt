@@ -46,9 +46,6 @@ mul-apply-2 c = search needs
 shared-slice-copy-out-apply : tie.Need-shared-slice-copy-out-apply
 shared-slice-copy-out-apply c = search needs
 
-apply-requires : tie.Need-apply-requires
-apply-requires c κs = tt
-
 mul-v : tie.Need-mul-v
 mul-v c = omega (arith, place (c .before .before .before) .below, at-start (c .before .before .before) .good .1 .1 .1 .0 .1)
 
@@ -77,7 +74,7 @@ put-one-spec =
     slice-copy-out-apply
     mul-apply-2
     shared-slice-copy-out-apply
-    apply-requires
+    (λ c κs. tt)
     mul-v
     slice-set-from-v
     same-length

@@ -47,9 +47,6 @@ mul-apply-2 c = search needs
 shared-slice-read-apply : tie.Need-shared-slice-read-apply
 shared-slice-read-apply c = search needs
 
-apply-requires : tie.Need-apply-requires
-apply-requires c κs = tt
-
 mul-dst : tie.Need-mul-dst
 mul-dst c = omega (arith, place (c .before .before .before) .below, at-start (c .before .before .before) .good .1 .1 .1 .0 .1)
 
@@ -78,7 +75,7 @@ put-one-spec =
     slice-read-apply
     mul-apply-2
     shared-slice-read-apply
-    apply-requires
+    (λ c κs. tt)
     mul-dst
     slice-write-dst
     same-length

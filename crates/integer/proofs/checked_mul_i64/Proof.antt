@@ -14,29 +14,8 @@ use borrow.Author.Needs.{needs}
 use Rattle.integer.proofs.checked_mul_i64.Statement.{statement}
 use Rattle.integer.proofs.checked_mul_i64.Tie as tie
 
-magnitude-i64-requires : tie.Need-magnitude-i64-requires
-magnitude-i64-requires c κs = tt
-
-magnitude-i64-requires-2 : tie.Need-magnitude-i64-requires-2
-magnitude-i64-requires-2 c κs = tt
-
-checked-mul-u64-requires : tie.Need-checked-mul-u64-requires
-checked-mul-u64-requires c κs = tt
-
 enum-known-p : tie.Need-enum-known-p
 enum-known-p c = search needs
-
-signed-i64-requires : tie.Need-signed-i64-requires
-signed-i64-requires c κs = tt
-
-signed-i64-requires-2 : tie.Need-signed-i64-requires-2
-signed-i64-requires-2 c κs = tt
-
-signed-i64-requires-3 : tie.Need-signed-i64-requires-3
-signed-i64-requires-3 c κs = tt
-
-signed-i64-requires-4 : tie.Need-signed-i64-requires-4
-signed-i64-requires-4 c κs = tt
 
 enum-told : tie.Need-enum-told
 enum-told c = search needs
@@ -86,14 +65,14 @@ pub checked-mul-i64-spec : {M : Type 1} → statement M
 checked-mul-i64-spec =
     tie.close
     (tie.spec
-    magnitude-i64-requires
-    magnitude-i64-requires-2
-    checked-mul-u64-requires
+    (λ c κs. tt)
+    (λ c κs. tt)
+    (λ c κs. tt)
     enum-known-p
-    signed-i64-requires
-    signed-i64-requires-2
-    signed-i64-requires-3
-    signed-i64-requires-4
+    (λ c κs. tt)
+    (λ c κs. tt)
+    (λ c κs. tt)
+    (λ c κs. tt)
     enum-told
     returns
     returns-2

@@ -12,9 +12,6 @@ part-make-job-start c = search needs
 part-make-job-end : tie.Need-part-make-job-end
 part-make-job-end c = search needs
 
-make-job-requires : tie.Need-make-job-requires
-make-job-requires c κs = tt
-
 returns : tie.Need-returns
 returns c =
     let s : tie.Start = search in
@@ -23,4 +20,4 @@ returns c =
 pub make-scatter-job-spec : {M : Type 1} → statement M
 make-scatter-job-spec =
     tie.close
-    (tie.spec sub-make-job part-make-job-start part-make-job-end make-job-requires returns)
+    (tie.spec sub-make-job part-make-job-start part-make-job-end (λ c κs. tt) returns)

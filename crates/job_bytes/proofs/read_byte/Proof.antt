@@ -12,14 +12,8 @@ read-number-requires c κs = search needs
 returns : tie.Need-returns
 returns c = let f = number-fault _ _ (c .before .before .read-number .ensures) (not-true _ (c .if1 .taken)) in c .before .before .read-number .ensures ∙ ap heldNumber (f ∙ sym (byte-fault _ _ _ _ _ f))
 
-no-number-requires : tie.Need-no-number-requires
-no-number-requires c κs = tt
-
 returns-2 : tie.Need-returns-2
 returns-2 c = c .no-number .ensures ∙ sym (ap heldNumber (byte-low _ _ _ _ _ _ (number-read _ _ (c .before .before .before .before .before .read-number .ensures) (not-false _ (c .before .before .before .if1 .left))) (c .before .if2 .taken)))
-
-no-number-requires-2 : tie.Need-no-number-requires-2
-no-number-requires-2 c κs = tt
 
 returns-3 : tie.Need-returns-3
 returns-3 c =
@@ -40,8 +34,8 @@ read-byte-spec =
     (tie.spec
     read-number-requires
     returns
-    no-number-requires
+    (λ c κs. tt)
     returns-2
-    no-number-requires-2
+    (λ c κs. tt)
     returns-3
     returns-4)

@@ -6,17 +6,11 @@ use borrow.Author.Needs.{needs}
 use Rattle.job_bytes.proofs.read_number.Statement.{statement}
 use Rattle.job_bytes.proofs.read_number.Tie as tie
 
-no-number-requires : tie.Need-no-number-requires
-no-number-requires c κs = tt
-
 returns : tie.Need-returns
 returns c = c .no-number .ensures ∙ sym (ap heldNumber (number-cut _ _ _ (omega arith)))
 
 sub-if2 : tie.Need-sub-if2
 sub-if2 c = search needs
-
-no-number-requires-2 : tie.Need-no-number-requires-2
-no-number-requires-2 c κs = tt
 
 returns-2 : tie.Need-returns-2
 returns-2 c = c .no-number2 .ensures ∙ sym (ap heldNumber (number-cut _ _ _ (omega arith)))
@@ -34,10 +28,10 @@ pub read-number-spec : {M : Type 1} → statement M
 read-number-spec =
     tie.close
     (tie.spec
-    no-number-requires
+    (λ c κs. tt)
     returns
     sub-if2
-    no-number-requires-2
+    (λ c κs. tt)
     returns-2
     number-of-requires
     add-t5

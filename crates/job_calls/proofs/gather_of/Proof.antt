@@ -13,27 +13,6 @@ use Rattle.job_calls.proofs.gather_of.Tie as tie
 lengths : (s : tie.Start) → (length (s .args .operand .extents) ≡ rankLimit) × (length (s .args .operand .strides) ≡ rankLimit) × (length (s .args .index .extents) ≡ rankLimit) × (length (s .args .index .strides) ≡ rankLimit) × (length (s .args .dest .extents) ≡ rankLimit) × (length (s .args .dest .strides) ≡ rankLimit) × (length (s .args .spec .«window_dims» .entries) ≡ listLimit) × (length (s .args .spec .«unit_dims» .entries) ≡ listLimit) × (length (s .args .spec .«start_map» .entries) ≡ listLimit) × (length (s .args .spec .«slice_sizes» .entries) ≡ listLimit)
 lengths s = (search needs, search needs, search needs, search needs, search needs, search needs, search needs, search needs, search needs, search needs)
 
-axis-count-requires : tie.Need-axis-count-requires
-axis-count-requires c κs = tt
-
-axis-count-requires-2 : tie.Need-axis-count-requires-2
-axis-count-requires-2 c κs = tt
-
-axis-count-requires-3 : tie.Need-axis-count-requires-3
-axis-count-requires-3 c κs = tt
-
-entry-count-requires : tie.Need-entry-count-requires
-entry-count-requires c κs = tt
-
-entry-count-requires-2 : tie.Need-entry-count-requires-2
-entry-count-requires-2 c κs = tt
-
-entry-count-requires-3 : tie.Need-entry-count-requires-3
-entry-count-requires-3 c κs = tt
-
-entry-count-requires-4 : tie.Need-entry-count-requires-4
-entry-count-requires-4 c κs = tt
-
 sub-prepare : tie.Need-sub-prepare
 sub-prepare c = search needs
 
@@ -124,9 +103,6 @@ part-prepare-start-10 c = search needs
 part-prepare-end-10 : tie.Need-part-prepare-end-10
 part-prepare-end-10 c = let s = c .before .before .before .before .before .before .before .before .before .before .before .before .before .before .before .before .before .before .before .before .before .before .before .before .before .before .before .before .before .before .before .before .before .before .before .before .before .before .before .before in list-fits (c .before .before .before .before .before .before .before .before .before .before .before .before .before .before .before .before .before .before .before .entry-count4 .result) (s .args .spec .«slice_sizes» .count) (s .args .spec .«slice_sizes» .entries) (c .before .before .before .before .before .before .before .before .before .before .before .before .before .before .before .before .before .before .before .entry-count4 .ensures) (lengths s .9)
 
-prepare-requires : tie.Need-prepare-requires
-prepare-requires c κs = tt
-
 returns : tie.Need-returns
 returns c =
     let s = c .before .before .before .before .before .before .before .before .before .before .before .before .before .before .before .before .before .before .before .before .before .before .before .before .before .before .before .before .before .before .before .before .before .before .before .before .before .before .before .before .before .before in
@@ -146,13 +122,13 @@ pub gather-of-spec : {M : Type 1} → statement M
 gather-of-spec =
     tie.close
     (tie.spec
-    axis-count-requires
-    axis-count-requires-2
-    axis-count-requires-3
-    entry-count-requires
-    entry-count-requires-2
-    entry-count-requires-3
-    entry-count-requires-4
+    (λ c κs. tt)
+    (λ c κs. tt)
+    (λ c κs. tt)
+    (λ c κs. tt)
+    (λ c κs. tt)
+    (λ c κs. tt)
+    (λ c κs. tt)
     sub-prepare
     part-prepare-start
     part-prepare-end
@@ -183,5 +159,5 @@ gather-of-spec =
     sub-prepare-10
     part-prepare-start-10
     part-prepare-end-10
-    prepare-requires
+    (λ c κs. tt)
     returns)

@@ -9,34 +9,10 @@ use Rattle.job_calls.proofs.Lent.{first-refusals, scatter-refused, scat
 use Rattle.job_calls.proofs.prepare_scatter.Statement.{statement}
 use Rattle.job_calls.proofs.prepare_scatter.Tie as tie
 
-read-job-requires : tie.Need-read-job-requires
-read-job-requires c κs = tt
-
-kind-answer-requires : tie.Need-kind-answer-requires
-kind-answer-requires c κs = tt
-
-element-answer-requires : tie.Need-element-answer-requires
-element-answer-requires c κs = tt
-
-or-else-requires : tie.Need-or-else-requires
-or-else-requires c κs = tt
-
-or-else-requires-2 : tie.Need-or-else-requires-2
-or-else-requires-2 c κs = tt
-
-is-done-requires : tie.Need-is-done-requires
-is-done-requires c κs = tt
-
-refused-requires : tie.Need-refused-requires
-refused-requires c κs = tt
-
 returns : tie.Need-returns
 returns c =
     let s = c .before .before .before .before .before .before .before .before .before .before .before .before in
     scatter-refused (s .args .element) (c .before .before .before .before .before .before .before .before .before .before .read-job .ensures) (s .args .starts-len) (s .args .updates-len) (s .args .dest-len) _ (first-refusals K.Scatter (s .args .element) (c .before .before .before .before .before .before .before .before .before .before .read-job .result) (c .before .before .before .or-else2 .ensures) (c .before .before .before .before .or-else .ensures) (c .before .before .before .before .before .before .kind-answer .ensures) (c .before .before .before .before .before .element-answer .ensures)) (sym (c .before .before .is-done .ensures) ∙ not-true _ (c .before .if1 .taken)) (c .refused .ensures)
-
-scatter-of-requires : tie.Need-scatter-of-requires
-scatter-of-requires c κs = tt
 
 returns-2 : tie.Need-returns-2
 returns-2 c =
@@ -51,13 +27,13 @@ pub prepare-scatter-spec : {M : Type 1} → statement M
 prepare-scatter-spec =
     tie.close
     (tie.spec
-    read-job-requires
-    kind-answer-requires
-    element-answer-requires
-    or-else-requires
-    or-else-requires-2
-    is-done-requires
-    refused-requires
+    (λ c κs. tt)
+    (λ c κs. tt)
+    (λ c κs. tt)
+    (λ c κs. tt)
+    (λ c κs. tt)
+    (λ c κs. tt)
+    (λ c κs. tt)
     returns
-    scatter-of-requires
+    (λ c κs. tt)
     returns-2)

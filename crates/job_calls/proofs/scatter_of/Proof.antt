@@ -13,24 +13,6 @@ use Rattle.job_calls.proofs.scatter_of.Tie as tie
 lengths : (s : tie.Start) → (length (s .args .index .extents) ≡ rankLimit) × (length (s .args .index .strides) ≡ rankLimit) × (length (s .args .updates .extents) ≡ rankLimit) × (length (s .args .updates .strides) ≡ rankLimit) × (length (s .args .dest .extents) ≡ rankLimit) × (length (s .args .dest .strides) ≡ rankLimit) × (length (s .args .spec .«window_dims» .entries) ≡ listLimit) × (length (s .args .spec .«unit_dims» .entries) ≡ listLimit) × (length (s .args .spec .«start_map» .entries) ≡ listLimit)
 lengths s = (search needs, search needs, search needs, search needs, search needs, search needs, search needs, search needs, search needs)
 
-axis-count-requires : tie.Need-axis-count-requires
-axis-count-requires c κs = tt
-
-axis-count-requires-2 : tie.Need-axis-count-requires-2
-axis-count-requires-2 c κs = tt
-
-axis-count-requires-3 : tie.Need-axis-count-requires-3
-axis-count-requires-3 c κs = tt
-
-entry-count-requires : tie.Need-entry-count-requires
-entry-count-requires c κs = tt
-
-entry-count-requires-2 : tie.Need-entry-count-requires-2
-entry-count-requires-2 c κs = tt
-
-entry-count-requires-3 : tie.Need-entry-count-requires-3
-entry-count-requires-3 c κs = tt
-
 sub-prepare : tie.Need-sub-prepare
 sub-prepare c = search needs
 
@@ -112,9 +94,6 @@ part-prepare-start-9 c = search needs
 part-prepare-end-9 : tie.Need-part-prepare-end-9
 part-prepare-end-9 c = let s = c .before .before .before .before .before .before .before .before .before .before .before .before .before .before .before .before .before .before .before .before .before .before .before .before .before .before .before .before .before .before .before .before .before .before .before in list-fits (c .before .before .before .before .before .before .before .before .before .before .before .before .before .before .before .before .before .entry-count3 .result) (s .args .spec .«start_map» .count) (s .args .spec .«start_map» .entries) (c .before .before .before .before .before .before .before .before .before .before .before .before .before .before .before .before .before .entry-count3 .ensures) (lengths s .8)
 
-prepare-requires : tie.Need-prepare-requires
-prepare-requires c κs = tt
-
 returns : tie.Need-returns
 returns c =
     let s = c .before .before .before .before .before .before .before .before .before .before .before .before .before .before .before .before .before .before .before .before .before .before .before .before .before .before .before .before .before .before .before .before .before .before .before .before .before in
@@ -133,12 +112,12 @@ pub scatter-of-spec : {M : Type 1} → statement M
 scatter-of-spec =
     tie.close
     (tie.spec
-    axis-count-requires
-    axis-count-requires-2
-    axis-count-requires-3
-    entry-count-requires
-    entry-count-requires-2
-    entry-count-requires-3
+    (λ c κs. tt)
+    (λ c κs. tt)
+    (λ c κs. tt)
+    (λ c κs. tt)
+    (λ c κs. tt)
+    (λ c κs. tt)
     sub-prepare
     part-prepare-start
     part-prepare-end
@@ -166,5 +145,5 @@ scatter-of-spec =
     sub-prepare-9
     part-prepare-start-9
     part-prepare-end-9
-    prepare-requires
+    (λ c κs. tt)
     returns)

@@ -16,9 +16,6 @@ part-padded-extents-start c = search needs
 part-padded-extents-end : tie.Need-part-padded-extents-end
 part-padded-extents-end c = search needs
 
-padded-extents-requires : tie.Need-padded-extents-requires
-padded-extents-requires c κs = tt
-
 returns : tie.Need-returns
 returns c =
     let a = c .before .before .before .args in
@@ -32,5 +29,5 @@ extents-from-spec =
     sub-padded-extents
     part-padded-extents-start
     part-padded-extents-end
-    padded-extents-requires
+    (λ c κs. tt)
     returns)

@@ -6,20 +6,11 @@ use Rattle.job_lists.proofs.Chains.{list-1, list-2, list-held}
 use Rattle.job_lists.proofs.read_list.Statement.{statement}
 use Rattle.job_lists.proofs.read_list.Tie as tie
 
-read-byte-requires : tie.Need-read-byte-requires
-read-byte-requires c κs = tt
-
-list-fault-requires : tie.Need-list-fault-requires
-list-fault-requires c κs = tt
-
 returns : tie.Need-returns
 returns c = c .list-fault .ensures ∙ sym (ap heldEntries (list-1 _ _ _ (number-fault _ _ (c .before .before .before .read-byte .ensures) (not-true _ (c .before .if1 .taken)))))
 
 read-words-requires : tie.Need-read-words-requires
 read-words-requires c κs = byte-range _ _ _ _ _ _ (number-read _ _ (c .before .before .read-byte .ensures) (not-false _ (c .if1 .left))) .1
-
-list-fault-requires-2 : tie.Need-list-fault-requires-2
-list-fault-requires-2 c κs = tt
 
 returns-2 : tie.Need-returns-2
 returns-2 c =
@@ -39,10 +30,10 @@ pub read-list-spec : {M : Type 1} → statement M
 read-list-spec =
     tie.close
     (tie.spec
-    read-byte-requires
-    list-fault-requires
+    (λ c κs. tt)
+    (λ c κs. tt)
     returns
     read-words-requires
-    list-fault-requires-2
+    (λ c κs. tt)
     returns-2
     returns-3)

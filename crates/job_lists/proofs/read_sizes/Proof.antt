@@ -6,14 +6,8 @@ use Rattle.job_lists.proofs.read_sizes.Tie as tie
 enum-told : tie.Need-enum-told
 enum-told c = search needs
 
-read-list-requires : tie.Need-read-list-requires
-read-list-requires c κs = tt
-
 enum-told-2 : tie.Need-enum-told-2
 enum-told-2 c = search needs
-
-no-list-requires : tie.Need-no-list-requires
-no-list-requires c κs = tt
 
 returns : tie.Need-returns
 unfolding sizesAt
@@ -26,4 +20,4 @@ returns-2 c = rw (c .before .enum-told2 .given .1, c .no-list .ensures)
 pub read-sizes-spec : {M : Type 1} → statement M
 read-sizes-spec =
     tie.close
-    (tie.spec enum-told read-list-requires enum-told-2 no-list-requires returns returns-2)
+    (tie.spec enum-told (λ c κs. tt) enum-told-2 (λ c κs. tt) returns returns-2)

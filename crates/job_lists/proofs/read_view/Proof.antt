@@ -10,20 +10,11 @@ use borrow.Author.Needs.{needs}
 use Rattle.job_lists.proofs.read_view.Statement.{statement}
 use Rattle.job_lists.proofs.read_view.Tie as tie
 
-read-byte-requires : tie.Need-read-byte-requires
-read-byte-requires c κs = tt
-
-view-fault-requires : tie.Need-view-fault-requires
-view-fault-requires c κs = tt
-
 returns : tie.Need-returns
 returns c = let f1 = number-fault _ _ (c .before .before .before .read-byte .ensures) (not-true _ (c .before .if1 .taken)) in c .view-fault .ensures ∙ sym (ap heldView (view-1 _ _ _ f1))
 
 read-words-requires : tie.Need-read-words-requires
 read-words-requires c κs = rank-words _ _ _ _ (number-read _ _ (c .before .before .read-byte .ensures) (not-false _ (c .if1 .left)))
-
-view-fault-requires-2 : tie.Need-view-fault-requires-2
-view-fault-requires-2 c κs = tt
 
 returns-2 : tie.Need-returns-2
 returns-2 c =
@@ -34,9 +25,6 @@ returns-2 c =
 
 read-words-requires-2 : tie.Need-read-words-requires-2
 read-words-requires-2 c κs = rank-words _ _ _ _ (number-read _ _ (c .before .before .before .before .before .read-byte .ensures) (not-false _ (c .before .before .before .if1 .left)))
-
-view-fault-requires-3 : tie.Need-view-fault-requires-3
-view-fault-requires-3 c κs = tt
 
 returns-3 : tie.Need-returns-3
 returns-3 c =
@@ -49,9 +37,6 @@ returns-3 c =
 
 read-number-requires : tie.Need-read-number-requires
 read-number-requires c κs = search needs
-
-view-fault-requires-4 : tie.Need-view-fault-requires-4
-view-fault-requires-4 c κs = tt
 
 returns-4 : tie.Need-returns-4
 returns-4 c =
@@ -74,9 +59,6 @@ strides-from-requires c κs =
     let p12 = c .before .before .before .before .before .before .before .before .before .before .before .before in
     rank-words _ _ _ _ (number-read _ _ (p12 .before .before .read-byte .ensures) (not-false _ (p12 .if1 .left)))
 
-signed-word-requires : tie.Need-signed-word-requires
-signed-word-requires c κs = tt
-
 returns-5 : tie.Need-returns-5
 returns-5 c =
     let p5 = c .before .before .before .before .before in
@@ -93,19 +75,19 @@ pub read-view-spec : {M : Type 1} → statement M
 read-view-spec =
     tie.close
     (tie.spec
-    read-byte-requires
-    view-fault-requires
+    (λ c κs. tt)
+    (λ c κs. tt)
     returns
     read-words-requires
-    view-fault-requires-2
+    (λ c κs. tt)
     returns-2
     read-words-requires-2
-    view-fault-requires-3
+    (λ c κs. tt)
     returns-3
     read-number-requires
-    view-fault-requires-4
+    (λ c κs. tt)
     returns-4
     extents-from-requires
     strides-from-requires
-    signed-word-requires
+    (λ c κs. tt)
     returns-5)

@@ -18,9 +18,6 @@ sub-if2 : tie.Need-sub-if2
 sub-if2 c =
     omega (arith, number-room _ _ _ _ _ (number-read _ _ (c .before .before .read-number .ensures) (not-false _ (c .if1 .left))) .1)
 
-no-number-requires : tie.Need-no-number-requires
-no-number-requires c κs = tt
-
 returns-2 : tie.Need-returns-2
 returns-2 c = let f = number-read _ _ (c .before .before .before .before .before .read-number .ensures) (not-false _ (c .before .before .before .if1 .left)) in let r = number-room _ _ _ _ _ f in c .no-number .ensures ∙ sym (ap heldNumber (count-2 _ _ _ f (omega (arith, r .0, r .1, c .before .if2 .taken))))
 
@@ -32,4 +29,4 @@ returns-3 c =
 pub read-count-spec : {M : Type 1} → statement M
 read-count-spec =
     tie.close
-    (tie.spec read-number-requires returns sub-if2 no-number-requires returns-2 returns-3)
+    (tie.spec read-number-requires returns sub-if2 (λ c κs. tt) returns-2 returns-3)

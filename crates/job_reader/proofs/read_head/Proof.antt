@@ -6,20 +6,8 @@ use Rattle.job_reader.proofs.Chains.{head-1, head-2, head-3, head-4, he
 use Rattle.job_reader.proofs.read_head.Statement.{statement}
 use Rattle.job_reader.proofs.read_head.Tie as tie
 
-read-count-requires : tie.Need-read-count-requires
-read-count-requires c κs = tt
-
-head-fault-requires : tie.Need-head-fault-requires
-head-fault-requires c κs = tt
-
 returns : tie.Need-returns
 returns c = c .head-fault .ensures ∙ sym (ap heldHead (head-1 _ _ (number-fault _ _ (c .before .before .before .read-count .ensures) (not-true _ (c .before .if1 .taken)))))
-
-read-byte-requires : tie.Need-read-byte-requires
-read-byte-requires c κs = tt
-
-head-fault-requires-2 : tie.Need-head-fault-requires-2
-head-fault-requires-2 c κs = tt
 
 returns-2 : tie.Need-returns-2
 returns-2 c =
@@ -27,12 +15,6 @@ returns-2 c =
     let p4 = p3 .before in
     let p6 = p4 .before .before in
     c .head-fault2 .ensures ∙ sym (ap heldHead (head-2 _ _ _ _ (number-read _ _ (p6 .read-count .ensures) (not-false _ (p4 .if1 .left))) (number-fault _ _ (p3 .read-byte .ensures) (not-true _ (c .before .if2 .taken)))))
-
-read-byte-requires-2 : tie.Need-read-byte-requires-2
-read-byte-requires-2 c κs = tt
-
-head-fault-requires-3 : tie.Need-head-fault-requires-3
-head-fault-requires-3 c κs = tt
 
 returns-3 : tie.Need-returns-3
 returns-3 c =
@@ -42,12 +24,6 @@ returns-3 c =
     let p7 = p6 .before in
     let p9 = p7 .before .before in
     c .head-fault3 .ensures ∙ sym (ap heldHead (head-3 _ _ _ _ _ _ (number-read _ _ (p9 .read-count .ensures) (not-false _ (p7 .if1 .left))) (number-read _ _ (p6 .read-byte .ensures) (not-false _ (p4 .if2 .left))) (number-fault _ _ (p3 .read-byte2 .ensures) (not-true _ (c .before .if3 .taken)))))
-
-read-byte-requires-3 : tie.Need-read-byte-requires-3
-read-byte-requires-3 c κs = tt
-
-head-fault-requires-4 : tie.Need-head-fault-requires-4
-head-fault-requires-4 c κs = tt
 
 returns-4 : tie.Need-returns-4
 returns-4 c =
@@ -59,12 +35,6 @@ returns-4 c =
     let p10 = p9 .before in
     let p12 = p10 .before .before in
     c .head-fault4 .ensures ∙ sym (ap heldHead (head-4 _ _ _ _ _ _ _ _ (number-read _ _ (p12 .read-count .ensures) (not-false _ (p10 .if1 .left))) (number-read _ _ (p9 .read-byte .ensures) (not-false _ (p7 .if2 .left))) (number-read _ _ (p6 .read-byte2 .ensures) (not-false _ (p4 .if3 .left))) (number-fault _ _ (p3 .read-byte3 .ensures) (not-true _ (c .before .if4 .taken)))))
-
-kind-of-requires : tie.Need-kind-of-requires
-kind-of-requires c κs = tt
-
-element-of-requires : tie.Need-element-of-requires
-element-of-requires c κs = tt
 
 returns-5 : tie.Need-returns-5
 returns-5 c =
@@ -81,18 +51,18 @@ pub read-head-spec : {M : Type 1} → statement M
 read-head-spec =
     tie.close
     (tie.spec
-    read-count-requires
-    head-fault-requires
+    (λ c κs. tt)
+    (λ c κs. tt)
     returns
-    read-byte-requires
-    head-fault-requires-2
+    (λ c κs. tt)
+    (λ c κs. tt)
     returns-2
-    read-byte-requires-2
-    head-fault-requires-3
+    (λ c κs. tt)
+    (λ c κs. tt)
     returns-3
-    read-byte-requires-3
-    head-fault-requires-4
+    (λ c κs. tt)
+    (λ c κs. tt)
     returns-4
-    kind-of-requires
-    element-of-requires
+    (λ c κs. tt)
+    (λ c κs. tt)
     returns-5)

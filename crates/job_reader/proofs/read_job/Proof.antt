@@ -5,20 +5,8 @@ use Rattle.job_reader.proofs.Chains.{got-head, no-head, got-views, no-v
 use Rattle.job_reader.proofs.read_job.Statement.{statement}
 use Rattle.job_reader.proofs.read_job.Tie as tie
 
-read-head-requires : tie.Need-read-head-requires
-read-head-requires c κs = tt
-
-job-fault-requires : tie.Need-job-fault-requires
-job-fault-requires c κs = tt
-
 returns : tie.Need-returns
 returns c = c .job-fault .ensures ∙ sym (ap readJob (job-1 _ _ (no-head _ _ (c .before .before .before .read-head .ensures) (not-true _ (c .before .if1 .taken)))))
-
-read-views-requires : tie.Need-read-views-requires
-read-views-requires c κs = tt
-
-job-fault-requires-2 : tie.Need-job-fault-requires-2
-job-fault-requires-2 c κs = tt
 
 returns-2 : tie.Need-returns-2
 returns-2 c =
@@ -26,12 +14,6 @@ returns-2 c =
     let p4 = p3 .before in
     let p6 = p4 .before .before in
     c .job-fault2 .ensures ∙ sym (ap readJob (job-2 _ _ _ _ (got-head _ _ (p6 .read-head .ensures) (not-false _ (p4 .if1 .left))) (no-views _ _ (p3 .read-views .ensures) (not-true _ (c .before .if2 .taken)))))
-
-read-spec-requires : tie.Need-read-spec-requires
-read-spec-requires c κs = tt
-
-job-fault-requires-3 : tie.Need-job-fault-requires-3
-job-fault-requires-3 c κs = tt
 
 returns-3 : tie.Need-returns-3
 returns-3 c =
@@ -41,9 +23,6 @@ returns-3 c =
     let p7 = p6 .before in
     let p9 = p7 .before .before in
     c .job-fault3 .ensures ∙ sym (ap readJob (job-3 _ _ _ _ _ _ (got-head _ _ (p9 .read-head .ensures) (not-false _ (p7 .if1 .left))) (got-views _ _ (p6 .read-views .ensures) (not-false _ (p4 .if2 .left))) (no-spec _ _ (p3 .read-spec .ensures) (not-true _ (c .before .if3 .taken)))))
-
-job-fault-requires-4 : tie.Need-job-fault-requires-4
-job-fault-requires-4 c κs = tt
 
 returns-4 : tie.Need-returns-4
 returns-4 c =
@@ -69,15 +48,15 @@ pub read-job-spec : {M : Type 1} → statement M
 read-job-spec =
     tie.close
     (tie.spec
-    read-head-requires
-    job-fault-requires
+    (λ c κs. tt)
+    (λ c κs. tt)
     returns
-    read-views-requires
-    job-fault-requires-2
+    (λ c κs. tt)
+    (λ c κs. tt)
     returns-2
-    read-spec-requires
-    job-fault-requires-3
+    (λ c κs. tt)
+    (λ c κs. tt)
     returns-3
-    job-fault-requires-4
+    (λ c κs. tt)
     returns-4
     returns-5)

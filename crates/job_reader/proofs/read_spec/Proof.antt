@@ -8,20 +8,8 @@ use borrow.Author.Needs.{needs}
 use Rattle.job_reader.proofs.read_spec.Statement.{statement}
 use Rattle.job_reader.proofs.read_spec.Tie as tie
 
-read-list-requires : tie.Need-read-list-requires
-read-list-requires c κs = tt
-
-spec-fault-requires : tie.Need-spec-fault-requires
-spec-fault-requires c κs = tt
-
 returns : tie.Need-returns
 returns c = let f1 = no-list _ _ (c .before .before .before .read-list .ensures) (not-true _ (c .before .if1 .taken)) in c .spec-fault .ensures ∙ sym (ap heldSpec (spec-1 _ _ _ _ f1))
-
-read-list-requires-2 : tie.Need-read-list-requires-2
-read-list-requires-2 c κs = tt
-
-spec-fault-requires-2 : tie.Need-spec-fault-requires-2
-spec-fault-requires-2 c κs = tt
 
 returns-2 : tie.Need-returns-2
 returns-2 c =
@@ -29,12 +17,6 @@ returns-2 c =
     let p4 = p3 .before in
     let p6 = p4 .before .before in
     let f1 = got-list _ _ (p6 .read-list .ensures) (not-false _ (p4 .if1 .left)) in let f2 = no-list _ _ (p3 .read-list2 .ensures) (not-true _ (c .before .if2 .taken)) in c .spec-fault2 .ensures ∙ sym (ap heldSpec (spec-2 _ _ _ _ _ _ (f1 .is) f2))
-
-read-list-requires-3 : tie.Need-read-list-requires-3
-read-list-requires-3 c κs = tt
-
-spec-fault-requires-3 : tie.Need-spec-fault-requires-3
-spec-fault-requires-3 c κs = tt
 
 returns-3 : tie.Need-returns-3
 returns-3 c =
@@ -48,9 +30,6 @@ returns-3 c =
 read-number-requires : tie.Need-read-number-requires
 read-number-requires c κs = search needs
 
-spec-fault-requires-4 : tie.Need-spec-fault-requires-4
-spec-fault-requires-4 c κs = tt
-
 returns-4 : tie.Need-returns-4
 returns-4 c =
     let p3 = c .before .before .before in
@@ -61,12 +40,6 @@ returns-4 c =
     let p10 = p9 .before in
     let p12 = p10 .before .before in
     let f1 = got-list _ _ (p12 .read-list .ensures) (not-false _ (p10 .if1 .left)) in let f2 = got-list _ _ (p9 .read-list2 .ensures) (not-false _ (p7 .if2 .left)) in let f3 = got-list _ _ (p6 .read-list3 .ensures) (not-false _ (p4 .if3 .left)) in let f4 = number-fault _ _ (p3 .read-number .ensures) (not-true _ (c .before .if4 .taken)) in c .spec-fault4 .ensures ∙ sym (ap heldSpec (spec-4 _ _ _ _ _ _ _ _ _ _ (f1 .is) (f2 .is) (f3 .is) f4))
-
-read-sizes-requires : tie.Need-read-sizes-requires
-read-sizes-requires c κs = tt
-
-spec-fault-requires-5 : tie.Need-spec-fault-requires-5
-spec-fault-requires-5 c κs = tt
 
 returns-5 : tie.Need-returns-5
 returns-5 c =
@@ -99,19 +72,19 @@ pub read-spec-spec : {M : Type 1} → statement M
 read-spec-spec =
     tie.close
     (tie.spec
-    read-list-requires
-    spec-fault-requires
+    (λ c κs. tt)
+    (λ c κs. tt)
     returns
-    read-list-requires-2
-    spec-fault-requires-2
+    (λ c κs. tt)
+    (λ c κs. tt)
     returns-2
-    read-list-requires-3
-    spec-fault-requires-3
+    (λ c κs. tt)
+    (λ c κs. tt)
     returns-3
     read-number-requires
-    spec-fault-requires-4
+    (λ c κs. tt)
     returns-4
-    read-sizes-requires
-    spec-fault-requires-5
+    (λ c κs. tt)
+    (λ c κs. tt)
     returns-5
     returns-6)

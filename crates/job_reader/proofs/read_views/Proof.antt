@@ -6,20 +6,8 @@ use Rattle.job_reader.proofs.Chains.{views-1, views-2, views-3, views-4
 use Rattle.job_reader.proofs.read_views.Statement.{statement}
 use Rattle.job_reader.proofs.read_views.Tie as tie
 
-read-view-requires : tie.Need-read-view-requires
-read-view-requires c κs = tt
-
-views-fault-requires : tie.Need-views-fault-requires
-views-fault-requires c κs = tt
-
 returns : tie.Need-returns
 returns c = c .views-fault .ensures ∙ sym (ap heldViews (views-1 _ _ _ (no-view _ _ (c .before .before .before .read-view .ensures) (not-true _ (c .before .if1 .taken)))))
-
-read-view-requires-2 : tie.Need-read-view-requires-2
-read-view-requires-2 c κs = tt
-
-views-fault-requires-2 : tie.Need-views-fault-requires-2
-views-fault-requires-2 c κs = tt
 
 returns-2 : tie.Need-returns-2
 returns-2 c =
@@ -27,12 +15,6 @@ returns-2 c =
     let p4 = p3 .before in
     let p6 = p4 .before .before in
     c .views-fault2 .ensures ∙ sym (ap heldViews (views-2 _ _ _ _ _ (got-view _ _ (p6 .read-view .ensures) (not-false _ (p4 .if1 .left))) (no-view _ _ (p3 .read-view2 .ensures) (not-true _ (c .before .if2 .taken)))))
-
-read-view-requires-3 : tie.Need-read-view-requires-3
-read-view-requires-3 c κs = tt
-
-views-fault-requires-3 : tie.Need-views-fault-requires-3
-views-fault-requires-3 c κs = tt
 
 returns-3 : tie.Need-returns-3
 returns-3 c =
@@ -57,13 +39,13 @@ pub read-views-spec : {M : Type 1} → statement M
 read-views-spec =
     tie.close
     (tie.spec
-    read-view-requires
-    views-fault-requires
+    (λ c κs. tt)
+    (λ c κs. tt)
     returns
-    read-view-requires-2
-    views-fault-requires-2
+    (λ c κs. tt)
+    (λ c κs. tt)
     returns-2
-    read-view-requires-3
-    views-fault-requires-3
+    (λ c κs. tt)
+    (λ c κs. tt)
     returns-3
     returns-4)

@@ -4,9 +4,6 @@ use borrow.Author.Needs.{needs}
 use Rattle.job_writer.proofs.put_job.Statement.{statement}
 use Rattle.job_writer.proofs.put_job.Tie as tie
 
-body-size-requires : tie.Need-body-size-requires
-body-size-requires c κs = tt
-
 add-if1 : tie.Need-add-if1
 add-if1 c = search needs
 
@@ -26,9 +23,6 @@ put-number-requires-2 c κs =
     let p10 = p8 .before .before in
     (omega (arith, p8 .body-size .ensures .is, length-body (p10 .args .job), p7 .if1 .left, c .before .before .out .given), omega arith)
 
-kind-byte-requires : tie.Need-kind-byte-requires
-kind-byte-requires c κs = tt
-
 put-number-requires-3 : tie.Need-put-number-requires-3
 put-number-requires-3 c κs =
     let p3 = c .before .before .before in
@@ -37,9 +31,6 @@ put-number-requires-3 c κs =
     let p13 = p12 .before in
     let p15 = p13 .before .before in
     (omega (arith, p13 .body-size .ensures .is, length-body (p15 .args .job), p12 .if1 .left, p7 .out .given, p3 .out2 .given), omega arith)
-
-element-byte-requires : tie.Need-element-byte-requires
-element-byte-requires c κs = tt
 
 put-number-requires-4 : tie.Need-put-number-requires-4
 put-number-requires-4 c κs =
@@ -93,15 +84,15 @@ pub put-job-spec : {M : Type 1} → statement M
 put-job-spec =
     tie.close
     (tie.spec
-    body-size-requires
+    (λ c κs. tt)
     add-if1
     add-t13
     returns
     put-number-requires
     put-number-requires-2
-    kind-byte-requires
+    (λ c κs. tt)
     put-number-requires-3
-    element-byte-requires
+    (λ c κs. tt)
     put-number-requires-4
     put-views-requires
     put-spec-requires

@@ -7,9 +7,6 @@ use borrow.Author.Needs.{needs}
 use Rattle.job_writer.proofs.put_list.Statement.{statement}
 use Rattle.job_writer.proofs.put_list.Tie as tie
 
-list-count-requires : tie.Need-list-count-requires
-list-count-requires c κs = tt
-
 put-number-requires : tie.Need-put-number-requires
 put-number-requires c κs = let s : length (c .before .before .before .before .args .list .entries) ≡ listLimit = search needs in (omega (arith, length-list (c .before .before .before .before .args .list) s), omega arith)
 
@@ -55,7 +52,7 @@ pub put-list-spec : {M : Type 1} → statement M
 put-list-spec =
     tie.close
     (tie.spec
-    list-count-requires
+    (λ c κs. tt)
     put-number-requires
     add-put-words
     array-share-prefix-entries

@@ -10,15 +10,6 @@ use borrow.Author.Needs.{needs}
 use Rattle.job_writer.proofs.put_view.Statement.{statement}
 use Rattle.job_writer.proofs.put_view.Tie as tie
 
-stored-count-requires : tie.Need-stored-count-requires
-stored-count-requires c κs = tt
-
-stride-words-requires : tie.Need-stride-words-requires
-stride-words-requires c κs = tt
-
-word-of-requires : tie.Need-word-of-requires
-word-of-requires c κs = tt
-
 extents-full : (c : tie.After-put-number-arg) → length (c .before .before .before .before .before .before .before .before .before .args .view .layout .extents) ≡ rankLimit
 extents-full c = search needs
 
@@ -125,9 +116,9 @@ pub put-view-spec : {M : Type 1} → statement M
 put-view-spec =
     tie.close
     (tie.spec
-    stored-count-requires
-    stride-words-requires
-    word-of-requires
+    (λ c κs. tt)
+    (λ c κs. tt)
+    (λ c κs. tt)
     put-number-requires
     add-put-words
     array-share-prefix-extents

@@ -7,9 +7,6 @@ use Rattle.job_writer.proofs.sizes_size.Tie as tie
 enum-told : tie.Need-enum-told
 enum-told c = search needs
 
-list-size-requires : tie.Need-list-size-requires
-list-size-requires c κs = tt
-
 enum-told-2 : tie.Need-enum-told-2
 enum-told-2 c = search needs
 
@@ -20,4 +17,4 @@ returns-2 : tie.Need-returns-2
 returns-2 c = rw (c .enum-told2 .given .1) (record { is = refl; most = omega arith })
 
 pub sizes-size-spec : {M : Type 1} → statement M
-sizes-size-spec = tie.close (tie.spec enum-told list-size-requires enum-told-2 returns returns-2)
+sizes-size-spec = tie.close (tie.spec enum-told (λ c κs. tt) enum-told-2 returns returns-2)

@@ -3,18 +3,6 @@ use borrow.Author.Needs.{needs}
 use Rattle.job_writer.proofs.spec_size.Statement.{statement}
 use Rattle.job_writer.proofs.spec_size.Tie as tie
 
-list-size-requires : tie.Need-list-size-requires
-list-size-requires c κs = tt
-
-list-size-requires-2 : tie.Need-list-size-requires-2
-list-size-requires-2 c κs = tt
-
-list-size-requires-3 : tie.Need-list-size-requires-3
-list-size-requires-3 c κs = tt
-
-sizes-size-requires : tie.Need-sizes-size-requires
-sizes-size-requires c κs = tt
-
 add-result : tie.Need-add-result
 add-result c = search needs
 
@@ -34,10 +22,10 @@ pub spec-size-spec : {M : Type 1} → statement M
 spec-size-spec =
     tie.close
     (tie.spec
-    list-size-requires
-    list-size-requires-2
-    list-size-requires-3
-    sizes-size-requires
+    (λ c κs. tt)
+    (λ c κs. tt)
+    (λ c κs. tt)
+    (λ c κs. tt)
     add-result
     add-result-2
     add-result-3

@@ -3,15 +3,6 @@ use borrow.Author.Needs.{needs}
 use Rattle.job_writer.proofs.views_size.Statement.{statement}
 use Rattle.job_writer.proofs.views_size.Tie as tie
 
-view-size-requires : tie.Need-view-size-requires
-view-size-requires c κs = tt
-
-view-size-requires-2 : tie.Need-view-size-requires-2
-view-size-requires-2 c κs = tt
-
-view-size-requires-3 : tie.Need-view-size-requires-3
-view-size-requires-3 c κs = tt
-
 add-result : tie.Need-add-result
 add-result c = search needs
 
@@ -25,9 +16,9 @@ pub views-size-spec : {M : Type 1} → statement M
 views-size-spec =
     tie.close
     (tie.spec
-    view-size-requires
-    view-size-requires-2
-    view-size-requires-3
+    (λ c κs. tt)
+    (λ c κs. tt)
+    (λ c κs. tt)
     add-result
     add-result-2
     returns)

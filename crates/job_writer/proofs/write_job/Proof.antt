@@ -5,19 +5,10 @@ use borrow.Author.Needs.{needs}
 use Rattle.job_writer.proofs.write_job.Statement.{statement}
 use Rattle.job_writer.proofs.write_job.Tie as tie
 
-job-refusal-requires : tie.Need-job-refusal-requires
-job-refusal-requires c κs = tt
-
-is-done-requires : tie.Need-is-done-requires
-is-done-requires c κs = tt
-
 returns : tie.Need-returns
 returns c =
     let s : tie.Start = search in
     refused-whole (s .args .job) (s .args .out .now) _ (c .before .before .job-refusal .ensures) (sym (c .before .is-done .ensures) ∙ not-true _ (c .if1 .taken))
-
-put-job-requires : tie.Need-put-job-requires
-put-job-requires c κs = tt
 
 same-length : tie.Need-same-length
 same-length c = search needs
@@ -30,4 +21,4 @@ returns-2 c =
 pub write-job-spec : {M : Type 1} → statement M
 write-job-spec =
     tie.close
-    (tie.spec job-refusal-requires is-done-requires returns put-job-requires same-length returns-2)
+    (tie.spec (λ c κs. tt) (λ c κs. tt) returns (λ c κs. tt) same-length returns-2)

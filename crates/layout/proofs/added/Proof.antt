@@ -11,9 +11,6 @@ use Rattle.layout.proofs.added.Tie as tie
 enum-known-x : tie.Need-enum-known-x
 enum-known-x c = search needs
 
-checked-add-i64-requires : tie.Need-checked-add-i64-requires
-checked-add-i64-requires c κs = tt
-
 enum-told : tie.Need-enum-told
 enum-told c = search needs
 
@@ -26,4 +23,4 @@ returns-2 : tie.Need-returns-2
 returns-2 c = search needs
 
 pub added-spec : {M : Type 1} → statement M
-added-spec = tie.close (tie.spec enum-known-x checked-add-i64-requires enum-told returns returns-2)
+added-spec = tie.close (tie.spec enum-known-x (λ c κs. tt) enum-told returns returns-2)

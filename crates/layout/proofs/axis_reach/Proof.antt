@@ -8,15 +8,6 @@ use Rattle.layout.specs.Spans.{andThen, reachOf}
 use Rattle.layout.proofs.axis_reach.Statement.{statement}
 use Rattle.layout.proofs.axis_reach.Tie as tie
 
-last-coordinate-requires : tie.Need-last-coordinate-requires
-last-coordinate-requires c κs = tt
-
-u64-to-i64-requires : tie.Need-u64-to-i64-requires
-u64-to-i64-requires c κs = tt
-
-scaled-requires : tie.Need-scaled-requires
-scaled-requires c κs = tt
-
 returns : tie.Need-returns
 unfolding reachOf
 returns c =
@@ -26,4 +17,4 @@ returns c =
     ∙ ap₂ (λ (x : Checked) (t : ℤ). andThen x (λ m. checked (t *ℤ m))) (c .before .u64-to-i64 .ensures ∙ ap (λ (n : ℕ). checked (pos n)) (c .before .before .last-coordinate .ensures)) (back f)
 
 pub axis-reach-spec : {M : Type 1} → statement M
-axis-reach-spec = tie.close (tie.spec last-coordinate-requires u64-to-i64-requires scaled-requires returns)
+axis-reach-spec = tie.close (tie.spec (λ c κs. tt) (λ c κs. tt) (λ c κs. tt) returns)

@@ -12,9 +12,6 @@ returns : tie.Need-returns
 unfolding cellsWithin
 returns c = rw (c .before .before .down .given .1, lt-ltb _ _ (c .if1 .taken))
 
-sum-with-requires : tie.Need-sum-with-requires
-sum-with-requires c κs = tt
-
 enum-known-high : tie.Need-enum-known-high
 enum-known-high c = search needs
 
@@ -46,7 +43,7 @@ cells-within-spec =
     (tie.spec
     enum-known-down
     returns
-    sum-with-requires
+    (λ c κs. tt)
     enum-known-high
     enum-told
     enum-told-2

@@ -19,12 +19,6 @@ unfolding resetOf
 not-zero zero s h = absurd (h refl)
 not-zero (suc n) s h = refl
 
-axis-reach-requires : tie.Need-axis-reach-requires
-axis-reach-requires c κs = tt
-
-negated-requires : tie.Need-negated-requires
-negated-requires c κs = tt
-
 returns : tie.Need-returns
 returns c = is-zero (c .before .args .extent) (c .before .args .step) (c .if1 .taken)
 
@@ -34,4 +28,4 @@ returns-2 c =
     c .negated .ensures ∙ ap (λ (x : Checked). andThen x (λ e. checked (negℤ e))) (c .before .axis-reach .ensures ∙ ap (reachOf (s .args .extent)) (back (s .fits .step))) ∙ not-zero (s .args .extent) (s .args .step) (c .before .before .if1 .left)
 
 pub checked-replay-reset-spec : {M : Type 1} → statement M
-checked-replay-reset-spec = tie.close (tie.spec axis-reach-requires negated-requires returns returns-2)
+checked-replay-reset-spec = tie.close (tie.spec (λ c κs. tt) (λ c κs. tt) returns returns-2)

@@ -11,9 +11,6 @@ use Rattle.layout.proofs.scaled.Tie as tie
 enum-known-x : tie.Need-enum-known-x
 enum-known-x c = search needs
 
-checked-mul-i64-requires : tie.Need-checked-mul-i64-requires
-checked-mul-i64-requires c κs = tt
-
 enum-told : tie.Need-enum-told
 enum-told c = search needs
 
@@ -27,4 +24,4 @@ returns-2 c = search needs
 
 pub scaled-spec : {M : Type 1} → statement M
 scaled-spec =
-    tie.close (tie.spec enum-known-x checked-mul-i64-requires enum-told returns returns-2)
+    tie.close (tie.spec enum-known-x (λ c κs. tt) enum-told returns returns-2)

@@ -9,12 +9,6 @@ use Rattle.integer.specs.Machine.{checkedU-yes, isNeg-yes, isNeg-no}
 use Rattle.layout.proofs.side_weight.Statement.{statement}
 use Rattle.layout.proofs.side_weight.Tie as tie
 
-axis-weight-requires : tie.Need-axis-weight-requires
-axis-weight-requires c κs = tt
-
-axis-weight-requires-2 : tie.Need-axis-weight-requires-2
-axis-weight-requires-2 c κs = tt
-
 returns : tie.Need-returns
 returns c =
     let s = c .before .before .before in
@@ -38,4 +32,4 @@ returns-4 c =
 pub side-weight-spec : {M : Type 1} → statement M
 side-weight-spec =
     tie.close
-    (tie.spec axis-weight-requires axis-weight-requires-2 returns returns-2 returns-3 returns-4)
+    (tie.spec (λ c κs. tt) (λ c κs. tt) returns returns-2 returns-3 returns-4)

@@ -29,23 +29,8 @@ never : (low high : ℤ) (d : ℕ) (s : ℤ) → reachOf d s ≡ C.Overflow → 
 unfolding widened
 never low high d s r = rw r
 
-axis-reach-requires : tie.Need-axis-reach-requires
-axis-reach-requires c κs = tt
-
 enum-known-far : tie.Need-enum-known-far
 enum-known-far c = search needs
-
-checked-add-i64-requires : tie.Need-checked-add-i64-requires
-checked-add-i64-requires c κs = tt
-
-with-low-requires : tie.Need-with-low-requires
-with-low-requires c κs = tt
-
-checked-add-i64-requires-2 : tie.Need-checked-add-i64-requires-2
-checked-add-i64-requires-2 c κs = tt
-
-with-high-requires : tie.Need-with-high-requires
-with-high-requires c κs = tt
 
 enum-told : tie.Need-enum-told
 enum-told c = search needs
@@ -79,12 +64,12 @@ pub widen-spec : {M : Type 1} → statement M
 widen-spec =
     tie.close
     (tie.spec
-    axis-reach-requires
+    (λ c κs. tt)
     enum-known-far
-    checked-add-i64-requires
-    with-low-requires
-    checked-add-i64-requires-2
-    with-high-requires
+    (λ c κs. tt)
+    (λ c κs. tt)
+    (λ c κs. tt)
+    (λ c κs. tt)
     enum-told
     returns
     returns-2

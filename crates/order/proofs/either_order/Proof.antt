@@ -4,18 +4,6 @@ use Rattle.order.proofs.Laws.{in-either-order}
 use Rattle.order.proofs.either_order.Statement.{statement}
 use Rattle.order.proofs.either_order.Tie as tie
 
-scatter-by-requires : tie.Need-scatter-by-requires
-scatter-by-requires c κs = tt
-
-scatter-by-requires-2 : tie.Need-scatter-by-requires-2
-scatter-by-requires-2 c κs = tt
-
-scatter-by-requires-3 : tie.Need-scatter-by-requires-3
-scatter-by-requires-3 c κs = tt
-
-scatter-by-requires-4 : tie.Need-scatter-by-requires-4
-scatter-by-requires-4 c κs = tt
-
 same-length : tie.Need-same-length
 same-length c = search needs
 
@@ -32,10 +20,10 @@ pub either-order-spec : {M : Type 1} → statement M
 either-order-spec =
     tie.close
     (tie.spec
-    scatter-by-requires
-    scatter-by-requires-2
-    scatter-by-requires-3
-    scatter-by-requires-4
+    (λ c κs. tt)
+    (λ c κs. tt)
+    (λ c κs. tt)
+    (λ c κs. tt)
     same-length
     same-length-2
     returns)

@@ -4,15 +4,6 @@ use Rattle.order.proofs.Laws.{beside}
 use Rattle.order.proofs.gather_beside.Statement.{statement}
 use Rattle.order.proofs.gather_beside.Tie as tie
 
-gather-i32-requires : tie.Need-gather-i32-requires
-gather-i32-requires c κs = tt
-
-scatter-by-requires : tie.Need-scatter-by-requires
-scatter-by-requires c κs = tt
-
-gather-i32-requires-2 : tie.Need-gather-i32-requires-2
-gather-i32-requires-2 c κs = tt
-
 same-length : tie.Need-same-length
 same-length c = search needs
 
@@ -32,9 +23,9 @@ pub gather-beside-spec : {M : Type 1} → statement M
 gather-beside-spec =
     tie.close
     (tie.spec
-    gather-i32-requires
-    scatter-by-requires
-    gather-i32-requires-2
+    (λ c κs. tt)
+    (λ c κs. tt)
+    (λ c κs. tt)
     same-length
     same-length-2
     same-length-3

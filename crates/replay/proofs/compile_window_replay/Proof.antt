@@ -27,32 +27,17 @@ module _ (ds : List ℕ) (ss ts : List ℤ) (x y : OffsetSpan) (ex : x ≡ spann
   unfolding compiledReplay
   stops2 a b ox oy = rw (← ex, ox, ← ey, oy)
 
-held-span-requires : tie.Need-held-span-requires
-held-span-requires c κs = tt
-
-held-span-requires-2 : tie.Need-held-span-requires-2
-held-span-requires-2 c κs = tt
-
 enum-known-source-span : tie.Need-enum-known-source-span
 enum-known-source-span c = search needs
 
 enum-known-dest-span : tie.Need-enum-known-dest-span
 enum-known-dest-span c = search needs
 
-fuse-requires : tie.Need-fuse-requires
-fuse-requires c κs = tt
-
 enum-told : tie.Need-enum-told
 enum-told c = search needs
 
-refused-replay-requires : tie.Need-refused-replay-requires
-refused-replay-requires c κs = tt
-
 enum-told-2 : tie.Need-enum-told-2
 enum-told-2 c = search needs
-
-refused-replay-requires-2 : tie.Need-refused-replay-requires-2
-refused-replay-requires-2 c κs = tt
 
 returns : tie.Need-returns
 returns c =
@@ -87,15 +72,15 @@ pub compile-window-replay-spec : {M : Type 1} → statement M
 compile-window-replay-spec =
     tie.close
     (tie.spec
-    held-span-requires
-    held-span-requires-2
+    (λ c κs. tt)
+    (λ c κs. tt)
     enum-known-source-span
     enum-known-dest-span
-    fuse-requires
+    (λ c κs. tt)
     enum-told
-    refused-replay-requires
+    (λ c κs. tt)
     enum-told-2
-    refused-replay-requires-2
+    (λ c κs. tt)
     returns
     returns-2
     returns-3)

@@ -1,11 +1,8 @@
 use Rattle.replay.proofs.done_replay.Statement.{statement}
 use Rattle.replay.proofs.done_replay.Tie as tie
 
-shape-of-requires : tie.Need-shape-of-requires
-shape-of-requires c κs = tt
-
 returns : tie.Need-returns
 returns c = rw (c .shape-of .ensures)
 
 pub done-replay-spec : {M : Type 1} → statement M
-done-replay-spec = tie.close (tie.spec shape-of-requires returns)
+done-replay-spec = tie.close (tie.spec (λ c κs. tt) returns)

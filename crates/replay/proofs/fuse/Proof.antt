@@ -33,12 +33,6 @@ first-axis m =
     let g : SFits w64 (getD (s .args .t3) 0 (pos 0)) = search needs in
     m .make-axis .ensures ∙ ap₂ (λ (x y : ℤ). checkedAxis (axisOf (getD (s .args .t1) 0 0) x y)) (back f) (back g)
 
-no-axis-requires : tie.Need-no-axis-requires
-no-axis-requires c κs = tt
-
-done-replay-requires : tie.Need-done-replay-requires
-done-replay-requires c κs = tt
-
 returns : tie.Need-returns
 returns c =
     let s = c .before .before .before in
@@ -55,20 +49,11 @@ array-copy-out-make-axis c = search needs
 array-copy-out-make-axis-2 : tie.Need-array-copy-out-make-axis-2
 array-copy-out-make-axis-2 c = search needs
 
-make-axis-requires : tie.Need-make-axis-requires
-make-axis-requires c κs = tt
-
 enum-known-first : tie.Need-enum-known-first
 enum-known-first c = search needs
 
-fuse-rest-requires : tie.Need-fuse-rest-requires
-fuse-rest-requires c κs = tt
-
 enum-told : tie.Need-enum-told
 enum-told c = search needs
-
-refused-replay-requires : tie.Need-refused-replay-requires
-refused-replay-requires c κs = tt
 
 returns-2 : tie.Need-returns-2
 returns-2 c =
@@ -87,16 +72,16 @@ pub fuse-spec : {M : Type 1} → statement M
 fuse-spec =
     tie.close
     (tie.spec
-    no-axis-requires
-    done-replay-requires
+    (λ c κs. tt)
+    (λ c κs. tt)
     returns
     array-read-make-axis
     array-copy-out-make-axis
     array-copy-out-make-axis-2
-    make-axis-requires
+    (λ c κs. tt)
     enum-known-first
-    fuse-rest-requires
+    (λ c κs. tt)
     enum-told
-    refused-replay-requires
+    (λ c κs. tt)
     returns-2
     returns-3)

@@ -26,23 +26,11 @@ expected h = h .before .past-last .ensures ∙ ap (past (h .before .before .befo
 expected2 : (h : tie.After-past-last2) → h .past-last2 .result ≡ past (h .before .before .before .before .args .before .extent) (h .before .before .before .before .args .before .«dest_step»)
 expected2 h = h .past-last2 .ensures ∙ ap (past (h .before .before .before .before .args .before .extent)) (back (dest-fits (h .before .before .before .before)))
 
-past-last-requires : tie.Need-past-last-requires
-past-last-requires c κs = tt
-
-past-last-requires-2 : tie.Need-past-last-requires-2
-past-last-requires-2 c κs = tt
-
 enum-known-expected-source : tie.Need-enum-known-expected-source
 enum-known-expected-source c = search needs
 
 enum-known-expected-dest : tie.Need-enum-known-expected-dest
 enum-known-expected-dest c = search needs
-
-same-requires : tie.Need-same-requires
-same-requires c κs = tt
-
-apart-requires : tie.Need-apart-requires
-apart-requires c κs = tt
 
 returns : tie.Need-returns
 returns c =
@@ -58,12 +46,6 @@ returns c =
     ∙ ap₂ (λ (x y : ℤ). asApart (checkedAxis (axisOf (s .args .extent) x y))) (back (s .fits .source)) (back (s .fits .dest))
     ∙ join-apart (s .args .before) (s .args .extent) (s .args .source) (s .args .dest) (h .before .past-last .result) (h .past-last2 .result) (expected h) (expected2 h) a b (k .before .expected-source .given .1) (z .before .expected-dest .given .1) (sym (c .before .before .same .ensures ∙ ap₂ eqZ (back (s .fits .source)) (back fa)) ∙ not-true _ (c .before .if1 .taken))
 
-same-requires-2 : tie.Need-same-requires-2
-same-requires-2 c κs = tt
-
-apart-requires-2 : tie.Need-apart-requires-2
-apart-requires-2 c κs = tt
-
 returns-2 : tie.Need-returns-2
 returns-2 c =
     let z = c .before .before .before .before .before in
@@ -77,9 +59,6 @@ returns-2 c =
     c .apart2 .ensures
     ∙ ap₂ (λ (x y : ℤ). asApart (checkedAxis (axisOf (s .args .extent) x y))) (back (s .fits .source)) (back (s .fits .dest))
     ∙ join-apart2 (s .args .before) (s .args .extent) (s .args .source) (s .args .dest) (h .before .past-last .result) (h .past-last2 .result) (expected h) (expected2 h) a b (k .before .expected-source .given .1) (z .before .expected-dest .given .1) (sym (c .before .before .before .before .same .ensures ∙ ap₂ eqZ (back (s .fits .source)) (back fa)) ∙ not-false _ (c .before .before .before .if1 .left)) (sym (c .before .before .same2 .ensures ∙ ap₂ eqZ (back (s .fits .dest)) (back fb)) ∙ not-true _ (c .before .if2 .taken))
-
-merge-requires : tie.Need-merge-requires
-merge-requires c κs = tt
 
 enum-told : tie.Need-enum-told
 enum-told c = search needs
@@ -118,17 +97,17 @@ pub join-spec : {M : Type 1} → statement M
 join-spec =
     tie.close
     (tie.spec
-    past-last-requires
-    past-last-requires-2
+    (λ c κs. tt)
+    (λ c κs. tt)
     enum-known-expected-source
     enum-known-expected-dest
-    same-requires
-    apart-requires
+    (λ c κs. tt)
+    (λ c κs. tt)
     returns
-    same-requires-2
-    apart-requires-2
+    (λ c κs. tt)
+    (λ c κs. tt)
     returns-2
-    merge-requires
+    (λ c κs. tt)
     enum-told
     enum-told-2
     returns-3

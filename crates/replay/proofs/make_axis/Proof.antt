@@ -15,12 +15,6 @@ use Rattle.replay.proofs.make_axis.Tie as tie
 made : (d : ℕ) (s s′ t t′ a a′ b b′ : ℤ) → s ≡ s′ → a ≡ a′ → t ≡ t′ → b ≡ b′ → A.Fits (theAxis d s a t b) ≡ A.Fits (theAxis d s′ a′ t′ b′)
 made d s s′ t t′ a a′ b b′ e f g h = cc
 
-checked-replay-reset-requires : tie.Need-checked-replay-reset-requires
-checked-replay-reset-requires c κs = tt
-
-checked-replay-reset-requires-2 : tie.Need-checked-replay-reset-requires-2
-checked-replay-reset-requires-2 c κs = tt
-
 enum-known-source-reset : tie.Need-enum-known-source-reset
 enum-known-source-reset c = search needs
 
@@ -62,8 +56,8 @@ pub make-axis-spec : {M : Type 1} → statement M
 make-axis-spec =
     tie.close
     (tie.spec
-    checked-replay-reset-requires
-    checked-replay-reset-requires-2
+    (λ c κs. tt)
+    (λ c κs. tt)
     enum-known-source-reset
     enum-known-dest-reset
     enum-told

@@ -10,17 +10,8 @@ use Rattle.replay.proofs.Joins.{axis-large}
 use Rattle.replay.proofs.merge.Statement.{statement}
 use Rattle.replay.proofs.merge.Tie as tie
 
-checked-mul-u64-requires : tie.Need-checked-mul-u64-requires
-checked-mul-u64-requires c κs = tt
-
 enum-known-size : tie.Need-enum-known-size
 enum-known-size c = search needs
-
-make-axis-requires : tie.Need-make-axis-requires
-make-axis-requires c κs = tt
-
-as-merged-requires : tie.Need-as-merged-requires
-as-merged-requires c κs = tt
 
 enum-told : tie.Need-enum-told
 enum-told c = search needs
@@ -45,10 +36,10 @@ pub merge-spec : {M : Type 1} → statement M
 merge-spec =
     tie.close
     (tie.spec
-    checked-mul-u64-requires
+    (λ c κs. tt)
     enum-known-size
-    make-axis-requires
-    as-merged-requires
+    (λ c κs. tt)
+    (λ c κs. tt)
     enum-told
     returns
     returns-2)

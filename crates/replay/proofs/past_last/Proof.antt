@@ -8,12 +8,6 @@ use Rattle.replay.specs.Parts.{past}
 use Rattle.replay.proofs.past_last.Statement.{statement}
 use Rattle.replay.proofs.past_last.Tie as tie
 
-u64-to-i64-requires : tie.Need-u64-to-i64-requires
-u64-to-i64-requires c κs = tt
-
-scaled-requires : tie.Need-scaled-requires
-scaled-requires c κs = tt
-
 returns : tie.Need-returns
 unfolding past
 returns c =
@@ -21,4 +15,4 @@ returns c =
     c .scaled .ensures ∙ ap₂ (λ (x : Checked) (t : ℤ). andThen x (λ m. checked (t *ℤ m))) (c .before .u64-to-i64 .ensures) (back (s .fits .step))
 
 pub past-last-spec : {M : Type 1} → statement M
-past-last-spec = tie.close (tie.spec u64-to-i64-requires scaled-requires returns)
+past-last-spec = tie.close (tie.spec (λ c κs. tt) (λ c κs. tt) returns)

@@ -6,11 +6,8 @@ use Rattle.replay.specs.Replays.{theSpans}
 use Rattle.replay.proofs.refused_replay.Statement.{statement}
 use Rattle.replay.proofs.refused_replay.Tie as tie
 
-no-axis-requires : tie.Need-no-axis-requires
-no-axis-requires c κs = tt
-
 returns : tie.Need-returns
 returns c = λ ι. record { answer = N.OffsetOverflow; replay = record { rank = 0; extents = replicate rankLimit 1; spans = theSpans (pos 0) (pos 0) (pos 0) (pos 0) }; axes = replicate rankLimit (c .no-axis .ensures ι) }
 
 pub refused-replay-spec : {M : Type 1} → statement M
-refused-replay-spec = tie.close (tie.spec no-axis-requires returns)
+refused-replay-spec = tie.close (tie.spec (λ c κs. tt) returns)

@@ -29,9 +29,6 @@ returns c = let a = c .before in tested a _ (none-no (a .args .rank) (a .args .e
 returns-2 : tie.Need-returns-2
 returns-2 c = let a = c .before .before in tested a _ (rank-no (a .args .rank) (a .args .extents) (a .args .ss) (a .args .ds) (a .args .s) (a .args .d) (a .args .sn) (a .args .dn) (c .before .if1 .left) (c .if2 .taken))
 
-has-zero-requires : tie.Need-has-zero-requires
-has-zero-requires c κs = tt
-
 returns-3 : tie.Need-returns-3
 returns-3 c = let z = c .before in
     let a = z .before .before .before in
@@ -46,18 +43,12 @@ returns-4 c = let f = c .before in
     let z = f .before .before in
     tested a _ (few-no (a .args .rank) (a .args .extents) (a .args .ss) (a .args .ds) (a .args .s) (a .args .d) (a .args .sn) (a .args .dn) (z .before .before .if1 .left) (z .before .if2 .left) (sym (z .has-zero .ensures) ∙ f .before .if3 .left) (sym (f .all-few .ensures) ∙ not-true _ (c .if4 .taken)))
 
-inside-requires : tie.Need-inside-requires
-inside-requires c κs = tt
-
 returns-5 : tie.Need-returns-5
 returns-5 c = let t = c .before in
     let f = t .before .before in
     let a = few f in
     let z = f .before .before in
     tested a _ (source-no (a .args .rank) (a .args .extents) (a .args .ss) (a .args .ds) (a .args .s) (a .args .d) (a .args .sn) (a .args .dn) (z .before .before .if1 .left) (z .before .if2 .left) (sym (z .has-zero .ensures) ∙ f .before .if3 .left) (sym (f .all-few .ensures) ∙ not-false _ (t .before .if4 .left)) (source t ∙ not-true _ (c .if5 .taken)))
-
-inside-requires-2 : tie.Need-inside-requires-2
-inside-requires-2 c κs = tt
 
 returns-6 : tie.Need-returns-6
 returns-6 c = let t = c .before .before in
@@ -74,11 +65,11 @@ accepts-spec =
     (tie.spec
     returns
     returns-2
-    has-zero-requires
+    (λ c κs. tt)
     returns-3
     all-few-requires
     returns-4
-    inside-requires
+    (λ c κs. tt)
     returns-5
-    inside-requires-2
+    (λ c κs. tt)
     returns-6)

@@ -37,20 +37,8 @@ batches c =
     c .check-batch .ensures
     ∙ ap₂ (λ (xs ys : List ℕ). cond (sameList (pick 0 xs (s .args .updates-extents .now)) ys) A.Done (A.ShapeMismatch n n)) (s .pre .batches) (start-extents (asked s) _ _ _ (s .pre))
 
-check-lists-requires : tie.Need-check-lists-requires
-check-lists-requires c κs = tt
-
 check-counts-requires : tie.Need-check-counts-requires
 check-counts-requires c κs = search needs
-
-check-batch-requires : tie.Need-check-batch-requires
-check-batch-requires c κs = tt
-
-or-else-requires : tie.Need-or-else-requires
-or-else-requires c κs = tt
-
-or-else-requires-2 : tie.Need-or-else-requires-2
-or-else-requires-2 c κs = tt
 
 returns : tie.Need-returns
 returns c =
@@ -61,9 +49,9 @@ pub check-axes-spec : {M : Type 1} → statement M
 check-axes-spec =
     tie.close
     (tie.spec
-    check-lists-requires
+    (λ c κs. tt)
     check-counts-requires
-    check-batch-requires
-    or-else-requires
-    or-else-requires-2
+    (λ c κs. tt)
+    (λ c κs. tt)
+    (λ c κs. tt)
     returns)

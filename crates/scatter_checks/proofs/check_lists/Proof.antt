@@ -1,30 +1,6 @@
 use Rattle.scatter_checks.proofs.check_lists.Statement.{statement}
 use Rattle.scatter_checks.proofs.check_lists.Tie as tie
 
-component-count-requires : tie.Need-component-count-requires
-component-count-requires c κs = tt
-
-validate-unique-axes-requires : tie.Need-validate-unique-axes-requires
-validate-unique-axes-requires c κs = tt
-
-validate-unique-axes-requires-2 : tie.Need-validate-unique-axes-requires-2
-validate-unique-axes-requires-2 c κs = tt
-
-check-vector-axis-requires : tie.Need-check-vector-axis-requires
-check-vector-axis-requires c κs = tt
-
-check-same-count-requires : tie.Need-check-same-count-requires
-check-same-count-requires c κs = tt
-
-or-else-requires : tie.Need-or-else-requires
-or-else-requires c κs = tt
-
-or-else-requires-2 : tie.Need-or-else-requires-2
-or-else-requires-2 c κs = tt
-
-or-else-requires-3 : tie.Need-or-else-requires-3
-or-else-requires-3 c κs = tt
-
 returns : tie.Need-returns
 returns c = rw (c .or-else3 .ensures, c .before .or-else2 .ensures, c .before .before .or-else .ensures, c .before .before .before .check-same-count .ensures, c .before .before .before .before .check-vector-axis .ensures, c .before .before .before .before .before .validate-unique-axes2 .ensures, c .before .before .before .before .before .before .validate-unique-axes .ensures, c .before .before .before .before .before .before .before .component-count .ensures)
 
@@ -32,12 +8,12 @@ pub check-lists-spec : {M : Type 1} → statement M
 check-lists-spec =
     tie.close
     (tie.spec
-    component-count-requires
-    validate-unique-axes-requires
-    validate-unique-axes-requires-2
-    check-vector-axis-requires
-    check-same-count-requires
-    or-else-requires
-    or-else-requires-2
-    or-else-requires-3
+    (λ c κs. tt)
+    (λ c κs. tt)
+    (λ c κs. tt)
+    (λ c κs. tt)
+    (λ c κs. tt)
+    (λ c κs. tt)
+    (λ c κs. tt)
+    (λ c κs. tt)
     returns)

@@ -18,15 +18,6 @@ asked s = scatterFrom (s .args .index-extents .now) (s .args .index-strides .now
 check-axes-requires : tie.Need-check-axes-requires
 check-axes-requires c κs = search needs
 
-or-else-requires : tie.Need-or-else-requires
-or-else-requires c κs = tt
-
-is-done-requires : tie.Need-is-done-requires
-is-done-requires c κs = tt
-
-unexamined-requires : tie.Need-unexamined-requires
-unexamined-requires c κs = tt
-
 -- what was answered before the walks
 before-walks : (c : tie.After-or-else) → c .or-else .result ≡ orElse (c .before .before .before .before .before .before .before .before .before .before .before .args .four) (axesRefusal (asked (c .before .before .before .before .before .before .before .before .before .before .before)))
 before-walks c = c .or-else .ensures ∙ ap (orElse (c .before .before .before .before .before .before .before .before .before .before .before .args .four)) (c .before .check-axes .ensures)
@@ -56,9 +47,9 @@ examine-axes-spec =
     tie.close
     (tie.spec
     check-axes-requires
-    or-else-requires
-    is-done-requires
-    unexamined-requires
+    (λ c κs. tt)
+    (λ c κs. tt)
+    (λ c κs. tt)
     returns
     examine-walks-requires
     returns-2)

@@ -43,27 +43,6 @@ walk-along-requires c κs = let s = c .before .before .before .before .before .b
 walk-along-requires-2 : tie.Need-walk-along-requires-2
 walk-along-requires-2 c κs = let s = c .before .before .before .before .before .before .before .before .before .before .before .before .before in (window-few (asked s) _ _ _ (s .pre .listed) (s .pre .counted), refl, same-window (asked s) _ _ _ (s .pre .listed) (s .pre .counted))
 
-stride-at-requires : tie.Need-stride-at-requires
-stride-at-requires c κs = tt
-
-check-components-requires : tie.Need-check-components-requires
-check-components-requires c κs = tt
-
-or-else-requires : tie.Need-or-else-requires
-or-else-requires c κs = tt
-
-or-else-requires-2 : tie.Need-or-else-requires-2
-or-else-requires-2 c κs = tt
-
-or-else-requires-3 : tie.Need-or-else-requires-3
-or-else-requires-3 c κs = tt
-
-or-else-requires-4 : tie.Need-or-else-requires-4
-or-else-requires-4 c κs = tt
-
-or-else-requires-5 : tie.Need-or-else-requires-5
-or-else-requires-5 c κs = tt
-
 returns : tie.Need-returns
 unfolding windowShape
 returns c =
@@ -81,11 +60,11 @@ examine-walks-spec =
     check-product-requires-2
     walk-along-requires
     walk-along-requires-2
-    stride-at-requires
-    check-components-requires
-    or-else-requires
-    or-else-requires-2
-    or-else-requires-3
-    or-else-requires-4
-    or-else-requires-5
+    (λ c κs. tt)
+    (λ c κs. tt)
+    (λ c κs. tt)
+    (λ c κs. tt)
+    (λ c κs. tt)
+    (λ c κs. tt)
+    (λ c κs. tt)
     returns)

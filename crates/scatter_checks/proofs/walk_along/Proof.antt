@@ -16,15 +16,6 @@ use Rattle.scatter_checks.proofs.walk_along.Tie as tie
 picked-extents-requires : tie.Need-picked-extents-requires
 picked-extents-requires c κs = search needs
 
-strides-on-requires : tie.Need-strides-on-requires
-strides-on-requires c κs = tt
-
-strides-on-requires-2 : tie.Need-strides-on-requires-2
-strides-on-requires-2 c κs = tt
-
-compile-window-replay-requires : tie.Need-compile-window-replay-requires
-compile-window-replay-requires c κs = tt
-
 returns : tie.Need-returns
 returns c =
     let x = c .before .before .before in
@@ -41,7 +32,7 @@ walk-along-spec =
     tie.close
     (tie.spec
     picked-extents-requires
-    strides-on-requires
-    strides-on-requires-2
-    compile-window-replay-requires
+    (λ c κs. tt)
+    (λ c κs. tt)
+    (λ c κs. tt)
     returns)

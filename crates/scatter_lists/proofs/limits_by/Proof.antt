@@ -12,9 +12,6 @@ use borrow.Author.Needs.{needs}
 use Rattle.scatter_lists.proofs.limits_by.Statement.{statement}
 use Rattle.scatter_lists.proofs.limits_by.Tie as tie
 
-other-axes-requires : tie.Need-other-axes-requires
-other-axes-requires c κs = tt
-
 sub-spread-windows : tie.Need-sub-spread-windows
 sub-spread-windows c = search needs
 
@@ -36,9 +33,6 @@ part-limits-on-start c = search needs
 part-limits-on-end : tie.Need-part-limits-on-end
 part-limits-on-end c = search needs
 
-limits-on-requires : tie.Need-limits-on-requires
-limits-on-requires c κs = tt
-
 returns : tie.Need-returns
 returns c =
     let x = c .before .before .before in
@@ -56,7 +50,7 @@ pub limits-by-spec : {M : Type 1} → statement M
 limits-by-spec =
     tie.close
     (tie.spec
-    other-axes-requires
+    (λ c κs. tt)
     sub-spread-windows
     part-spread-windows-start
     part-spread-windows-end
@@ -64,5 +58,5 @@ limits-by-spec =
     sub-limits-on
     part-limits-on-start
     part-limits-on-end
-    limits-on-requires
+    (λ c κs. tt)
     returns)

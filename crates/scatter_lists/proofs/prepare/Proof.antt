@@ -13,15 +13,6 @@ use Rattle.scatter_lists.proofs.Lent.{fits, first-refusal, second-refus
 use Rattle.scatter_lists.proofs.prepare.Statement.{statement}
 use Rattle.scatter_lists.proofs.prepare.Tie as tie
 
-examine-requires : tie.Need-examine-requires
-examine-requires c κs = tt
-
-is-done-requires : tie.Need-is-done-requires
-is-done-requires c κs = tt
-
-refused-requires : tie.Need-refused-requires
-refused-requires c κs = tt
-
 returns : tie.Need-returns
 returns c =
     let s = c .before .before .before .before .before .before .before .before .before .before in
@@ -36,15 +27,6 @@ reach-of-requires-2 c κs = let s = c .before .before .before .before .before .b
 reach-of-requires-3 : tie.Need-reach-of-requires-3
 reach-of-requires-3 c κs = let s = c .before .before .before .before .before .before .before .before .before .before .before in fits (scatterFrom (s .args .index-extents .now) (s .args .index-strides .now) (s .args .updates-extents .now) (s .args .updates-strides .now) (s .args .dest-extents .now) (s .args .dest-strides .now) (s .args .update-window-dims .now) (s .args .inserted-window-dims .now) (s .args .scatter-dims-to-operand-dims .now) (s .args .index-vector-dim)) _ _ (c .before .before .before .before .examine .ensures .found (sym (c .before .before .before .is-done .ensures) ∙ not-false _ (c .before .before .if1 .left))) .dest-strides
 
-check-bounds-requires : tie.Need-check-bounds-requires
-check-bounds-requires c κs = tt
-
-is-done-requires-2 : tie.Need-is-done-requires-2
-is-done-requires-2 c κs = tt
-
-refused-requires-2 : tie.Need-refused-requires-2
-refused-requires-2 c κs = tt
-
 returns-2 : tie.Need-returns-2
 returns-2 c =
     let s = c .before .before .before .before .before .before .before .before .before .before .before .before .before .before .before .before in
@@ -52,9 +34,6 @@ returns-2 c =
 
 numbers-on-requires : tie.Need-numbers-on-requires
 numbers-on-requires c κs = c .before .before .before .before .before .before .before .before .before .before .examine .ensures .found (sym (c .before .before .before .before .before .before .before .before .before .is-done .ensures) ∙ not-false _ (c .before .before .before .before .before .before .before .before .if1 .left))
-
-start-base-requires : tie.Need-start-base-requires
-start-base-requires c κs = tt
 
 returns-3 : tie.Need-returns-3
 returns-3 c =
@@ -67,17 +46,17 @@ pub prepare-spec : {M : Type 1} → statement M
 prepare-spec =
     tie.close
     (tie.spec
-    examine-requires
-    is-done-requires
-    refused-requires
+    (λ c κs. tt)
+    (λ c κs. tt)
+    (λ c κs. tt)
     returns
     reach-of-requires
     reach-of-requires-2
     reach-of-requires-3
-    check-bounds-requires
-    is-done-requires-2
-    refused-requires-2
+    (λ c κs. tt)
+    (λ c κs. tt)
+    (λ c κs. tt)
     returns-2
     numbers-on-requires
-    start-base-requires
+    (λ c κs. tt)
     returns-3)

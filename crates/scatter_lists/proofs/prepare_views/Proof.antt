@@ -7,37 +7,10 @@ use Rattle.scatter_lists.proofs.Lent.{same-views, other-views}
 use Rattle.scatter_lists.proofs.prepare_views.Statement.{statement}
 use Rattle.scatter_lists.proofs.prepare_views.Tie as tie
 
-same-view-requires : tie.Need-same-view-requires
-same-view-requires c κs = tt
-
-same-view-requires-2 : tie.Need-same-view-requires-2
-same-view-requires-2 c κs = tt
-
-same-view-requires-3 : tie.Need-same-view-requires-3
-same-view-requires-3 c κs = tt
-
-both-requires : tie.Need-both-requires
-both-requires c κs = tt
-
-both-requires-2 : tie.Need-both-requires-2
-both-requires-2 c κs = tt
-
-prepare-requires : tie.Need-prepare-requires
-prepare-requires c κs = tt
-
 returns : tie.Need-returns
 returns c =
     let s = c .before .before .before .before .before .before .before .before .before .before .before .before .before .before .before .before in
     same-views (scatterFrom (s .args .index-extents .now) (s .args .index-strides .now) (s .args .updates-extents .now) (s .args .updates-strides .now) (s .args .dest-extents .now) (s .args .dest-strides .now) (s .args .update-window-dims .now) (s .args .inserted-window-dims .now) (s .args .scatter-dims-to-operand-dims .now) (s .args .index-vector-dim)) (viewWith (s .args .index-view-extents .now) (s .args .index-view-strides .now) (s .args .index-offset)) (viewWith (s .args .updates-view-extents .now) (s .args .updates-view-strides .now) (s .args .updates-offset)) (viewWith (s .args .dest-view-extents .now) (s .args .dest-view-strides .now) (s .args .dest-offset)) (s .args .starts-len) (s .args .updates-len) (s .args .dest-len) _ (c .before .before .both2 .ensures ∙ ap₂ _&&_ (c .before .before .before .before .before .before .same-view .ensures) (c .before .before .before .both .ensures ∙ ap₂ _&&_ (c .before .before .before .before .before .same-view2 .ensures) (c .before .before .before .before .same-view3 .ensures))) (c .before .if1 .taken) (simp (back (s .fits .index-offset), back (s .fits .updates-offset), back (s .fits .dest-offset)) at (c .prepare .ensures))
-
-scatter-refusal-requires : tie.Need-scatter-refusal-requires
-scatter-refusal-requires c κs = tt
-
-or-else-requires : tie.Need-or-else-requires
-or-else-requires c κs = tt
-
-refused-requires : tie.Need-refused-requires
-refused-requires c κs = tt
 
 returns-2 : tie.Need-returns-2
 returns-2 c =
@@ -48,14 +21,14 @@ pub prepare-views-spec : {M : Type 1} → statement M
 prepare-views-spec =
     tie.close
     (tie.spec
-    same-view-requires
-    same-view-requires-2
-    same-view-requires-3
-    both-requires
-    both-requires-2
-    prepare-requires
+    (λ c κs. tt)
+    (λ c κs. tt)
+    (λ c κs. tt)
+    (λ c κs. tt)
+    (λ c κs. tt)
+    (λ c κs. tt)
     returns
-    scatter-refusal-requires
-    or-else-requires
-    refused-requires
+    (λ c κs. tt)
+    (λ c κs. tt)
+    (λ c κs. tt)
     returns-2)

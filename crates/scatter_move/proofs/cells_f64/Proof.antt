@@ -39,9 +39,6 @@ cast-from c = let s = c .before .before in low-fits (s .args .p) (s .args .low) 
 sub-at : tie.Need-sub-at
 sub-at c = let s = c .before .before .before .before in sub-fits (s .args .p) (s .args .low) (s .args .high) (s .args .starts .now) (length (s .args .source .now)) (length (s .args .into .now)) (s .pre) (dest-fits s) (dest-room s)
 
-rows-of-requires : tie.Need-rows-of-requires
-rows-of-requires c κs = tt
-
 mul-run-f64 : tie.Need-mul-run-f64
 mul-run-f64 c = let s = c .before .before .before .before .before .before in omega (arith, low-high (s .args .p) (s .args .low) (s .args .high) (s .args .starts .now) (length (s .args .source .now)) (length (s .args .into .now)) (s .pre), high-in (s .args .p) (s .args .low) (s .args .high) (s .args .starts .now) (length (s .args .source .now)) (length (s .args .into .now)) (s .pre), s .good .1 .1 .1 .1 .0 .1)
 
@@ -79,7 +76,7 @@ cells-f64-spec =
     add-end
     cast-from
     sub-at
-    rows-of-requires
+    (λ c κs. tt)
     mul-run-f64
     sub-run-f64
     part-run-f64-start

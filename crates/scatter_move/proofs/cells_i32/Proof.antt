@@ -38,9 +38,6 @@ cast-from c = let s = c in low-fits (s .args .p) (s .args .low) (s .args .high) 
 sub-at : tie.Need-sub-at
 sub-at c = let s = c .before .before in sub-fits (s .args .p) (s .args .low) (s .args .high) (s .args .starts .now) (length (s .args .source .now)) (length (s .args .into .now)) (s .pre) (dest-fits s) (dest-room s)
 
-rows-of-requires : tie.Need-rows-of-requires
-rows-of-requires c κs = tt
-
 mul-run-i32 : tie.Need-mul-run-i32
 mul-run-i32 c = let s = c .before .before .before .before in omega (arith, low-high (s .args .p) (s .args .low) (s .args .high) (s .args .starts .now) (length (s .args .source .now)) (length (s .args .into .now)) (s .pre), high-in (s .args .p) (s .args .low) (s .args .high) (s .args .starts .now) (length (s .args .source .now)) (length (s .args .into .now)) (s .pre), s .good .1 .1 .1 .1 .0 .1)
 
@@ -78,7 +75,7 @@ cells-i32-spec =
     add-end
     cast-from
     sub-at
-    rows-of-requires
+    (λ c κs. tt)
     mul-run-i32
     sub-run-i32
     part-run-i32-start

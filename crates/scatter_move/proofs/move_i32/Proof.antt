@@ -8,9 +8,6 @@ use Rattle.scatter_move.proofs.Empty.{without-cells, never}
 use Rattle.scatter_move.proofs.move_i32.Statement.{statement}
 use Rattle.scatter_move.proofs.move_i32.Tie as tie
 
-is-done-requires : tie.Need-is-done-requires
-is-done-requires c κs = tt
-
 returns : tie.Need-returns
 returns c = λ k. refused (sym (c .before .is-done .ensures) ∙ not-true _ (c .if1 .taken))
 
@@ -55,7 +52,7 @@ pub move-i32-spec : {M : Type 1} → statement M
 move-i32-spec =
     tie.close
     (tie.spec
-    is-done-requires
+    (λ c κs. tt)
     returns
     enum-known-reach
     cells-i32-requires

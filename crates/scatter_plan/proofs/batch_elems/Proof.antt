@@ -11,9 +11,6 @@ use borrow.Author.Needs.{needs}
 use Rattle.scatter_plan.proofs.batch_elems.Statement.{statement}
 use Rattle.scatter_plan.proofs.batch_elems.Tie as tie
 
-other-axes-requires : tie.Need-other-axes-requires
-other-axes-requires c κs = tt
-
 sub-product-value : tie.Need-sub-product-value
 sub-product-value c = search needs
 
@@ -35,7 +32,7 @@ pub batch-elems-spec : {M : Type 1} → statement M
 batch-elems-spec =
     tie.close
     (tie.spec
-    other-axes-requires
+    (λ c κs. tt)
     sub-product-value
     part-product-value-start
     part-product-value-end

@@ -23,35 +23,8 @@ asked s = scatterFrom (s .args .index-extents .now) (s .args .index-strides .now
 stride-fits : (c : tie.After-stride-at) → SFits w64 (c .stride-at .result)
 stride-fits c = search needs
 
-make-layout-requires : tie.Need-make-layout-requires
-make-layout-requires c κs = tt
-
-make-layout-requires-2 : tie.Need-make-layout-requires-2
-make-layout-requires-2 c κs = tt
-
-make-layout-requires-3 : tie.Need-make-layout-requires-3
-make-layout-requires-3 c κs = tt
-
 windows-of-requires : tie.Need-windows-of-requires
 windows-of-requires c κs = let s = c .before .before .before .before .before .before .before .before .before .before .before .before in (fits (asked s) _ _ (s .pre) .dest-rank, fits (asked s) _ _ (s .pre) .window-few)
-
-stride-at-requires : tie.Need-stride-at-requires
-stride-at-requires c κs = tt
-
-index-component-offsets-requires : tie.Need-index-component-offsets-requires
-index-component-offsets-requires c κs = tt
-
-strides-on-requires : tie.Need-strides-on-requires
-strides-on-requires c κs = tt
-
-numbers-from-requires : tie.Need-numbers-from-requires
-numbers-from-requires c κs = tt
-
-numbers-from-requires-2 : tie.Need-numbers-from-requires-2
-numbers-from-requires-2 c κs = tt
-
-numbers-from-requires-3 : tie.Need-numbers-from-requires-3
-numbers-from-requires-3 c κs = tt
 
 batch-elems-requires : tie.Need-batch-elems-requires
 batch-elems-requires c κs = let s = c .before .before .before .before .before .before .before .before .before .before .before .before .before .before .before .before .before .before .before in fits (asked s) _ _ (s .pre) .updates-rank
@@ -71,16 +44,16 @@ pub plan-of-spec : {M : Type 1} → statement M
 plan-of-spec =
     tie.close
     (tie.spec
-    make-layout-requires
-    make-layout-requires-2
-    make-layout-requires-3
+    (λ c κs. tt)
+    (λ c κs. tt)
+    (λ c κs. tt)
     windows-of-requires
-    stride-at-requires
-    index-component-offsets-requires
-    strides-on-requires
-    numbers-from-requires
-    numbers-from-requires-2
-    numbers-from-requires-3
+    (λ c κs. tt)
+    (λ c κs. tt)
+    (λ c κs. tt)
+    (λ c κs. tt)
+    (λ c κs. tt)
+    (λ c κs. tt)
     batch-elems-requires
     product-value-requires
     returns)

@@ -29,9 +29,6 @@ part-checked-total-len-start c = search needs
 part-checked-total-len-end : tie.Need-part-checked-total-len-end
 part-checked-total-len-end c = search needs
 
-checked-total-len-requires : tie.Need-checked-total-len-requires
-checked-total-len-requires c κs = tt
-
 enum-known-total : tie.Need-enum-known-total
 enum-known-total c = search needs
 
@@ -52,7 +49,7 @@ product-value-spec =
     sub-checked-total-len
     part-checked-total-len-start
     part-checked-total-len-end
-    checked-total-len-requires
+    (λ c κs. tt)
     enum-known-total
     enum-told
     returns

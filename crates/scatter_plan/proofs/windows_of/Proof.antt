@@ -12,18 +12,6 @@ use Rattle.scatter_checks.proofs.Read.{held-read}
 use Rattle.scatter_plan.proofs.windows_of.Statement.{statement}
 use Rattle.scatter_plan.proofs.windows_of.Tie as tie
 
-other-axes-requires : tie.Need-other-axes-requires
-other-axes-requires c κs = tt
-
-numbers-from-requires : tie.Need-numbers-from-requires
-numbers-from-requires c κs = tt
-
-pick-entries-requires : tie.Need-pick-entries-requires
-pick-entries-requires c κs = tt
-
-spread-numbers-requires : tie.Need-spread-numbers-requires
-spread-numbers-requires c κs = tt
-
 returns : tie.Need-returns
 returns c =
     let s = c .before .before .before .before .before .before .before .before in
@@ -40,8 +28,8 @@ pub windows-of-spec : {M : Type 1} → statement M
 windows-of-spec =
     tie.close
     (tie.spec
-    other-axes-requires
-    numbers-from-requires
-    pick-entries-requires
-    spread-numbers-requires
+    (λ c κs. tt)
+    (λ c κs. tt)
+    (λ c κs. tt)
+    (λ c κs. tt)
     returns)

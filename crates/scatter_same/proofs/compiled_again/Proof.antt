@@ -11,24 +11,6 @@ use Rattle.scatter_same.proofs.compiled_again.Tie as tie
 eights : (s : tie.Start) → (length (s .args .plan .index .extents) ≡ rankLimit) × (length (s .args .plan .index .strides) ≡ rankLimit) × (length (s .args .plan .updates .extents) ≡ rankLimit) × (length (s .args .plan .updates .strides) ≡ rankLimit) × (length (s .args .plan .dest .extents) ≡ rankLimit) × (length (s .args .plan .dest .strides) ≡ rankLimit) × (length (s .args .plan .«update_window_dims» .entries) ≡ rankLimit) × (length (s .args .plan .«inserted_window_dims» .entries) ≡ rankLimit) × (length (s .args .plan .«scatter_dims_to_operand_dims» .entries) ≡ rankLimit)
 eights s = (search needs, search needs, search needs, search needs, search needs, search needs, search needs, search needs, search (needs, s .good .0 .1 .1 .1 .1 .1 .1 .1 .0))
 
-axis-count-requires : tie.Need-axis-count-requires
-axis-count-requires c κs = tt
-
-axis-count-requires-2 : tie.Need-axis-count-requires-2
-axis-count-requires-2 c κs = tt
-
-axis-count-requires-3 : tie.Need-axis-count-requires-3
-axis-count-requires-3 c κs = tt
-
-axis-count-requires-4 : tie.Need-axis-count-requires-4
-axis-count-requires-4 c κs = tt
-
-axis-count-requires-5 : tie.Need-axis-count-requires-5
-axis-count-requires-5 c κs = tt
-
-axis-count-requires-6 : tie.Need-axis-count-requires-6
-axis-count-requires-6 c κs = tt
-
 sub-compile-again : tie.Need-sub-compile-again
 sub-compile-again c = search needs
 
@@ -110,9 +92,6 @@ part-compile-again-start-9 c = search needs
 part-compile-again-end-9 : tie.Need-part-compile-again-end-9
 part-compile-again-end-9 c = let s = c .before .before .before .before .before .before .before .before .before .before .before .before .before .before .before .before .before .before .before .before .before .before .before .before .before .before .before .before .before .before .before .before .before .before .before .before .before .before in part-fits (c .before .before .before .before .before .before .before .before .before .before .before .before .before .before .before .before .before .axis-count6 .result) (s .args .plan .«scatter_dims_to_operand_dims» .count) (s .args .plan .«scatter_dims_to_operand_dims» .entries) (c .before .before .before .before .before .before .before .before .before .before .before .before .before .before .before .before .before .axis-count6 .ensures) (eights s .8)
 
-compile-again-requires : tie.Need-compile-again-requires
-compile-again-requires c κs = tt
-
 returns : tie.Need-returns
 returns c =
     let s = c .before .before .before .before .before .before .before .before .before .before .before .before .before .before .before .before .before .before .before .before .before .before .before .before .before .before .before .before .before .before .before .before .before .before .before .before .before .before .before .before in
@@ -131,12 +110,12 @@ pub compiled-again-spec : {M : Type 1} → statement M
 compiled-again-spec =
     tie.close
     (tie.spec
-    axis-count-requires
-    axis-count-requires-2
-    axis-count-requires-3
-    axis-count-requires-4
-    axis-count-requires-5
-    axis-count-requires-6
+    (λ c κs. tt)
+    (λ c κs. tt)
+    (λ c κs. tt)
+    (λ c κs. tt)
+    (λ c κs. tt)
+    (λ c κs. tt)
     sub-compile-again
     part-compile-again-start
     part-compile-again-end
@@ -164,5 +143,5 @@ compiled-again-spec =
     sub-compile-again-9
     part-compile-again-start-9
     part-compile-again-end-9
-    compile-again-requires
+    (λ c κs. tt)
     returns)

@@ -6,24 +6,6 @@ use Rattle.scatter_same.specs.Same.{samePlan, hasRows, isCompiled}
 use Rattle.scatter_same.proofs.is_compiled.Statement.{statement}
 use Rattle.scatter_same.proofs.is_compiled.Tie as tie
 
-compiled-again-requires : tie.Need-compiled-again-requires
-compiled-again-requires c κs = tt
-
-is-done-requires : tie.Need-is-done-requires
-is-done-requires c κs = tt
-
-same-plan-requires : tie.Need-same-plan-requires
-same-plan-requires c κs = tt
-
-has-rows-requires : tie.Need-has-rows-requires
-has-rows-requires c κs = tt
-
-both-requires : tie.Need-both-requires
-both-requires c κs = tt
-
-both-requires-2 : tie.Need-both-requires-2
-both-requires-2 c κs = tt
-
 returns : tie.Need-returns
 unfolding isCompiled
 returns c =
@@ -37,10 +19,10 @@ pub is-compiled-spec : {M : Type 1} → statement M
 is-compiled-spec =
     tie.close
     (tie.spec
-    compiled-again-requires
-    is-done-requires
-    same-plan-requires
-    has-rows-requires
-    both-requires
-    both-requires-2
+    (λ c κs. tt)
+    (λ c κs. tt)
+    (λ c κs. tt)
+    (λ c κs. tt)
+    (λ c κs. tt)
+    (λ c κs. tt)
     returns)

@@ -6,27 +6,6 @@ use borrow.Author.Needs.{needs}
 use Rattle.scatter_same.proofs.same_spans.Statement.{statement}
 use Rattle.scatter_same.proofs.same_spans.Tie as tie
 
-same-i64-requires : tie.Need-same-i64-requires
-same-i64-requires c κs = tt
-
-same-i64-requires-2 : tie.Need-same-i64-requires-2
-same-i64-requires-2 c κs = tt
-
-same-i64-requires-3 : tie.Need-same-i64-requires-3
-same-i64-requires-3 c κs = tt
-
-same-i64-requires-4 : tie.Need-same-i64-requires-4
-same-i64-requires-4 c κs = tt
-
-both-requires : tie.Need-both-requires
-both-requires c κs = tt
-
-both-requires-2 : tie.Need-both-requires-2
-both-requires-2 c κs = tt
-
-both-requires-3 : tie.Need-both-requires-3
-both-requires-3 c κs = tt
-
 returns : tie.Need-returns
 unfolding sameSpans
 returns c =
@@ -45,11 +24,11 @@ pub same-spans-spec : {M : Type 1} → statement M
 same-spans-spec =
     tie.close
     (tie.spec
-    same-i64-requires
-    same-i64-requires-2
-    same-i64-requires-3
-    same-i64-requires-4
-    both-requires
-    both-requires-2
-    both-requires-3
+    (λ c κs. tt)
+    (λ c κs. tt)
+    (λ c κs. tt)
+    (λ c κs. tt)
+    (λ c κs. tt)
+    (λ c κs. tt)
+    (λ c κs. tt)
     returns)

@@ -30,9 +30,6 @@ mul-magnitude-i64 c = search needs
 shared-slice-copy-out-magnitude-i64 : tie.Need-shared-slice-copy-out-magnitude-i64
 shared-slice-copy-out-magnitude-i64 c = search needs
 
-magnitude-i64-requires : tie.Need-magnitude-i64-requires
-magnitude-i64-requires c κs = tt
-
 others-weight-requires : tie.Need-others-weight-requires
 others-weight-requires c κs = search needs
 
@@ -71,7 +68,7 @@ axis-exceeds-spec =
     returns
     mul-magnitude-i64
     shared-slice-copy-out-magnitude-i64
-    magnitude-i64-requires
+    (λ c κs. tt)
     others-weight-requires
     enum-known-others
     enum-told

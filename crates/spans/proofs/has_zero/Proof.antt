@@ -6,9 +6,6 @@ use borrow.Author.Needs.{needs}
 use Rattle.spans.proofs.has_zero.Statement.{statement}
 use Rattle.spans.proofs.has_zero.Tie as tie
 
-axis-count-requires : tie.Need-axis-count-requires
-axis-count-requires c κs = tt
-
 sub-zero-in : tie.Need-sub-zero-in
 sub-zero-in c = search needs
 
@@ -18,9 +15,6 @@ part-zero-in-start c = search needs
 part-zero-in-end : tie.Need-part-zero-in-end
 part-zero-in-end c = search needs
 
-zero-in-requires : tie.Need-zero-in-requires
-zero-in-requires c κs = tt
-
 returns : tie.Need-returns
 returns c = c .zero-in .ensures ∙ ap hasZero (part-read _ _ rankLimit _ (c .before .before .before .axis-count .ensures) (search needs))
 
@@ -28,9 +22,9 @@ pub has-zero-spec : {M : Type 1} → statement M
 has-zero-spec =
     tie.close
     (tie.spec
-    axis-count-requires
+    (λ c κs. tt)
     sub-zero-in
     part-zero-in-start
     part-zero-in-end
-    zero-in-requires
+    (λ c κs. tt)
     returns)

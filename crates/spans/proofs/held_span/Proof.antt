@@ -6,9 +6,6 @@ use borrow.Author.Needs.{needs}
 use Rattle.spans.proofs.held_span.Statement.{statement}
 use Rattle.spans.proofs.held_span.Tie as tie
 
-axis-count-requires : tie.Need-axis-count-requires
-axis-count-requires c κs = tt
-
 sub-validate-layout-span : tie.Need-sub-validate-layout-span
 sub-validate-layout-span c = search needs
 
@@ -39,7 +36,7 @@ pub held-span-spec : {M : Type 1} → statement M
 held-span-spec =
     tie.close
     (tie.spec
-    axis-count-requires
+    (λ c κs. tt)
     sub-validate-layout-span
     part-validate-layout-span-start
     part-validate-layout-span-end

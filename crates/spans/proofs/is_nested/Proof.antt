@@ -6,9 +6,6 @@ use borrow.Author.Needs.{needs}
 use Rattle.spans.proofs.is_nested.Statement.{statement}
 use Rattle.spans.proofs.is_nested.Tie as tie
 
-axis-count-requires : tie.Need-axis-count-requires
-axis-count-requires c κs = tt
-
 sub-nested-in : tie.Need-sub-nested-in
 sub-nested-in c = search needs
 
@@ -39,7 +36,7 @@ pub is-nested-spec : {M : Type 1} → statement M
 is-nested-spec =
     tie.close
     (tie.spec
-    axis-count-requires
+    (λ c κs. tt)
     sub-nested-in
     part-nested-in-start
     part-nested-in-end

@@ -23,9 +23,6 @@ cast-at c =
     let s = c .before .before in
     as-u64 (s .fits .offset) (not-less (s .fits .offset) (sfits-lit {z = pos 0} tt) (c .if1 .left))
 
-zero-in-requires : tie.Need-zero-in-requires
-zero-in-requires c κs = tt
-
 returns-2 : tie.Need-returns-2
 returns-2 c =
     let s = c .before .before .before .before .before in
@@ -44,9 +41,6 @@ side-reach-requires c κs = search needs
 side-reach-requires-2 : tie.Need-side-reach-requires-2
 side-reach-requires-2 c κs = search needs
 
-cells-within-requires : tie.Need-cells-within-requires
-cells-within-requires c κs = tt
-
 returns-4 : tie.Need-returns-4
 returns-4 c =
     let s = c .before .before .before .before .before .before .before in
@@ -63,10 +57,10 @@ reach-of-spec =
     (tie.spec
     returns
     cast-at
-    zero-in-requires
+    (λ c κs. tt)
     returns-2
     returns-3
     side-reach-requires
     side-reach-requires-2
-    cells-within-requires
+    (λ c κs. tt)
     returns-4)

@@ -13,9 +13,6 @@ use borrow.Author.Needs.{needs}
 use Rattle.spans.proofs.view_reach.Statement.{statement}
 use Rattle.spans.proofs.view_reach.Tie as tie
 
-axis-count-requires : tie.Need-axis-count-requires
-axis-count-requires c κs = tt
-
 sub-reach-of : tie.Need-sub-reach-of
 sub-reach-of c = search needs
 
@@ -60,7 +57,7 @@ pub view-reach-spec : {M : Type 1} → statement M
 view-reach-spec =
     tie.close
     (tie.spec
-    axis-count-requires
+    (λ c κs. tt)
     sub-reach-of
     part-reach-of-start
     part-reach-of-end

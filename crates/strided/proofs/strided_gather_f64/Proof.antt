@@ -7,14 +7,8 @@ use Rattle.strided.proofs.Calls.{gather-handed}
 use Rattle.strided.proofs.strided_gather_f64.Statement.{statement}
 use Rattle.strided.proofs.strided_gather_f64.Tie as tie
 
-prepare-gather-requires : tie.Need-prepare-gather-requires
-prepare-gather-requires c κs = tt
-
 move-f64-requires : tie.Need-move-f64-requires
 move-f64-requires c κs = movable (c .before .prepare-gather .ensures)
-
-words-of-requires : tie.Need-words-of-requires
-words-of-requires c κs = tt
 
 same-length : tie.Need-same-length
 same-length c = search needs
@@ -27,4 +21,4 @@ returns c =
 pub strided-gather-f64-spec : {M : Type 1} → statement M
 strided-gather-f64-spec =
     tie.close
-    (tie.spec prepare-gather-requires move-f64-requires words-of-requires same-length returns)
+    (tie.spec (λ c κs. tt) move-f64-requires (λ c κs. tt) same-length returns)

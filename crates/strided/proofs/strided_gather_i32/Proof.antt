@@ -7,14 +7,8 @@ use Rattle.strided.proofs.Calls.{gather-handed}
 use Rattle.strided.proofs.strided_gather_i32.Statement.{statement}
 use Rattle.strided.proofs.strided_gather_i32.Tie as tie
 
-prepare-gather-requires : tie.Need-prepare-gather-requires
-prepare-gather-requires c κs = tt
-
 move-i32-requires : tie.Need-move-i32-requires
 move-i32-requires c κs = movable (c .before .prepare-gather .ensures)
-
-words-of-requires : tie.Need-words-of-requires
-words-of-requires c κs = tt
 
 same-length : tie.Need-same-length
 same-length c = search needs
@@ -27,4 +21,4 @@ returns c =
 pub strided-gather-i32-spec : {M : Type 1} → statement M
 strided-gather-i32-spec =
     tie.close
-    (tie.spec prepare-gather-requires move-i32-requires words-of-requires same-length returns)
+    (tie.spec (λ c κs. tt) move-i32-requires (λ c κs. tt) same-length returns)

@@ -8,14 +8,8 @@ use Rattle.strided.proofs.Calls.{scatter-handed}
 use Rattle.strided.proofs.strided_scatter_f64.Statement.{statement}
 use Rattle.strided.proofs.strided_scatter_f64.Tie as tie
 
-prepare-scatter-requires : tie.Need-prepare-scatter-requires
-prepare-scatter-requires c κs = tt
-
 move-f64-requires : tie.Need-move-f64-requires
 move-f64-requires c κs = movable (c .before .prepare-scatter .ensures)
-
-words-of-requires : tie.Need-words-of-requires
-words-of-requires c κs = tt
 
 same-length : tie.Need-same-length
 same-length c = search needs
@@ -28,4 +22,4 @@ returns c =
 pub strided-scatter-f64-spec : {M : Type 1} → statement M
 strided-scatter-f64-spec =
     tie.close
-    (tie.spec prepare-scatter-requires move-f64-requires words-of-requires same-length returns)
+    (tie.spec (λ c κs. tt) move-f64-requires (λ c κs. tt) same-length returns)

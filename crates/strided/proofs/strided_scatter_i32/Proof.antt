@@ -8,14 +8,8 @@ use Rattle.strided.proofs.Calls.{scatter-handed}
 use Rattle.strided.proofs.strided_scatter_i32.Statement.{statement}
 use Rattle.strided.proofs.strided_scatter_i32.Tie as tie
 
-prepare-scatter-requires : tie.Need-prepare-scatter-requires
-prepare-scatter-requires c κs = tt
-
 move-i32-requires : tie.Need-move-i32-requires
 move-i32-requires c κs = movable (c .before .prepare-scatter .ensures)
-
-words-of-requires : tie.Need-words-of-requires
-words-of-requires c κs = tt
 
 same-length : tie.Need-same-length
 same-length c = search needs
@@ -28,4 +22,4 @@ returns c =
 pub strided-scatter-i32-spec : {M : Type 1} → statement M
 strided-scatter-i32-spec =
     tie.close
-    (tie.spec prepare-scatter-requires move-i32-requires words-of-requires same-length returns)
+    (tie.spec (λ c κs. tt) move-i32-requires (λ c κs. tt) same-length returns)

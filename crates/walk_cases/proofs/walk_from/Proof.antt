@@ -20,56 +20,26 @@ use borrow.Author.Needs.{needs}
 use Rattle.walk_cases.proofs.walk_from.Statement.{statement}
 use Rattle.walk_cases.proofs.walk_from.Tie as tie
 
-compile-window-replay-requires : tie.Need-compile-window-replay-requires
-compile-window-replay-requires c κs = tt
-
-is-done-requires : tie.Need-is-done-requires
-is-done-requires c κs = tt
-
-put-refused-requires : tie.Need-put-refused-requires
-put-refused-requires c κs = tt
-
 returns : tie.Need-returns
 returns c = tt
-
-has-zero-requires : tie.Need-has-zero-requires
-has-zero-requires c κs = tt
 
 slice-aggregate-put : tie.Need-slice-aggregate-put
 slice-aggregate-put c = search needs
 
-put-requires : tie.Need-put-requires
-put-requires c κs = tt
-
 returns-2 : tie.Need-returns-2
 returns-2 c = tt
-
-covers-requires : tie.Need-covers-requires
-covers-requires c κs = tt
 
 slice-aggregate-put-2 : tie.Need-slice-aggregate-put-2
 slice-aggregate-put-2 c = search needs
 
-put-requires-2 : tie.Need-put-requires-2
-put-requires-2 c κs = tt
-
 returns-3 : tie.Need-returns-3
 returns-3 c = tt
-
-covers-requires-2 : tie.Need-covers-requires-2
-covers-requires-2 c κs = tt
 
 slice-aggregate-put-3 : tie.Need-slice-aggregate-put-3
 slice-aggregate-put-3 c = search needs
 
-put-requires-3 : tie.Need-put-requires-3
-put-requires-3 c κs = tt
-
 returns-4 : tie.Need-returns-4
 returns-4 c = tt
-
-rows-of-requires : tie.Need-rows-of-requires
-rows-of-requires c κs = tt
 
 abbrev start : tie.After-rows-of → tie.Start
 start d = d .before .before .before .before .before .before .before .before .before .before .before .before .before .before .before .before .before .before
@@ -139,23 +109,23 @@ pub walk-from-spec : {M : Type 1} → statement M
 walk-from-spec =
     tie.close
     (tie.spec
-    compile-window-replay-requires
-    is-done-requires
-    put-refused-requires
+    (λ c κs. tt)
+    (λ c κs. tt)
+    (λ c κs. tt)
     returns
-    has-zero-requires
+    (λ c κs. tt)
     slice-aggregate-put
-    put-requires
+    (λ c κs. tt)
     returns-2
-    covers-requires
+    (λ c κs. tt)
     slice-aggregate-put-2
-    put-requires-2
+    (λ c κs. tt)
     returns-3
-    covers-requires-2
+    (λ c κs. tt)
     slice-aggregate-put-3
-    put-requires-3
+    (λ c κs. tt)
     returns-4
-    rows-of-requires
+    (λ c κs. tt)
     places-requires
     places-back-requires
     returns-5)

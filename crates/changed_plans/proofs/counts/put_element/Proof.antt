@@ -7,18 +7,12 @@ use Rattle.changed_plans.proofs.counts.put_element.Tie as tie
 slice-aggregate-put : tie.Need-slice-aggregate-put
 slice-aggregate-put c = search needs
 
-put-requires : tie.Need-put-requires
-put-requires c κs = tt
-
 cast-put-i64 : tie.Need-cast-put-i64
 cast-put-i64 c = simp znorm (simp zflat (omega (arith, known (c .before .before .fits .n))))
-
-put-i64-requires : tie.Need-put-i64-requires
-put-i64-requires c κs = tt
 
 returns : tie.Need-returns
 returns c = search needs
 
 pub put-element-spec : {M : Type 1} → statement M
 put-element-spec =
-    tie.close (tie.spec slice-aggregate-put put-requires cast-put-i64 put-i64-requires returns)
+    tie.close (tie.spec slice-aggregate-put (λ c κs. tt) cast-put-i64 (λ c κs. tt) returns)

@@ -6,9 +6,6 @@ use borrow.Author.Needs.{needs}
 use Rattle.stored_reader.proofs.elements.has_bits.Statement.{statement}
 use Rattle.stored_reader.proofs.elements.has_bits.Tie as tie
 
-is-nan-requires : tie.Need-is-nan-requires
-is-nan-requires c κs = tt
-
 -- what equals itself is no NaN
 equals-itself : (x : Float) → ne x x ≡ false → T (not (isNan x))
 unfolding ne isNan
@@ -26,4 +23,4 @@ returns-2 : tie.Need-returns-2
 returns-2 c = search needs
 
 pub has-bits-spec : {M : Type 1} → statement M
-has-bits-spec = tie.close (tie.spec is-nan-requires float-to-bits-result returns returns-2)
+has-bits-spec = tie.close (tie.spec (λ c κs. tt) float-to-bits-result returns returns-2)

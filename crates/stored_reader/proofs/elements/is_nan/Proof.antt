@@ -7,8 +7,5 @@ returns : tie.Need-returns
 unfolding nanBits
 returns c = search needs
 
-both-requires : tie.Need-both-requires
-both-requires c κs = tt
-
 pub is-nan-spec : {M : Type 1} → statement M
-is-nan-spec = tie.close (tie.spec both-requires returns)
+is-nan-spec = tie.close (tie.spec (λ c κs. tt) returns)

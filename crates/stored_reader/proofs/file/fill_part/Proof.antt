@@ -13,9 +13,6 @@ slice-relend-prefix-read-full c = search needs
 slice-aggregate-read-full : tie.Need-slice-aggregate-read-full
 slice-aggregate-read-full c = simp length-take (omega arith)
 
-read-full-requires : tie.Need-read-full-requires
-read-full-requires c κs = tt
-
 same-length : tie.Need-same-length
 same-length c = search needs
 
@@ -29,6 +26,6 @@ fill-part-spec =
     returns
     slice-relend-prefix-read-full
     slice-aggregate-read-full
-    read-full-requires
+    (λ c κs. tt)
     same-length
     returns-2)
