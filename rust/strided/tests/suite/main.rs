@@ -1,5 +1,6 @@
 //! The crate as its users call it.
 
+mod archive;
 mod arguments;
 mod cases;
 mod elements;
