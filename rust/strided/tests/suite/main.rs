@@ -7,6 +7,7 @@ mod elements;
 mod header;
 mod jobs;
 mod limits;
+mod migration;
 mod package;
 mod random;
 mod reference;
