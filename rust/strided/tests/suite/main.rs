@@ -12,3 +12,4 @@ mod package;
 mod random;
 mod reference;
 mod refusals;
+mod times;
