@@ -3,7 +3,9 @@
    Every function answers for all arguments, always returns, and reads and writes only inside the slices that it is lent.
    Its answer is three numbers in `answer`: STRIDED_DONE, or one of the refusals below, then a and b, 0 where unnamed.
    A refusal changes no element of a destination and no byte of a job. A call that is done changes only the destination's
-   elements that its cells name.
+   elements that its cells name. An accepted call takes as long as its plan has cells: a gather has at most as many as its
+   destination has elements, but a scatter whose index and updates have strides of 0 can name 2^62 updates in a few
+   elements, and at a nanosecond each such a call would take more than a hundred years.
 
    What the caller owes:
    - A slice is a pointer to its first element and a count of elements; the count is true, for as long as the call takes.

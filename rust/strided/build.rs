@@ -1,12 +1,15 @@
 //! Finds libstrided.a, or has it made, and links it.
 
-use std::env;
-use std::io::ErrorKind;
-use std::path::{Path, PathBuf};
-use std::process::{Command, Output};
+#[path = "build/repository.rs"]
+mod repository;
 
-const ARCHIVE: &str = "libstrided.a";
+use repository::{ARCHIVE, PLACE};
+use std::env;
+use std::path::{Path, PathBuf};
+
 const FOLDER: &str = "STRIDED_LIB_DIR";
+const ADVICE: &str =
+    "set STRIDED_LIB_DIR to a folder that holds libstrided.a, or run `./library` in the repository";
 
 fn main() {
     println!("cargo::rerun-if-changed=build.rs");
@@ -48,54 +51,14 @@ fn in_repository() -> Result<PathBuf, String> {
     // Asked when the script runs: copies of this crate may share the compiled script.
     let package = env::var_os("CARGO_MANIFEST_DIR").unwrap_or_default();
     let root = Path::new(&package).join("../..");
-    let folder = root.join("target/staticlib");
-    if folder.join(ARCHIVE).is_file() {
-        return Ok(folder);
+    // A source that changes has the script run, and the archive compared, again.
+    for source in repository::sources(&root).unwrap_or_default() {
+        println!("cargo::rerun-if-changed={}", source.display());
     }
-    if !root.join("crates.txt").is_file() {
-        return Err(missing("this crate stands outside its repository"));
+    match repository::prepare(&root) {
+        Ok(None) => {}
+        Ok(Some(made)) => println!("cargo::warning={made}, which takes some ten minutes"),
+        Err(line) => return Err(format!("{line}: {ADVICE}")),
     }
-    make(&root)?;
-    match folder.join(ARCHIVE).is_file() {
-        true => Ok(folder),
-        false => Err(missing("`rt staticlib strided` has ended without it")),
-    }
-}
-
-/// Has the Rattle toolchain prove and make the archive.
-fn make(root: &Path) -> Result<(), String> {
-    let made = Command::new("rt")
-        .args(["staticlib", "strided"])
-        .current_dir(root)
-        .output();
-    let output = match made {
-        Err(error) if error.kind() == ErrorKind::NotFound => {
-            let why = "the Rattle toolchain's command rt is not on the PATH";
-            return Err(missing(why));
-        }
-        Err(error) => return Err(missing(&format!("rt cannot be started ({error})"))),
-        Ok(output) => output,
-    };
-    println!("cargo::warning={ARCHIVE} was missing: `rt staticlib strided` was run, which takes some ten minutes");
-    match output.status.success() {
-        true => Ok(()),
-        false => Err(missing(&format!(
-            "`rt staticlib strided` has failed ({})",
-            last_line(&output)
-        ))),
-    }
-}
-
-/// What a command said last, or its status where it said nothing.
-fn last_line(output: &Output) -> String {
-    let said = [&output.stdout[..], &output.stderr[..]].concat();
-    let said = String::from_utf8_lossy(&said);
-    match said.lines().rfind(|line| !line.trim().is_empty()) {
-        Some(line) => line.trim().to_string(),
-        None => output.status.to_string(),
-    }
-}
-
-fn missing(why: &str) -> String {
-    format!("{ARCHIVE} is missing, and {why}: set {FOLDER} to a folder that holds it, or run `rt staticlib strided` in the repository")
+    Ok(root.join(PLACE))
 }

@@ -73,6 +73,15 @@
 //! a [`StridedError`], and then no element of a destination has changed. Nothing
 //! here panics.
 //!
+//! # How long a call takes
+//!
+//! An accepted call takes as long as its plan has cells, at one to a few
+//! nanoseconds each, besides some hundreds of its own; so many starts belong in
+//! one call. A gather has at most as many cells as its destination's slice has
+//! elements. A scatter whose index and updates have strides of 0 can name 2^62
+//! updates in a few elements, and such a call would take more than a hundred
+//! years; nothing refuses it.
+//!
 //! # Elements
 //!
 //! An element is an `i32`, whose sums wrap modulo 2^32, or an `f64`, whose sums

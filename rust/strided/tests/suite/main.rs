@@ -1,11 +1,15 @@
 //! The crate as its users call it.
 
+mod archive;
 mod arguments;
 mod cases;
 mod elements;
 mod header;
 mod jobs;
 mod limits;
+mod migration;
+mod package;
 mod random;
 mod reference;
 mod refusals;
+mod times;
