@@ -10,19 +10,20 @@ use crate::cli::JobCommand;
 use crate::failure::{Failure, Outcome};
 use crate::job_text;
 use crate::npy::shape_in_words;
-use crate::output;
+use crate::output::{self, Output, Patience};
 use crate::refusal::{refused, views, Known};
 
 pub fn run(command: &JobCommand, report: &mut Report) -> Outcome<()> {
     match command {
-        JobCommand::Make { text, out } => make(text, out, report),
+        JobCommand::Make { text, out, lock } => make(text, out, lock.patience(), report),
         JobCommand::Show { job } => print_out(&job_text::print(&Stored::read(job)?.job)),
         JobCommand::Check { job } => check(job, report),
     }
 }
 
-fn make(path: &Path, out: &Path, report: &mut Report) -> Outcome<()> {
+fn make(path: &Path, out: &Path, patience: Patience, report: &mut Report) -> Outcome<()> {
     output::is_apart(out, &[("the text", path)])?;
+    let output = Output::claim(out, patience)?;
     let job = described(path)?;
     let about = path.display().to_string();
     let known = Known {
@@ -32,7 +33,7 @@ fn make(path: &Path, out: &Path, report: &mut Report) -> Outcome<()> {
     let bytes = job
         .to_bytes()
         .map_err(|error| refused(&about, error, &known))?;
-    output::write(out, |file| file.write_all(&bytes))?;
+    output.write(|file| file.write_all(&bytes))?;
     report.say(&format!("stored {} in {}", in_words(&job), out.display()));
     if let Err(error) = compile(&job) {
         let why = refused(&about, error, &known);
