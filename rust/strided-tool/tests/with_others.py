@@ -8,6 +8,7 @@ import shutil
 import signal
 import subprocess
 import time
+from threading import Timer
 
 import numpy as np
 
@@ -15,7 +16,7 @@ from harness import HERE, TOOL, check, content, done, finish, left_behind, path,
 
 HARBOUR = os.path.join(os.path.dirname(os.path.abspath(__file__)), "../../../harbour")
 PAIRS = 40
-LIMIT = 120
+LIMIT = 30
 # Elements of a grid that takes a while to write.
 MANY = 1 << 24
 
@@ -53,9 +54,12 @@ def fresh():
 
 
 def begin(*arguments, **options):
-    """A run that is not waited for."""
-    options = {"stderr": subprocess.PIPE, **options}
-    return subprocess.Popen([TOOL, *arguments], cwd=HERE.name, **options)
+    """A run that is not waited for, and is killed where it takes too long."""
+    process = subprocess.Popen([TOOL, *arguments], cwd=HERE.name, stderr=subprocess.PIPE, **options)
+    limit = Timer(LIMIT, process.kill)
+    limit.daemon = True
+    limit.start()
+    return process
 
 
 def after(*ships):
