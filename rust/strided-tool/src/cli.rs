@@ -59,6 +59,9 @@ pub enum JobCommand {
         text: PathBuf,
         /// The stored job
         out: PathBuf,
+        /// Store also a job that the library refuses to run
+        #[arg(long)]
+        keep_refused: bool,
         /// How the output is locked.
         #[command(flatten)]
         lock: Lock,

@@ -53,6 +53,11 @@ impl Output {
         Ok(Output { path, target })
     }
 
+    /// Its name, as the user gave it.
+    pub fn name(&self) -> String {
+        self.path.display().to_string()
+    }
+
     /// Writes a file: into a new one beside it, which takes its name once all is on the disk.
     pub fn write(self, fill: impl FnOnce(&mut dyn Write) -> io::Result<()>) -> Outcome<()> {
         let failed = |error: io::Error| Failure::of_io(&self.path, "write it", &error);
