@@ -180,17 +180,16 @@ def written_meanwhile():
         put("bed.npy", content("bed.npy") + b"x")
         os.utime(path("bed.npy"), ns=(times.st_atime_ns, times.st_mtime_ns))
 
-    # The grid is read after the starts: where it is also the output, it would be refused for its length first.
-    for change in [replaced, rewritten, touched, grown]:
+    # The grid is read after the starts: one that has grown is refused for that, where it is also the output.
+    in_place = [(change, "bed.npy") for change in [replaced, rewritten, touched]]
+    for change, grid in [*in_place, (rewritten, "basin.npy"), (grown, "basin.npy")]:
         fresh()
-        with holding(grid="basin.npy") as holder:
+        with holding(grid=grid) as holder:
             change()
             now = content("bed.npy")
             status, said = fed(holder)
         check(status == 2 and "bed.npy: another program has changed it meanwhile" in said, f"{change}: {status} {said}")
         check(content("bed.npy") == now, f"{change}: it is lost")
-    if os.path.exists(path("made.npy")):
-        os.remove(path("made.npy"))
     with holding("made.npy", "basin.npy") as holder:
         # It opens the pipe once it has claimed its output.
         with open(path("pipe.npy"), "wb") as pipe:
