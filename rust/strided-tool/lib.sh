@@ -2,7 +2,7 @@
 # Shared by the commands that build and check the tool: where its crates come from. Sourced, with $root set.
 
 registry=/usr/share/cargo/registry
-packages='librust-clap-dev librust-png-dev librust-indicatif-dev'
+packages='librust-clap-dev librust-png-dev librust-indicatif-dev librust-rustix-dev librust-signal-hook-dev'
 tool=$root/target/rust/release/strided
 
 say() { printf '%s\n' "$*" >&2; }
@@ -32,8 +32,10 @@ install_packages() {
 }
 
 have_crates() {
-    set -- "$registry"/clap-4.* "$registry"/png-0.17.* "$registry"/indicatif-0.17.*
-    [ -e "$1" ] && [ -e "$2" ] && [ -e "$3" ]
+    set -- "$registry"/clap-4.* "$registry"/png-0.17.* "$registry"/indicatif-0.17.* "$registry"/rustix-[01].* "$registry"/signal-hook-0.3.*
+    for crate; do
+        [ -e "$crate" ] || return 1
+    done
 }
 
 # Finds the crates: Debian's where they are or can be installed, or else those of the usual registry.
@@ -48,7 +50,7 @@ find_crates() {
     from_debian=no
     mkdir -p "$root/target/rust"
     (cd "$root/rust/strided-tool" && cargo fetch) >"$root/target/rust/fetch.log" 2>&1 ||
-        fail "clap, png and indicatif could not be had: neither as Debian's packages ($packages) nor from the usual registry"
+        fail "clap, png, indicatif, rustix and signal-hook could not be had: neither as Debian's packages ($packages) nor from the usual registry"
 }
 
 # Runs cargo in the tool's folder, its results in target/rust.

@@ -4,12 +4,13 @@ use std::path::PathBuf;
 
 use clap::{Args, Parser, Subcommand};
 
+use crate::output::Patience;
 use crate::window::{Scale, Window};
 
 /// Gather and scatter on grids in .npy files, by stored jobs, and pictures of grids.
 ///
 /// What is read, added, clamped or refused, the proved library libstrided decides.
-/// The exit status is 0; 1 where the library refuses; 2 for usage, a file that cannot be read or written, or elements of another type.
+/// The exit status is 0; 1 where the library refuses, or where `compare` finds a difference; 2 for usage, a file that cannot be read or written, or elements of another type; 3 where `--no-wait` refuses.
 #[derive(Parser)]
 #[command(
     name = "strided",
@@ -58,6 +59,12 @@ pub enum JobCommand {
         text: PathBuf,
         /// The stored job
         out: PathBuf,
+        /// Store also a job that the library refuses to run
+        #[arg(long)]
+        keep_refused: bool,
+        /// How the output is locked.
+        #[command(flatten)]
+        lock: Lock,
     },
     /// Print a stored job as the text that makes it
     #[command(after_help = "Example:\n  strided job show cut.job > cut.txt")]
@@ -99,6 +106,25 @@ Example: cells of a row of five are raised at given starts
 
   strided job make cut.txt cut.job";
 
+// What every command has that writes a file.
+#[derive(Args)]
+pub struct Lock {
+    /// Where another run is writing the output, refuse with exit status 3 and do not wait
+    #[arg(long)]
+    no_wait: bool,
+}
+
+impl Lock {
+    /// What to do where another run has the output.
+    pub fn patience(&self) -> Patience {
+        if self.no_wait {
+            Patience::Refuse
+        } else {
+            Patience::Wait
+        }
+    }
+}
+
 // Files of a gather.
 #[derive(Args)]
 #[command(after_help = "\
@@ -123,6 +149,9 @@ pub struct GatherArgs {
     /// The destination afterwards; it may be the file of --dest
     #[arg(long, value_name = "NPY")]
     pub out: PathBuf,
+    /// How the output is locked.
+    #[command(flatten)]
+    pub lock: Lock,
 }
 
 // Files of a scatter.
@@ -130,6 +159,7 @@ pub struct GatherArgs {
 #[command(after_help = "\
 A file lends its elements in memory order; the job names the layouts, whatever the shape and order of the file.
 The output is written beside and takes its name at the end, so that a failure leaves an old file as it was.
+An old file is locked from before the grid is read: of runs on one file at once, each waits for the one before.
 
 Example:
   strided scatter --job cut.job --starts at.npy --updates cuts.npy --grid bed.npy --out bed.npy")]
@@ -149,6 +179,9 @@ pub struct ScatterArgs {
     /// The grid afterwards; it may be the file of --grid
     #[arg(long, value_name = "NPY")]
     pub out: PathBuf,
+    /// How the output is locked.
+    #[command(flatten)]
+    pub lock: Lock,
 }
 
 // What is drawn, and how.
@@ -172,12 +205,16 @@ pub struct ShowArgs {
     /// Pixels along a cell; otherwise as suits the size
     #[arg(long, value_name = "N")]
     pub cell: Option<usize>,
+    /// How the output is locked.
+    #[command(flatten)]
+    pub lock: Lock,
 }
 
 // The two files.
 #[derive(Args)]
 #[command(after_help = "\
 The files have the same element and shape; the order in memory may differ.
+The exit status is 0 where they are equal, 1 where they differ, 2 where they cannot be compared.
 
 Example:
   strided compare before.npy after.npy")]

@@ -11,14 +11,17 @@ pub enum Failure {
     Refused(String),
     /// Usage, a file that cannot be read or written, or elements of another type.
     Unusable(String),
+    /// Another run is writing the output, and the user would not wait.
+    Busy(String),
 }
 
 impl Failure {
-    /// The exit status: 1 for a refusal by the library, 2 for everything else.
+    /// The exit status: 1 for a refusal by the library, 3 where the user would not wait, 2 for everything else.
     pub fn status(&self) -> u8 {
         match self {
             Failure::Refused(_) => 1,
             Failure::Unusable(_) => 2,
+            Failure::Busy(_) => 3,
         }
     }
 
@@ -36,7 +39,9 @@ impl Failure {
 impl fmt::Display for Failure {
     fn fmt(&self, f: &mut fmt::Formatter<'_>) -> fmt::Result {
         match self {
-            Failure::Refused(what) | Failure::Unusable(what) => f.write_str(what),
+            Failure::Refused(what) | Failure::Unusable(what) | Failure::Busy(what) => {
+                f.write_str(what)
+            }
         }
     }
 }

@@ -29,7 +29,7 @@ fn main() -> ExitCode {
     };
     let mut report = Report::new(cli.quiet);
     match commands::run(&cli.command, &mut report) {
-        Ok(()) => ExitCode::SUCCESS,
+        Ok(status) => status,
         Err(failure) => {
             // Where standard error is closed there is nobody to tell.
             let _ = writeln!(io::stderr(), "strided: {failure}");

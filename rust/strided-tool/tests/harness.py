@@ -53,6 +53,13 @@ def done(*arguments, **options):
     return out
 
 
+def found(status, *arguments, **options):
+    """A run that must end with this status and say nothing; what it prints."""
+    ended, out, err = run(*arguments, **options)
+    check(ended == status and err == "", f"{arguments} ended with {ended}: {err}")
+    return out
+
+
 def refused(status, words, *arguments, **options):
     """A run that must end with this status, with all these words on standard error, in at most three lines."""
     found, _, err = run(*arguments, **options)

@@ -54,7 +54,7 @@ def make(name, text, *changes):
         assert old in text, old
         text = text.replace(old, new)
     put(name + ".txt", text)
-    return done("job", "make", name + ".txt", name + ".job")
+    return done("job", "make", name + ".txt", name + ".job", "--keep-refused")
 
 
 def worked():
@@ -162,11 +162,14 @@ def written_refusals():
 
 
 def compiled_refusals():
-    """Jobs that are stored and that compile refuses: told when made, and refused when checked and when run."""
+    """Jobs that compile refuses: not stored unless that is asked for, and refused when checked and when run."""
     def refuse(words, text, *changes):
         make("bad", text, *changes)
-        _, _, err = run("job", "make", "bad.txt", "bad.job")
+        _, _, err = run("job", "make", "bad.txt", "bad.job", "--keep-refused")
         check("cannot be run" in err and all(word in err for word in words), f"made: {words}: {err}")
+        put("old.job", b"old")
+        refused(1, [*words, "nothing was stored; --keep-refused"], "-q", "job", "make", "bad.txt", "old.job")
+        check(content("old.job") == b"old", f"{words}: the old job stays")
         refused(1, words, "job", "check", "bad.job")
         if text == GATHER:
             refused(1, words, "gather", "--job", "bad.job", "--operand", "operand.npy", "--starts", "two.npy", "--out", "o.npy")

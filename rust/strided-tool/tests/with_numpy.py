@@ -2,11 +2,12 @@
 
 import itertools
 import random
+import subprocess
 import sys
 
 import numpy as np
 
-from harness import check, content, done, finish, path, put, run
+from harness import TOOL, check, content, done, finish, found, path, put, refused, run
 from reference import gather, job_text, random_gather, random_scatter, scatter
 
 SHAPES = [(), (0,), (5,), (3, 4), (2, 3, 4), (2, 0, 3), (1, 7)]
@@ -50,7 +51,7 @@ def files():
         check(same(result, array.astype("<" + kind)) and result.flags.f_contiguous == blank.flags.f_contiguous, what)
         check(content("out.npy")[6:8] == b"\x01\x00", f"{what}: version 1.0 is written")
         check(content("out.npy").index(b"\n") % 64 == 63, f"{what}: the elements are aligned")
-        out = done("compare", "in.npy", "out.npy")
+        out = found(0, "compare", "in.npy", "out.npy")
         check(out.startswith("0 of "), f"{what}: {out}")
 
 
@@ -78,10 +79,33 @@ def compared():
     after[1, 2], after[3, 4] = 2**31 - 1, -2**31
     np.save(path("b.npy"), before)
     np.save(path("c.npy"), after)
-    out = done("compare", "b.npy", "c.npy")
+    out = found(1, "compare", "b.npy", "c.npy")
     for words in ["2 of 20 elements differ", "from [1, 2] to [3, 4]", "sum of changes -1\n",
                   "lowest change -2147483648 at [3, 4]", "highest change 2147483647 at [1, 2]"]:
         check(words in out, f"compare: {words}: {out}")
+    incomparable(before)
+
+
+def incomparable(grid):
+    """2, where there is nothing to be said of two grids, beside 1 for grids that differ."""
+    floats = np.array([0.5, np.nan, -0.0])
+    np.save(path("f.npy"), floats)
+    np.save(path("g.npy"), floats + [0, 0, 1])
+    check(found(0, "compare", "f.npy", "f.npy").startswith("0 of 3"), "a NaN is the same as a NaN")
+    check(found(1, "compare", "f.npy", "g.npy").startswith("1 of 3"), "floats that differ")
+    np.save(path("d.npy"), grid.T)
+    np.save(path("long.npy"), grid.astype("<i8"))
+    put("cut.npy", content("b.npy")[:-1])
+    refused(2, ["4 x 5 of i32", "5 x 4 of i32", "one shape and element"], "compare", "b.npy", "d.npy")
+    refused(2, ["of i32", "of f64", "one shape"], "compare", "b.npy", "f.npy")
+    refused(2, ["grids of i32 and f64 are compared"], "compare", "long.npy", "long.npy")
+    refused(2, ["cut.npy", "cut off"], "compare", "b.npy", "cut.npy")
+    refused(2, ["absent.npy: cannot open it"], "compare", "absent.npy", "b.npy")
+    status, _, err = run("compare", "b.npy")
+    check(status == 2 and "Usage" in err, f"compare of one file: {status} {err}")
+    with open("/dev/full", "wb") as full:
+        ended = subprocess.run([TOOL, "compare", path("b.npy"), path("c.npy")], stdout=full, stderr=subprocess.DEVNULL)
+    check(ended.returncode == 2, f"compare that cannot tell: {ended.returncode}")
 
 
 def calls(seed, count):

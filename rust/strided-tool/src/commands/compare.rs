@@ -2,6 +2,7 @@
 
 use std::fmt::Display;
 use std::path::Path;
+use std::process::ExitCode;
 
 use super::print_out;
 use crate::cli::CompareArgs;
@@ -10,7 +11,10 @@ use crate::job_text::list;
 use crate::npy::{shape_in_words, Grid, Header, Item, Kind, Opened};
 use crate::progress;
 
-pub fn run(args: &CompareArgs) -> Outcome<()> {
+/// The exit status where elements differ, as `cmp` has it.
+const DIFFERENT: u8 = 1;
+
+pub fn run(args: &CompareArgs) -> Outcome<ExitCode> {
     let before = Opened::open(&args.before)?;
     let after = Opened::open(&args.after)?;
     comparable(&args.before, before.header(), &args.after, after.header())?;
@@ -94,11 +98,15 @@ struct Changes<C> {
     corners: Option<(Vec<usize>, Vec<usize>)>,
 }
 
-fn compare<T: Changing>(before: Opened, after: Opened) -> Outcome<()> {
+fn compare<T: Changing>(before: Opened, after: Opened) -> Outcome<ExitCode> {
     let before: Grid<T> = before.elements()?;
     let after: Grid<T> = after.elements()?;
     let changes = progress::timed("comparing", || changes(&before, &after));
-    print_out(&changes.in_words(before.data.len()))
+    print_out(&changes.in_words(before.data.len()))?;
+    Ok(match changes.count {
+        0 => ExitCode::SUCCESS,
+        _ => ExitCode::from(DIFFERENT),
+    })
 }
 
 fn changes<T: Changing>(before: &Grid<T>, after: &Grid<T>) -> Changes<T::Change> {

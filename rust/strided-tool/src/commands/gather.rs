@@ -8,7 +8,7 @@ use super::Report;
 use crate::cli::GatherArgs;
 use crate::failure::{Failure, Outcome};
 use crate::npy::{self, cells, shape_in_words, Grid, Item};
-use crate::output;
+use crate::output::{self, Output};
 use crate::progress;
 
 pub fn run(args: &GatherArgs, report: &mut Report) -> Outcome<()> {
@@ -20,14 +20,15 @@ pub fn run(args: &GatherArgs, report: &mut Report) -> Outcome<()> {
             ("--starts", &args.starts),
         ],
     )?;
+    let output = Output::claim(&args.out, args.lock.patience())?;
     let stored = Stored::read(&args.job)?;
     let Job::Gather(job) = &stored.job else {
         let answer = strided::gather_job::<i32>(&stored.bytes, &[], &[], &mut []);
         return Err(stored.of_other_kind(answer, "scatter"));
     };
     match job.element {
-        ElementType::I32 => gather::<i32>(args, &stored, job, report),
-        ElementType::F64 => gather::<f64>(args, &stored, job, report),
+        ElementType::I32 => gather::<i32>(args, &stored, job, output, report),
+        ElementType::F64 => gather::<f64>(args, &stored, job, output, report),
     }
 }
 
@@ -35,20 +36,11 @@ fn gather<T: Element + Item>(
     args: &GatherArgs,
     stored: &Stored,
     job: &GatherJob,
+    output: Output,
     report: &mut Report,
 ) -> Outcome<()> {
-    let operand = Lent {
-        path: &args.operand,
-        name: "operand",
-        layout: &job.operand,
-    }
-    .load::<T>(report)?;
-    let starts = Lent {
-        path: &args.starts,
-        name: "index",
-        layout: &job.index,
-    }
-    .load::<i64>(report)?;
+    let operand = Lent::of(&args.operand, "operand", &job.operand).load::<T>(report)?;
+    let starts = Lent::of(&args.starts, "index", &job.index).load::<i64>(report)?;
     let mut dest = destination::<T>(args, stored, job, report)?;
     let count = cells(&job.dest.dims).unwrap_or(0);
     progress::timed(&format!("gathering {count} cells"), || {
@@ -67,7 +59,7 @@ fn gather<T: Element + Item>(
         stored.refused(error, Some(lent))
     })?;
     let name = args.out.display().to_string();
-    output::write(&args.out, |file| npy::write(&dest, &name, file))?;
+    output.write(|file| npy::write(&dest, &name, file))?;
     report.say(&format!(
         "gathered {count} cells ({}) into {name}",
         shape_in_words(&job.dest.dims)
@@ -83,12 +75,7 @@ fn destination<T: Item>(
     report: &mut Report,
 ) -> Outcome<Grid<T>> {
     if let Some(path) = &args.dest {
-        let lent = Lent {
-            path,
-            name: "dest",
-            layout: &job.dest,
-        };
-        return lent.load(report);
+        return Lent::of(path, "dest", &job.dest).load(report);
     }
     // A job that cannot be run is refused before room is made for its result.
     job.compile().map_err(|error| stored.refused(error, None))?;

@@ -10,35 +10,50 @@ use crate::cli::JobCommand;
 use crate::failure::{Failure, Outcome};
 use crate::job_text;
 use crate::npy::shape_in_words;
-use crate::output;
+use crate::output::{self, Output};
 use crate::refusal::{refused, views, Known};
 
 pub fn run(command: &JobCommand, report: &mut Report) -> Outcome<()> {
     match command {
-        JobCommand::Make { text, out } => make(text, out, report),
+        JobCommand::Make {
+            text,
+            out,
+            keep_refused,
+            lock,
+        } => {
+            output::is_apart(out, &[("the text", text)])?;
+            let output = Output::claim(out, lock.patience())?;
+            make(text, *keep_refused, output)?
+                .iter()
+                .for_each(|line| report.say(line));
+            Ok(())
+        }
         JobCommand::Show { job } => print_out(&job_text::print(&Stored::read(job)?.job)),
         JobCommand::Check { job } => check(job, report),
     }
 }
 
-fn make(path: &Path, out: &Path, report: &mut Report) -> Outcome<()> {
-    output::is_apart(out, &[("the text", path)])?;
+/// Stores the job that a text describes; what there is to say of it.
+fn make(path: &Path, keep_refused: bool, output: Output) -> Outcome<Vec<String>> {
     let job = described(path)?;
     let about = path.display().to_string();
     let known = Known {
         job: Some(&job),
         ..Known::default()
     };
-    let bytes = job
-        .to_bytes()
-        .map_err(|error| refused(&about, error, &known))?;
-    output::write(out, |file| file.write_all(&bytes))?;
-    report.say(&format!("stored {} in {}", in_words(&job), out.display()));
-    if let Err(error) = compile(&job) {
-        let why = refused(&about, error, &known);
-        report.say(&format!("it is stored, but it cannot be run: {why}"));
+    let refused = |error| refused(&about, error, &known);
+    let bytes = job.to_bytes().map_err(refused)?;
+    let runs = compile(&job).map_err(refused);
+    if let (Err(why), false) = (&runs, keep_refused) {
+        return Err(Failure::Refused(format!(
+            "{why}\nnothing was stored; --keep-refused stores it all the same"
+        )));
     }
-    Ok(())
+    let stored = format!("stored {} in {}", in_words(&job), output.name());
+    output.write(|file| file.write_all(&bytes))?;
+    let refusal = runs.err();
+    let refusal = refusal.map(|why| format!("it is stored, but it cannot be run: {why}"));
+    Ok([stored].into_iter().chain(refusal).collect())
 }
 
 /// The job that a file describes as text.

@@ -12,14 +12,19 @@ use crate::npy::{shape_in_words, Grid, Item, Kind, Opened};
 /// A file for a view of a job.
 pub struct Lent<'a> {
     /// Where it is.
-    pub path: &'a Path,
+    path: &'a Path,
     /// The view's name in the job.
-    pub name: &'a str,
+    name: &'a str,
     /// The view.
-    pub layout: &'a ViewLayout,
+    layout: &'a ViewLayout,
 }
 
-impl Lent<'_> {
+impl<'a> Lent<'a> {
+    /// The file of a view.
+    pub fn of(path: &'a Path, name: &'a str, layout: &'a ViewLayout) -> Lent<'a> {
+        Lent { path, name, layout }
+    }
+
     /// The file's elements, which are of the view's type.
     pub fn load<T: Item>(&self, report: &mut Report) -> Outcome<Grid<T>> {
         let opened = Opened::open(self.path)?;

@@ -11,6 +11,7 @@ mod stored;
 
 use std::io::{self, ErrorKind, Write};
 use std::path::Path;
+use std::process::ExitCode;
 
 use crate::cli::Command;
 use crate::failure::{Failure, Outcome};
@@ -34,16 +35,17 @@ impl Report {
     }
 }
 
-/// Does what the command line asks for.
-pub fn run(command: &Command, report: &mut Report) -> Outcome<()> {
-    match command {
+/// Does what the command line asks for. The exit status may tell what was found.
+pub fn run(command: &Command, report: &mut Report) -> Outcome<ExitCode> {
+    let done = match command {
         Command::Job(command) => job::run(command, report),
         Command::Gather(args) => gather::run(args, report),
         Command::Scatter(args) => scatter::run(args, report),
         Command::Show(args) => show::run(args, report),
-        Command::Compare(args) => compare::run(args),
+        Command::Compare(args) => return compare::run(args),
         Command::Print(args) => print::run(args),
-    }
+    };
+    done.map(|()| ExitCode::SUCCESS)
 }
 
 /// Prints to standard output. A reader that has gone wants no more, and that is no failure.

@@ -8,7 +8,7 @@ use super::Report;
 use crate::cli::ScatterArgs;
 use crate::failure::Outcome;
 use crate::npy::{self, cells, shape_in_words, Item};
-use crate::output;
+use crate::output::{self, Output};
 use crate::progress;
 
 pub fn run(args: &ScatterArgs, report: &mut Report) -> Outcome<()> {
@@ -20,14 +20,15 @@ pub fn run(args: &ScatterArgs, report: &mut Report) -> Outcome<()> {
             ("--updates", &args.updates),
         ],
     )?;
+    let output = Output::claim(&args.out, args.lock.patience())?;
     let stored = Stored::read(&args.job)?;
     let Job::Scatter(job) = &stored.job else {
         let answer = strided::scatter_job::<i32>(&stored.bytes, &[], &[], &mut []);
         return Err(stored.of_other_kind(answer, "gather"));
     };
     match job.element {
-        ElementType::I32 => scatter::<i32>(args, &stored, job, report),
-        ElementType::F64 => scatter::<f64>(args, &stored, job, report),
+        ElementType::I32 => scatter::<i32>(args, &stored, job, output, report),
+        ElementType::F64 => scatter::<f64>(args, &stored, job, output, report),
     }
 }
 
@@ -35,26 +36,12 @@ fn scatter<T: Element + Item>(
     args: &ScatterArgs,
     stored: &Stored,
     job: &ScatterJob,
+    output: Output,
     report: &mut Report,
 ) -> Outcome<()> {
-    let starts = Lent {
-        path: &args.starts,
-        name: "index",
-        layout: &job.index,
-    }
-    .load::<i64>(report)?;
-    let updates = Lent {
-        path: &args.updates,
-        name: "updates",
-        layout: &job.updates,
-    }
-    .load::<T>(report)?;
-    let mut grid = Lent {
-        path: &args.grid,
-        name: "dest",
-        layout: &job.dest,
-    }
-    .load::<T>(report)?;
+    let starts = Lent::of(&args.starts, "index", &job.index).load::<i64>(report)?;
+    let updates = Lent::of(&args.updates, "updates", &job.updates).load::<T>(report)?;
+    let mut grid = Lent::of(&args.grid, "dest", &job.dest).load::<T>(report)?;
     let count = cells(&job.updates.dims).unwrap_or(0);
     progress::timed(&format!("adding {count} updates"), || {
         strided::scatter_job(&stored.bytes, &starts.data, &updates.data, &mut grid.data)
@@ -68,7 +55,7 @@ fn scatter<T: Element + Item>(
         stored.refused(error, Some(lent))
     })?;
     let name = args.out.display().to_string();
-    output::write(&args.out, |file| npy::write(&grid, &name, file))?;
+    output.write(|file| npy::write(&grid, &name, file))?;
     report.say(&format!(
         "added {count} updates ({}) to the grid {}; it is in {name}",
         shape_in_words(&job.updates.dims),

@@ -8,7 +8,7 @@ use super::Report;
 use crate::cli::ShowArgs;
 use crate::failure::{Failure, Outcome};
 use crate::npy::{shape_in_words, Grid, Header, Item, Kind, Opened};
-use crate::output;
+use crate::output::{self, Output};
 use crate::picture::{self, Drawn, Field, Place, Settings};
 use crate::progress;
 use crate::refusal::{refused, Known};
@@ -16,11 +16,12 @@ use crate::window::{Span, Window};
 
 pub fn run(args: &ShowArgs, report: &mut Report) -> Outcome<()> {
     output::is_apart(&args.out, &[("the grid", &args.grid)])?;
+    let output = Output::claim(&args.out, args.lock.patience())?;
     let opened = Opened::open(&args.grid)?;
     let place = place(args, opened.header())?;
     match opened.header().kind {
-        Kind::I32 => show::<i32>(args, place, opened, report),
-        Kind::F64 => show::<f64>(args, place, opened, report),
+        Kind::I32 => show::<i32>(args, place, opened, output, report),
+        Kind::F64 => show::<f64>(args, place, opened, output, report),
         Kind::I64 => Err(Failure::of_file(
             &args.grid,
             "it holds i64; grids of i32 and f64 are drawn",
@@ -63,6 +64,7 @@ fn show<T: Element + Item + Drawn>(
     args: &ShowArgs,
     place: Place,
     opened: Opened,
+    output: Output,
     report: &mut Report,
 ) -> Outcome<()> {
     let grid: Grid<T> = opened.elements()?;
@@ -76,7 +78,7 @@ fn show<T: Element + Item + Drawn>(
         cell: args.cell,
     };
     let picture = picture::draw(&field, &settings).map_err(Failure::Unusable)?;
-    output::write(&args.out, |file| picture.write(file))?;
+    output.write(|file| picture.write(file))?;
     for line in picture.in_words() {
         report.say(&format!("{}: {line}", args.out.display()));
     }
