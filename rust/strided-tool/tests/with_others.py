@@ -262,6 +262,9 @@ def ended_by_limit():
 
 
 def main():
+    # A shell starts what runs in the background with SIGINT ignored, which the runs would keep to.
+    for number in [signal.SIGHUP, signal.SIGINT, signal.SIGQUIT, signal.SIGTERM]:
+        signal.signal(number, signal.SIG_DFL)
     scene()
     at_once(PAIRS, "north", "south")
     at_once(PAIRS // 4, "north", "south", "north")
