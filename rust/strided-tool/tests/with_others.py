@@ -224,6 +224,22 @@ def ended_waiting():
     check(waits.returncode == 0, f"a signal that is ignored, as under nohup: {waits.returncode} {said}")
 
 
+def stopped_writing(before):
+    """A run that is stopped while its new file is there. Where the machine is busy the stop may come too late: then once more."""
+    for _ in range(10):
+        writes = begin("scatter", "--job", "many.job", "--starts", "one_start.npy", "--updates", "one_cut.npy", "--grid",
+                       "many.npy", "--out", "many.npy")
+        until(lambda: left_behind() or writes.poll() is not None, "a new file beside")
+        writes.send_signal(signal.SIGSTOP)
+        if left_behind():
+            break
+        writes.send_signal(signal.SIGCONT)
+        writes.communicate(timeout=LIMIT)
+        with open(path("many.npy"), "wb") as file:
+            file.write(before)
+    return writes
+
+
 def ended_writing():
     """Signals to a run that writes: it is stopped while its new file is there, and ended from there."""
     put("many.txt", MANY_TEXT)
@@ -233,10 +249,7 @@ def ended_writing():
     np.save(path("one_cut.npy"), np.array([7], dtype="<i4"))
     before = content("many.npy")
     for number in [signal.SIGINT, signal.SIGTERM]:
-        writes = begin("scatter", "--job", "many.job", "--starts", "one_start.npy", "--updates", "one_cut.npy", "--grid",
-                       "many.npy", "--out", "many.npy")
-        until(left_behind, "a new file beside")
-        writes.send_signal(signal.SIGSTOP)
+        writes = stopped_writing(before)
         check(left_behind(), f"{number}: it was stopped too late")
         writes.send_signal(number)
         writes.send_signal(signal.SIGCONT)
