@@ -28,7 +28,7 @@ pub use stubs::{INLINE_RANK, RAW_FUSED_RANK_LIMIT};
 use job::Job;
 use measure::measure;
 use original::{Gather, Kind, Scatter};
-use stored::{StoredGather, StoredScatter};
+use stored::Stored;
 
 fn main() {
     let rounds = std::env::var("BENCH_ROUNDS")
@@ -42,8 +42,8 @@ fn main() {
     gathers(rounds, &some);
     scatters(rounds, &some);
     for (name, job) in small() {
-        stored::<StoredGather>("gather", name, &job, rounds, &some);
-        stored::<StoredScatter>("scatter", name, &job, rounds, &some);
+        stored::<Stored<Gather>>("gather", name, &job, rounds, &some);
+        stored::<Stored<Scatter>>("scatter", name, &job, rounds, &some);
     }
 }
 

@@ -49,6 +49,27 @@ fn write<'a, T>(layout: &'a Layout, data: &'a mut [T]) -> RawStridedMut<'a, T> {
     }
 }
 
+/// The lists of the job, as the library's crate takes them.
+pub fn gather_spec(job: &Job) -> strided::GatherSpec {
+    strided::GatherSpec {
+        offset_dims: usizes(&job.window_dims),
+        collapsed_slice_dims: usizes(&job.dropped_dims),
+        start_index_map: usizes(&job.map),
+        index_vector_dim: job.index_vector_dim as usize,
+        slice_sizes: usizes(&job.slice_sizes),
+    }
+}
+
+/// The lists of the job, as the library's crate takes them.
+pub fn scatter_spec(job: &Job) -> strided::ScatterSpec {
+    strided::ScatterSpec {
+        update_window_dims: usizes(&job.window_dims),
+        inserted_window_dims: usizes(&job.dropped_dims),
+        scatter_dims_to_operand_dims: usizes(&job.map),
+        index_vector_dim: job.index_vector_dim as usize,
+    }
+}
+
 pub struct Gather;
 
 impl Kind for Gather {
@@ -100,13 +121,7 @@ impl Kind for Gather {
             &job.index.steps,
             &job.windows.dims,
             &job.windows.steps,
-            strided::GatherSpec {
-                offset_dims: usizes(&job.window_dims),
-                collapsed_slice_dims: usizes(&job.dropped_dims),
-                start_index_map: usizes(&job.map),
-                index_vector_dim: job.index_vector_dim as usize,
-                slice_sizes: usizes(&job.slice_sizes),
-            },
+            gather_spec(job),
         )
         .expect("the library refuses")
     }
@@ -175,12 +190,7 @@ impl Kind for Scatter {
             &job.windows.steps,
             &job.grid.dims,
             &job.grid.steps,
-            strided::ScatterSpec {
-                update_window_dims: usizes(&job.window_dims),
-                inserted_window_dims: usizes(&job.dropped_dims),
-                scatter_dims_to_operand_dims: usizes(&job.map),
-                index_vector_dim: job.index_vector_dim as usize,
-            },
+            scatter_spec(job),
         )
         .expect("the library refuses")
     }
