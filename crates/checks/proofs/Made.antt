@@ -1,6 +1,6 @@
 -- A layout that neither 1 nor 2 refuses is read as it was given. Assumes nothing.
-use mathlib.Core.Path.{_≡_, refl, ap, _∙_}
-use mathlib.Core.Bool.{Bool, true, false, cond}
+use mathlib.Core.Path.{_≡_, refl, sym, ap, _∙_}
+use mathlib.Core.Bool.{Bool, true, false, cond, true≢false}
 use mathlib.Core.List.{List}
 use Prim.Native.Nat.{ℕ, _≤_}
 use native.Mathlib.Omega.{arith}
@@ -28,12 +28,16 @@ same-length n m e = go (eqb m n) refl e
     go true f h = eqb-true m n f
     go false f h = let z : _≡_ {A = ℕ} 0 1 = cc in absurd (omega arith)
 
-pub few-axes : (n : ℕ) → isDone (rankAtMost n) ≡ true → n ≤ rankLimit
-few-axes n e = go (leb n rankLimit) refl e
+-- a count that was asked to be at most a limit, and was not refused
+pub at-most : (n limit : ℕ) (x : Answer) → isDone x ≡ false → isDone (cond (leb n limit) A.Done x) ≡ true → n ≤ limit
+at-most n limit x r e = go (leb n limit) refl e
   where
-    go : (t : Bool) → leb n rankLimit ≡ t → isDone (cond t A.Done (A.RankTooLarge n rankLimit)) ≡ true → n ≤ rankLimit
-    go true f h = leb-true n rankLimit f
-    go false f h = let z : _≡_ {A = ℕ} 0 1 = cc in absurd (omega arith)
+    go : (t : Bool) → leb n limit ≡ t → isDone (cond t A.Done x) ≡ true → n ≤ limit
+    go true f h = leb-true n limit f
+    go false f h = absurd (true≢false (sym h ∙ r))
+
+pub few-axes : (n : ℕ) → isDone (rankAtMost n) ≡ true → n ≤ rankLimit
+few-axes n e = at-most n rankLimit (A.RankTooLarge n rankLimit) refl e
 
 module _ (es : List ℕ) (ss : List ℤ) (m : MadeLayout) (e : m ≡ layoutFrom es ss) (p : isDone (strideLength (length es) (length ss)) ≡ true) (q : isDone (rankAtMost (length es)) ≡ true) where
   pub made : m .layout ≡ layoutOf es ss

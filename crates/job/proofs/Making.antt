@@ -3,9 +3,6 @@ use mathlib.Core.Path.{_≡_, refl, sym, ap, ap₂, _∙_}
 use mathlib.Core.Bool.{Bool, true, false, cond}
 use mathlib.Core.List.{List, []}
 use Prim.Native.Nat.{ℕ, _≤_, _<_, _^_}
-use native.Mathlib.Omega.{arith}
-use borrow.Author.Tests.{eqb-true, leb-true}
-use lib.Dec.{eqb, leb}
 use lib.ListN.{length}
 use lib.IntN.{ℤ}
 use mir.Syntax.{w64}
@@ -15,6 +12,7 @@ use Rattle.layout.specs.declared.Answer.the-variants as A
 use Rattle.layout.specs.declared.View.{View}
 use Rattle.layout.specs.Answers.{isDone, orElse}
 use Rattle.layout.specs.Layouts.{strideLength}
+use Rattle.checks.proofs.Made.{or-done, same-length, at-most}
 use Rattle.job_bytes.specs.Version.{storedRankLimit, listLimit}
 use Rattle.job_bytes.specs.Below.{AllBelow, AllFit}
 use Rattle.job.specs.declared.Kind.{Kind}
@@ -39,37 +37,35 @@ making kind element e1 s1 o1 e2 s2 o2 e3 s3 o3 window unit map vector sizes r x 
     let bb : b ≡ listsRefusal (length window) (length unit) (length map) (length sizes) = pb ∙ (λ i. listsRefusal (pw i .count) (pu i .count) (pm i .count) (pz i .count)) in
     pr ∙ ap₂ madeJob (px ∙ ap₂ orElse pa bb) (pj ∙ (λ i. record { kind = kind; element = element; views = viewsOf (pf i) (pg i) (ph i); spec = ss i }))
 
--- ---- what a job that is done tells of its parts
-pub both-done : (x y : Answer) → isDone (orElse x y) ≡ true → (isDone x ≡ true) × (isDone y ≡ true)
-both-done x y e = go (isDone x) refl e
-  where
-    go : (t : Bool) → isDone x ≡ t → isDone (cond t y x) ≡ true → (isDone x ≡ true) × (isDone y ≡ true)
-    go true h e = (h, e)
-    go false h e = (e, absurd (clash (sym h ∙ e)))
-      where
-        clash : false ≡ true → ⊥
-        clash z = let y : _≡_ {A = ℕ} 0 1 = cc in omega arith
+-- ---- what a job that is not refused tells of its counts
+pub record Counted (e1 s1 e2 s2 e3 s3 window unit map sizes : ℕ) : Type 0 where
+  pub strides : (s1 ≡ e1) × (s2 ≡ e2) × (s3 ≡ e3)
+  pub ranks : (e1 ≤ storedRankLimit) × (e2 ≤ storedRankLimit) × (e3 ≤ storedRankLimit)
+  pub lists : (window ≤ listLimit) × (unit ≤ listLimit) × (map ≤ listLimit) × (sizes ≤ listLimit)
 
-strides-done : (e s : ℕ) → isDone (strideLength e s) ≡ true → s ≡ e
-strides-done e s h = go (eqb s e) refl h
-  where
-    go : (t : Bool) → eqb s e ≡ t → isDone (cond t A.Done A.StrideLengthMismatch) ≡ true → s ≡ e
-    go true q h = eqb-true s e q
-    go false q h = let y : _≡_ {A = ℕ} 0 1 = cc in absurd (omega arith)
+rank-done : (n : ℕ) → isDone (rankStored n) ≡ true → n ≤ storedRankLimit
+rank-done n e = at-most n storedRankLimit (A.RankTooLarge n storedRankLimit) refl e
 
-pub rank-done : (n : ℕ) → isDone (rankStored n) ≡ true → n ≤ storedRankLimit
-rank-done n h = go (leb n storedRankLimit) refl h
-  where
-    go : (t : Bool) → leb n storedRankLimit ≡ t → isDone (cond t A.Done (A.RankTooLarge n storedRankLimit)) ≡ true → n ≤ storedRankLimit
-    go true q h = leb-true n storedRankLimit q
-    go false q h = let y : _≡_ {A = ℕ} 0 1 = cc in absurd (omega arith)
+list-done : (n : ℕ) → isDone (listAtMost n) ≡ true → n ≤ listLimit
+list-done n e = at-most n listLimit (A.RankMismatch n listLimit) refl e
 
-pub list-done : (n : ℕ) → isDone (listAtMost n) ≡ true → n ≤ listLimit
-list-done n h = go (leb n listLimit) refl h
-  where
-    go : (t : Bool) → leb n listLimit ≡ t → isDone (cond t A.Done (A.RankMismatch n listLimit)) ≡ true → n ≤ listLimit
-    go true q h = leb-true n listLimit q
-    go false q h = let y : _≡_ {A = ℕ} 0 1 = cc in absurd (omega arith)
+pub counted : (e1 s1 e2 s2 e3 s3 window unit map sizes : ℕ) → isDone (orElse (viewsRefusal e1 s1 e2 s2 e3 s3) (listsRefusal window unit map sizes)) ≡ true → Counted e1 s1 e2 s2 e3 s3 window unit map sizes
+unfolding viewsRefusal listsRefusal
+counted e1 s1 e2 s2 e3 s3 window unit map sizes d =
+    let p = or-done (viewsRefusal e1 s1 e2 s2 e3 s3) (listsRefusal window unit map sizes) d in
+    let p1 = or-done (strideLength e1 s1) _ (p .0) in
+    let p2 = or-done (strideLength e2 s2) _ (p1 .1) in
+    let p3 = or-done (strideLength e3 s3) _ (p2 .1) in
+    let p4 = or-done (rankStored e1) _ (p3 .1) in
+    let p5 = or-done (rankStored e2) (rankStored e3) (p4 .1) in
+    let q1 = or-done (listAtMost window) _ (p .1) in
+    let q2 = or-done (listAtMost unit) _ (q1 .1) in
+    let q3 = or-done (listAtMost map) (listAtMost sizes) (q2 .1) in
+    record {
+      strides = (same-length e1 s1 (p1 .0), same-length e2 s2 (p2 .0), same-length e3 s3 (p3 .0));
+      ranks = (rank-done e1 (p4 .0), rank-done e2 (p5 .0), rank-done e3 (p5 .1));
+      lists = (list-done window (q1 .0), list-done unit (q2 .0), list-done map (q3 .0), list-done sizes (q3 .1));
+    }
 
 view-made : (es : List ℕ) (ss : List ℤ) (o : ℤ) → length ss ≡ length es → length es ≤ storedRankLimit → AllBelow (2 ^ 64) es → AllFit ss → SFits w64 o → MadeView (viewOf es ss o)
 view-made es ss o s h a b f = record { extents = es; strides = ss; offset = o; is = refl; same = s; few = h; words = a; fits = b; fit = f }
@@ -90,27 +86,18 @@ module _ (element : Element) (e1 : List ℕ) (s1 : List ℤ) (o1 : ℤ) (e2 : Li
       → isDone (orElse (viewsRefusal (length e1) (length s1) (length e2) (length s2) (length e3) (length s3)) (listsRefusal (length window) (length unit) (length map) (length sizes))) ≡ true
       → (length sizes ≤ listLimit → MadeSizes kind (heldList sizes))
       → Made (record { kind = kind; element = element; views = viewsOf (viewOf e1 s1 o1) (viewOf e2 s2 o2) (viewOf e3 s3 o3); spec = specOf window unit map vector sizes })
-  unfolding viewsRefusal listsRefusal
   parts-made kind sizes d z =
-      let p = both-done (viewsRefusal (length e1) (length s1) (length e2) (length s2) (length e3) (length s3)) (listsRefusal (length window) (length unit) (length map) (length sizes)) d in
-      let p1 = both-done (strideLength (length e1) (length s1)) _ (p .0) in
-      let p2 = both-done (strideLength (length e2) (length s2)) _ (p1 .1) in
-      let p3 = both-done (strideLength (length e3) (length s3)) _ (p2 .1) in
-      let p4 = both-done (rankStored (length e1)) _ (p3 .1) in
-      let p5 = both-done (rankStored (length e2)) (rankStored (length e3)) (p4 .1) in
-      let q1 = both-done (listAtMost (length window)) _ (p .1) in
-      let q2 = both-done (listAtMost (length unit)) _ (q1 .1) in
-      let q3 = both-done (listAtMost (length map)) (listAtMost (length sizes)) (q2 .1) in
+      let c = counted (length e1) (length s1) (length e2) (length s2) (length e3) (length s3) (length window) (length unit) (length map) (length sizes) d in
       record {
-        first = view-made e1 s1 o1 (strides-done (length e1) (length s1) (p1 .0)) (rank-done (length e1) (p4 .0)) (held .extents .0) (held .strides .0) (held .offsets .0);
-        second = view-made e2 s2 o2 (strides-done (length e2) (length s2) (p2 .0)) (rank-done (length e2) (p5 .0)) (held .extents .1) (held .strides .1) (held .offsets .1);
-        third = view-made e3 s3 o3 (strides-done (length e3) (length s3) (p3 .0)) (rank-done (length e3) (p5 .1)) (held .extents .2) (held .strides .2) (held .offsets .2);
+        first = view-made e1 s1 o1 (c .strides .0) (c .ranks .0) (held .extents .0) (held .strides .0) (held .offsets .0);
+        second = view-made e2 s2 o2 (c .strides .1) (c .ranks .1) (held .extents .1) (held .strides .1) (held .offsets .1);
+        third = view-made e3 s3 o3 (c .strides .2) (c .ranks .2) (held .extents .2) (held .strides .2) (held .offsets .2);
         spec = record {
-          window = list-made window (list-done (length window) (q1 .0)) (held .lists .0);
-          unit = list-made unit (list-done (length unit) (q2 .0)) (held .lists .1);
-          start = list-made map (list-done (length map) (q3 .0)) (held .lists .2);
+          window = list-made window (c .lists .0) (held .lists .0);
+          unit = list-made unit (c .lists .1) (held .lists .1);
+          start = list-made map (c .lists .2) (held .lists .2);
           vector = held .vectors;
-          sizes = z (list-done (length sizes) (q3 .1));
+          sizes = z (c .lists .3);
         };
       }
 

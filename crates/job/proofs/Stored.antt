@@ -9,7 +9,7 @@ use lib.Seq.{length-take-le}
 use lib.IntN.{ℤ}
 use Rattle.layout.specs.declared.View.{View}
 use Rattle.layout.specs.Answers.{isDone}
-use Rattle.layout.specs.Layouts.{rankLimit, extentsOf, stridesOf, strideLength}
+use Rattle.layout.specs.Layouts.{rankLimit, extentsOf, stridesOf}
 use Rattle.job_bytes.specs.Fields.{bytesOf, wordsOf, wordOf}
 use Rattle.job_bytes.specs.Version.{storedRankLimit, listLimit, stored-held}
 use Rattle.job_bytes.specs.Below.{AllFit, fit-none, fit-more}
@@ -18,11 +18,11 @@ use Rattle.job.specs.declared.Kind.{Kind}
 use Rattle.job.specs.declared.Kind.the-variants as K
 use Rattle.job.specs.declared.List16.{List16}
 use Rattle.job.specs.declared.Job.{Job}
-use Rattle.job.specs.Jobs.{heldList, entriesOf, rankStored, listAtMost, viewsRefusal, listsRefusal, storedSizes, jobRefusal}
+use Rattle.job.specs.Jobs.{heldList, entriesOf, storedSizes, jobRefusal}
 use Rattle.job.specs.Format.{viewBytes, listBytes, sizesBytes, specBytes, viewsBytes, bodyBytes, encoded, jobAt}
 use Rattle.job.specs.Made.{MadeView, MadeList, MadeSizes, Made, storedView, storedJob, ViewValue, ListValue, JobValue}
 use Rattle.job.proofs.PartsBack.{list-bytes, view-bytes}
-use Rattle.job.proofs.Making.{both-done, rank-done, list-done}
+use Rattle.job.proofs.Making.{Counted, counted}
 
 fit-take : (k : ℕ) (zs : List ℤ) → AllFit zs → AllFit (take k zs)
 fit-take zero zs a = fit-none
@@ -80,58 +80,25 @@ sizes-same K.Scatter l w h = refl
 
 -- ---- the job
 module _ (j : Job) (w : JobValue j) (d : isDone (jobRefusal j) ≡ true) where
-  -- what no refusal tells
-  pub record Few : Type 0 where
-    pub first : j .views .first .layout .rank ≤ storedRankLimit
-    pub second : j .views .second .layout .rank ≤ storedRankLimit
-    pub third : j .views .third .layout .rank ≤ storedRankLimit
-    pub window : j .spec .«window_dims» .count ≤ listLimit
-    pub unit : j .spec .«unit_dims» .count ≤ listLimit
-    pub start : j .spec .«start_map» .count ≤ listLimit
-    pub sizes : storedSizes (j .kind) (j .spec .«slice_sizes») .count ≤ listLimit
+  abbrev ranks : ℕ × ℕ × ℕ
+  ranks = (j .views .first .layout .rank, j .views .second .layout .rank, j .views .third .layout .rank)
 
-  few : Few
-  unfolding viewsRefusal listsRefusal
-  few =
-      let a : ℕ = j .views .first .layout .rank in
-      let b : ℕ = j .views .second .layout .rank in
-      let c : ℕ = j .views .third .layout .rank in
-      let lw : ℕ = j .spec .«window_dims» .count in
-      let lu : ℕ = j .spec .«unit_dims» .count in
-      let lm : ℕ = j .spec .«start_map» .count in
-      let ls : ℕ = storedSizes (j .kind) (j .spec .«slice_sizes») .count in
-      let p = both-done (viewsRefusal a a b b c c) (listsRefusal lw lu lm ls) d in
-      let p1 = both-done (strideLength a a) _ (p .0) in
-      let p2 = both-done (strideLength b b) _ (p1 .1) in
-      let p3 = both-done (strideLength c c) _ (p2 .1) in
-      let p4 = both-done (rankStored a) _ (p3 .1) in
-      let p5 = both-done (rankStored b) (rankStored c) (p4 .1) in
-      let q1 = both-done (listAtMost lw) _ (p .1) in
-      let q2 = both-done (listAtMost lu) _ (q1 .1) in
-      let q3 = both-done (listAtMost lm) (listAtMost ls) (q2 .1) in
-      record {
-        first = rank-done a (p4 .0);
-        second = rank-done b (p5 .0);
-        third = rank-done c (p5 .1);
-        window = list-done lw (q1 .0);
-        unit = list-done lu (q2 .0);
-        start = list-done lm (q3 .0);
-        sizes = list-done ls (q3 .1);
-      }
+  few : Counted (ranks .0) (ranks .0) (ranks .1) (ranks .1) (ranks .2) (ranks .2) (j .spec .«window_dims» .count) (j .spec .«unit_dims» .count) (j .spec .«start_map» .count) (storedSizes (j .kind) (j .spec .«slice_sizes») .count)
+  few = counted (ranks .0) (ranks .0) (ranks .1) (ranks .1) (ranks .2) (ranks .2) (j .spec .«window_dims» .count) (j .spec .«unit_dims» .count) (j .spec .«start_map» .count) (storedSizes (j .kind) (j .spec .«slice_sizes») .count) d
 
   pub stored-made : Made (storedJob j)
   unfolding storedJob
   stored-made =
       record {
-        first = view-stored (j .views .first) (w .first) (few .first);
-        second = view-stored (j .views .second) (w .second) (few .second);
-        third = view-stored (j .views .third) (w .third) (few .third);
+        first = view-stored (j .views .first) (w .first) (few .ranks .0);
+        second = view-stored (j .views .second) (w .second) (few .ranks .1);
+        third = view-stored (j .views .third) (w .third) (few .ranks .2);
         spec = record {
-          window = list-stored (j .spec .«window_dims») (w .window) (few .window);
-          unit = list-stored (j .spec .«unit_dims») (w .unit) (few .unit);
-          start = list-stored (j .spec .«start_map») (w .start) (few .start);
+          window = list-stored (j .spec .«window_dims») (w .window) (few .lists .0);
+          unit = list-stored (j .spec .«unit_dims») (w .unit) (few .lists .1);
+          start = list-stored (j .spec .«start_map») (w .start) (few .lists .2);
           vector = w .vector;
-          sizes = sizes-stored (j .kind) (j .spec .«slice_sizes») (w .sizes) (few .sizes);
+          sizes = sizes-stored (j .kind) (j .spec .«slice_sizes») (w .sizes) (few .lists .3);
         };
       }
 
@@ -139,13 +106,13 @@ module _ (j : Job) (w : JobValue j) (d : isDone (jobRefusal j) ≡ true) where
   unfolding storedJob bodyBytes viewsBytes specBytes
   body-same =
       rw (
-        view-same (j .views .first) (w .first) (few .first),
-        view-same (j .views .second) (w .second) (few .second),
-        view-same (j .views .third) (w .third) (few .third),
-        list-same (j .spec .«window_dims») (w .window) (few .window),
-        list-same (j .spec .«unit_dims») (w .unit) (few .unit),
-        list-same (j .spec .«start_map») (w .start) (few .start),
-        sizes-same (j .kind) (j .spec .«slice_sizes») (w .sizes) (few .sizes),
+        view-same (j .views .first) (w .first) (few .ranks .0),
+        view-same (j .views .second) (w .second) (few .ranks .1),
+        view-same (j .views .third) (w .third) (few .ranks .2),
+        list-same (j .spec .«window_dims») (w .window) (few .lists .0),
+        list-same (j .spec .«unit_dims») (w .unit) (few .lists .1),
+        list-same (j .spec .«start_map») (w .start) (few .lists .2),
+        sizes-same (j .kind) (j .spec .«slice_sizes») (w .sizes) (few .lists .3),
       )
 
   pub same-bytes : encoded (storedJob j) ≡ encoded j

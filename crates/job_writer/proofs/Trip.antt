@@ -7,6 +7,7 @@ use lib.ListN.{length, take, drop}
 use lib.Seq.{take-append-seam}
 use Rattle.layout.specs.declared.Answer.the-variants as A
 use Rattle.layout.specs.Answers.{isDone}
+use Rattle.checks.proofs.Made.{or-done}
 use Rattle.job_bytes.specs.Fields.{read}
 use Rattle.job_bytes.specs.Below.{AllBelow}
 use Rattle.job.specs.declared.Job.{Job}
@@ -14,7 +15,6 @@ use Rattle.job.specs.Jobs.{jobRefusal}
 use Rattle.job.specs.Format.{encoded, jobAt}
 use Rattle.job.specs.Made.{Made, storedJob, JobValue}
 use Rattle.job.proofs.RoundTrip.{written-read, read-written}
-use Rattle.job.proofs.Making.{both-done}
 use Rattle.job.proofs.Stored.{stored-made, same-bytes}
 use Rattle.job_writer.specs.Written.{roomRefusal, Written}
 
@@ -26,7 +26,7 @@ module _ (j : Job) (before after : List ℕ) (w : Written j before A.Done after)
   -- "Writing and reading back gives the same job": of every value what is stored of it, which has no more axes and entries than it says
   pub write-read : JobValue j → jobAt (take (length (encoded j)) after) ≡ read (storedJob j) (length (encoded j))
   write-read v =
-      let d : isDone (jobRefusal j) ≡ true = both-done (jobRefusal j) (roomRefusal j (length before)) (ap isDone (sym (w .answers))) .0 in
+      let d : isDone (jobRefusal j) ≡ true = or-done (jobRefusal j) (roomRefusal j (length before)) (ap isDone (sym (w .answers))) .0 in
       ap jobAt (front ∙ sym (same-bytes j v d)) ∙ written-read (storedJob j) (stored-made j v d) ∙ ap (λ (b : List ℕ). read (storedJob j) (length b)) (same-bytes j v d)
 
   -- and of a job that was made or read, that job
