@@ -15,7 +15,7 @@ use Rattle.indexing.specs.Steps.{vectorStride, windowSteps, batchSteps}
 use Rattle.layout.specs.declared.Answer.{Answer}
 use Rattle.layout.specs.Answers.{isDone}
 use Rattle.layout.specs.Layouts.{rankLimit, padded, layoutOf, extentsOf, stridesOf, strideLength, rankAtMost}
-use Rattle.layout.specs.Spans.{totalOf, resetOf}
+use Rattle.layout.specs.Spans.{totalOf, resetOf, reset}
 use Rattle.layout.specs.Laws.{total-is, reset-is}
 use Rattle.axis_lists.proofs.Filling.{read-back, length-others}
 use Rattle.checks.specs.Checks.{totalFits, numberFits}
@@ -24,7 +24,7 @@ use Rattle.checks.proofs.Made.{or-done, few-axes}
 use Rattle.checks.proofs.Lists.{axes-few, tabulate-same}
 use Rattle.checks.proofs.Fits.{fits-value, total-value, offset-value, first-each}
 use Rattle.gather_checks.specs.Refusals.{resetsAt, refusalOf}
-use Rattle.gather_plan.specs.Plan.{reset, axisOf, noAxis, roleOf}
+use Rattle.gather_plan.specs.Plan.{axisOf, noAxis, roleOf}
 use Rattle.gather_plan.specs.Made.{axisFrom, axesFrom}
 use Rattle.gather_plan.proofs.Valid.{checks, valid, shown-count, offsets-fit}
 

@@ -26,9 +26,10 @@ use Rattle.axis_lists.proofs.Without.{length-starts}
 use Rattle.components.proofs.Padded.{padded-entry}
 use Rattle.checks.proofs.Held.{length-padded}
 use Rattle.gather_checks.specs.Refusals.{refusalOf}
+use Rattle.layout.specs.Spans.{reset}
 use Rattle.gather_plan.specs.declared.Role.the-variants.{Batch, Window}
 use Rattle.gather_plan.specs.declared.GatherReplayAxis.{GatherReplayAxis}
-use Rattle.gather_plan.specs.Plan.{reset, noAxis, axisOf, planOf}
+use Rattle.gather_plan.specs.Plan.{noAxis, axisOf, planOf}
 use Rattle.gather_plan.specs.Numbers.{WindowAxis, BatchAxis, stepped, windowPlace, componentPlace, NextCell}
 use Rattle.gather_plan.proofs.Roles.{window-moves, window-stays, batch-stays, among-batch}
 use Rattle.gather_plan.proofs.Valid.{valid, shown-count}

@@ -1,16 +1,17 @@
 -- To be believed. The plan of a gather by value, and what compile gives: document 01, "The window read". Definitions only.
 use mathlib.Core.Bool.{cond}
 use mathlib.Core.List.{List, [], _∷_}
-use Prim.Native.Nat.{ℕ, _-_}
+use Prim.Native.Nat.{ℕ}
 use lib.Dec.{eqb}
 use lib.ListN.{length, getD, replicate}
-use lib.IntN.{ℤ, pos, negℤ, _*ℤ_}
+use lib.IntN.{ℤ, pos, _*ℤ_}
 use Rattle.indexing.specs.Coordinates.{rank, product, pick, tabulate}
 use Rattle.indexing.specs.Gather.{Gather, shownDims}
 use Rattle.indexing.specs.Steps.{vectorStride, windowSteps, batchSteps}
 use Rattle.layout.specs.declared.Answer.{Answer}
 use Rattle.layout.specs.declared.Answer.the-variants as A
 use Rattle.layout.specs.Answers.{isDone}
+use Rattle.layout.specs.Spans.{reset}
 use Rattle.layout.specs.Layouts.{rankLimit, padded, layoutOf, extentsOf, stridesOf}
 use Rattle.axis_lists.specs.Held.{numbersOf, heldNumbers, heldSteps}
 use Rattle.checks.specs.Nothing.{noLayout, noNumbers, noSteps}
@@ -26,10 +27,6 @@ unfoldable pub roleOf : List ℕ → List ℕ → ℕ → Role
 roleOf [] shown a = Batch
 roleOf (b ∷ offsets) [] a = Batch
 roleOf (b ∷ offsets) (k ∷ shown) a = cond (eqb b a) (Window k) (roleOf offsets shown a)
-
--- Reset: extent − 1 times the stride, negated; 0 at extent 0
-abbrev pub reset : ℕ → ℤ → ℤ
-reset d s = negℤ (s *ℤ pos (d - 1))
 
 -- an axis: its role, and its steps in the destination, in the operand and in the index view, with the reset of each at its extent
 abbrev pub axisWith : (ℕ → ℤ → ℤ) → Role → ℕ → ℤ → ℤ → ℤ → GatherReplayAxis

@@ -21,7 +21,7 @@ use Rattle.layout.specs.declared.OffsetSpan.{OffsetSpan}
 use Rattle.layout.specs.declared.OffsetSpan.the-variants as S
 use Rattle.indexing.specs.Coordinates.{product, dot, Within}
 use Rattle.indexing.specs.Reach.{belowZero, aboveZero, lowest, highest, dot-low, dot-high}
-use Rattle.layout.specs.Spans.{andThen, andThenU, spanOf, andSpan, totalFrom, totalOf, reachOf, widenBy, widened, spanFrom, spanned, resetOf, offsetAdd, stridedOffset}
+use Rattle.layout.specs.Spans.{andThen, andThenU, spanOf, andSpan, totalFrom, totalOf, reachOf, widenBy, widened, spanFrom, spanned, reset, resetOf, offsetAdd, stridedOffset}
 
 zero-ne : _≡_ {A = ℕ} 0 1 → ⊥
 zero-ne e = omega arith
@@ -61,7 +61,7 @@ reach-is d s r e =
     let t = then-inv (checked (pos (d - 1))) (λ m. checked (s *ℤ m)) r e in
     sym (checked-fits (s *ℤ t .0) r (t .2)) ∙ ap (λ (z : ℤ). s *ℤ z) (sym (checked-fits (pos (d - 1)) (t .0) (t .1)))
 
-pub reset-is : (d : ℕ) (s r : ℤ) → resetOf d s ≡ C.Fits r → r ≡ negℤ (s *ℤ pos (d - 1))
+pub reset-is : (d : ℕ) (s r : ℤ) → resetOf d s ≡ C.Fits r → r ≡ reset d s
 unfolding resetOf
 reset-is zero s r e = let x : pos 0 ≡ r = cc in sym x ∙ ap negℤ (sym (*ℤ-zero s))
 reset-is (suc m) s r e =

@@ -56,6 +56,10 @@ spanFrom low high (d ∷ ds) (s ∷ ss) = andSpan (widened low high d s) (λ l h
 abbrev pub spanned : List ℕ → List ℤ → OffsetSpan
 spanned ds ss = spanFrom (pos 0) (pos 0) ds ss
 
+-- Reset, as an exact number: extent − 1 times the stride, negated; 0 at extent 0
+abbrev pub reset : ℕ → ℤ → ℤ
+reset d s = negℤ (s *ℤ pos (d - 1))
+
 -- Reset: extent − 1, its product with the stride and that negated must fit; 0 at extent 0
 unfoldable pub resetOf : ℕ → ℤ → Checked
 resetOf zero s = C.Fits (pos 0)

@@ -1,10 +1,10 @@
 -- To be believed. The walk of a window over two sides, source and destination (000, `WindowReplay`): document 01's sentence on walks, over exact integers. Definitions only.
 use mathlib.Core.Bool.{Bool, true, false, cond, _&&_}
 use mathlib.Core.List.{List, [], _∷_, map}
-use Prim.Native.Nat.{ℕ, _*_, _-_, _^_}
+use Prim.Native.Nat.{ℕ, _*_, _^_}
 use lib.Dec.{ltb}
 use lib.ListN.{length, getD, replicate}
-use lib.IntN.{ℤ, pos, negℤ, _*ℤ_}
+use lib.IntN.{ℤ, pos, _*ℤ_}
 use Rattle.integer.specs.Defs.{checked, eqZ}
 use Rattle.integer.specs.declared.Checked.{Checked}
 use Rattle.integer.specs.declared.Checked.the-variants as C
@@ -13,7 +13,7 @@ use Rattle.layout.specs.declared.Answer.the-variants as N
 use Rattle.layout.specs.declared.OffsetSpan.{OffsetSpan}
 use Rattle.layout.specs.declared.OffsetSpan.the-variants as S
 use Rattle.layout.specs.Layouts.{rankLimit, padded}
-use Rattle.layout.specs.Spans.{spanned, resetOf}
+use Rattle.layout.specs.Spans.{spanned, reset, resetOf}
 use Rattle.replay.specs.declared.WindowReplayAxis.{WindowReplayAxis}
 use Rattle.replay.specs.declared.ReplaySpans.{ReplaySpans}
 use Rattle.replay.specs.declared.CompiledReplay.{CompiledReplay}
@@ -24,7 +24,7 @@ theAxis d s sr t tr = record { extent = d; «source_step» = s; «source_reset»
 
 -- an axis of extent d with steps s and t; a reset goes back over extent − 1 steps
 abbrev pub axisOf : ℕ → ℤ → ℤ → WindowReplayAxis
-axisOf d s t = theAxis d s (negℤ (s *ℤ pos (d - 1))) t (negℤ (t *ℤ pos (d - 1)))
+axisOf d s t = theAxis d s (reset d s) t (reset d t)
 
 -- the axes as they are given
 unfoldable pub givenAxes : List ℕ → List ℤ → List ℤ → List WindowReplayAxis
