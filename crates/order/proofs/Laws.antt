@@ -59,6 +59,11 @@ module _ {B : Type 0} (says : Answer → B) where
       let sb = second-answer north south grid m one a b p q in
       let nd = second-answer south north grid′ m′ other c d r s in
       let n : ℕ = length grid in
+      let grids : grid ≡ grid′ → one ≡ other =
+      λ e.
+      one-left ∙ updates-either-order (putBy north n) (putBy south n) grid
+      ∙ ap (λ (g : List ℤ). putOn (putBy north (length g)) (putOn (putBy south (length g)) g)) e ∙ sym other-left
+      in
       record {
         north-first = p .answered;
         south-second = sb;
@@ -67,9 +72,7 @@ module _ {B : Type 0} (says : Answer → B) where
         one-left = one-left;
         other-left = other-left;
         same-answers = λ e. (p .answered ∙ ap (λ (g : List ℤ). says (north .answer (length g))) e ∙ sym nd, r .answered ∙ ap (λ (g : List ℤ). says (south .answer (length g))) (sym e) ∙ sym sb);
-        same-grids = λ e.
-            one-left ∙ updates-either-order (putBy north n) (putBy south n) grid
-            ∙ ap (λ (g : List ℤ). putOn (putBy north (length g)) (putOn (putBy south (length g)) g)) e ∙ sym other-left;
+        same-grids = grids;
         each-cell = λ i h. ap (λ (g : List ℤ). getD g i (pos 0)) one-left ∙ updates-two (putBy north n) (putBy south n) grid i h;
         both-done = λ e x y.
             let up = done-updates (isDone (north .answer n)) (updatesOf north) x in
@@ -81,7 +84,7 @@ module _ {B : Type 0} (says : Answer → B) where
               answers = (p .answered ∙ ap says nn, sb ∙ ap says ss, r .answered ∙ ap (λ (k : ℕ). says (south .answer k)) m ∙ ap says ss, nd ∙ ap (λ (k : ℕ). says (north .answer k)) m ∙ ap says nn);
               one-left = one-left ∙ puts-done north south grid n x y;
               other-left = other-left ∙ ap₂ (λ (k : ℕ) (g : List ℤ). putOn (putBy north k) (putOn (putBy south k) g)) m (sym e) ∙ puts-done south north grid n y x;
-              same-grids = one-left ∙ updates-either-order (putBy north n) (putBy south n) grid ∙ ap (λ (g : List ℤ). putOn (putBy north (length g)) (putOn (putBy south (length g)) g)) e ∙ sym other-left;
+              same-grids = grids e;
               each-cell = λ i h. ap (λ (g : List ℤ). getD g i (pos 0)) one-left ∙ updates-two (putBy north n) (putBy south n) grid i h ∙ ap₂ (λ (u v : List (Update ℤ)). added (getD grid i (pos 0)) (landing (pos i) u ++ landing (pos i) v)) up us;
               each-sum = λ i h f.
                   ap (λ (g : List ℤ). getD g i (pos 0)) one-left ∙ updates-two-i32 (putBy north n) (putBy south n) grid i h f
