@@ -17,7 +17,7 @@ use Rattle.runs.proofs.Place.{read, machine, Step, step}
 use Rattle.windows.specs.Windows.{placeAt}
 use Rattle.windows.proofs.Last.{product-top, positive-top, place-top, digit-below, place-first}
 use Rattle.windows.proofs.Levels.{region-below, region-bases}
-use Rattle.scatter_windows.specs.Scattering.{Walk}
+use Rattle.scatter_windows.specs.Scattering.{BatchPlaces}
 
 -- ---- what is done
 module _ {C : Type 0} (act : ℤ → ℤ → C → C) (shape : List ℕ) (ts us : List ℤ) where
@@ -47,9 +47,9 @@ module _ {C : Type 0} (act : ℤ → ℤ → C → C) (shape : List ℕ) (ts us 
       ∙ ap (λ (k : ℕ). inOrder (λ b. act (placeAt t shape ts (suc top) b) (placeAt u shape us (suc top) b)) k x) (sym (product-top shape top le))
 
 -- ---- where the batches lie: below place j of the last axis
-walk-below : (P : ℤ → ℤ → Type 0) (t u : ℤ) (shape : List ℕ) (ts us : List ℤ) (top sn : ℕ) → Walk P t u shape ts us (suc top) sn → (j : ℕ) → j < getD shape top 0
-    → Walk P (line t (getD ts top (pos 0)) j) (line u (getD us top (pos 0)) j) shape ts us top sn
-walk-below P t u shape ts us top sn w j h =
+places-below : (P : ℤ → ℤ → Type 0) (t u : ℤ) (shape : List ℕ) (ts us : List ℤ) (top sn : ℕ) → BatchPlaces P t u shape ts us (suc top) sn → (j : ℕ) → j < getD shape top 0
+    → BatchPlaces P (line t (getD ts top (pos 0)) j) (line u (getD us top (pos 0)) j) shape ts us top sn
+places-below P t u shape ts us top sn w j h =
     let small = w .small in
     let le = w .index .extents in
     let lt = w .index .strided in
@@ -67,17 +67,17 @@ walk-below P t u shape ts us top sn w j h =
     }
 
 -- the one batch of no axes
-pub first-batch : (P : ℤ → ℤ → Type 0) (t u : ℤ) (shape : List ℕ) (ts us : List ℤ) (rank sn : ℕ) → Walk P t u shape ts us rank sn → rank ≡ 0 → P t u
+pub first-batch : (P : ℤ → ℤ → Type 0) (t u : ℤ) (shape : List ℕ) (ts us : List ℤ) (rank sn : ℕ) → BatchPlaces P t u shape ts us rank sn → rank ≡ 0 → P t u
 unfolding product
 first-batch P t u shape ts us rank sn w e =
     let one : 0 < product (take rank shape) = subst (λ (k : ℕ). 0 < product (take k shape)) (sym e) (omega arith) in
     subst (λ (x : ℤ). P x u) (place-first t shape ts rank) (subst (P (placeAt t shape ts rank 0)) (place-first u shape us rank) (w .each 0 one))
 
 -- ---- the same as the machine has it: numbers read back, and `top` for `rank - 1`. What is asked and done is by the destination's base d
-module _ (P : ℤ → ℤ → ℤ → Type 0) (t u d : ℤ) (shape : List ℕ) (ts us : List ℤ) (rank sn : ℕ) (w : Walk (P d) t u shape ts us rank sn) (ft : SFits w64 t) (fu : SFits w64 u) (fd : SFits w64 d)
+module _ (P : ℤ → ℤ → ℤ → Type 0) (t u d : ℤ) (shape : List ℕ) (ts us : List ℤ) (rank sn : ℕ) (w : BatchPlaces (P d) t u shape ts us rank sn) (ft : SFits w64 t) (fu : SFits w64 u) (fd : SFits w64 d)
     (top : ℕ) (e : rank ≡ suc top) (fa : SFits w64 (getD ts top (pos 0))) (fc : SFits w64 (getD us top (pos 0))) where
-  here : Walk (P d) t u shape ts us (suc top) sn
-  here = subst (λ (r : ℕ). Walk (P d) t u shape ts us r sn) e w
+  here : BatchPlaces (P d) t u shape ts us (suc top) sn
+  here = subst (λ (r : ℕ). BatchPlaces (P d) t u shape ts us r sn) e w
 
   cells : AllPos (take top shape)
   cells = positive-top shape top (omega (arith, here .index .extents)) (here .positive) .0
@@ -90,11 +90,11 @@ module _ (P : ℤ → ℤ → ℤ → Type 0) (t u d : ℤ) (shape : List ℕ) (
     pub step-update : Step u (getD us top (pos 0)) j sn
     step-update = step u (getD us top (pos 0)) (getD shape top 0) sn fu fc (region-bases u shape us top sn (here .updates) cells) r j h
 
-    pub step-walk : Walk (P (read d)) (machine t (getD ts top (pos 0)) j) (machine u (getD us top (pos 0)) j) shape ts us top sn
-    step-walk =
-        subst (λ (x : ℤ). Walk (P x) (machine t (getD ts top (pos 0)) j) (machine u (getD us top (pos 0)) j) shape ts us top sn) (sym (back fd))
-        (subst (λ (x : ℤ). Walk (P d) x (machine u (getD us top (pos 0)) j) shape ts us top sn) (sym (step-index .is))
-        (subst (λ (x : ℤ). Walk (P d) (line t (getD ts top (pos 0)) j) x shape ts us top sn) (sym (step-update .is)) (walk-below (P d) t u shape ts us top sn here j h)))
+    pub step-places : BatchPlaces (P (read d)) (machine t (getD ts top (pos 0)) j) (machine u (getD us top (pos 0)) j) shape ts us top sn
+    step-places =
+        subst (λ (x : ℤ). BatchPlaces (P x) (machine t (getD ts top (pos 0)) j) (machine u (getD us top (pos 0)) j) shape ts us top sn) (sym (back fd))
+        (subst (λ (x : ℤ). BatchPlaces (P d) x (machine u (getD us top (pos 0)) j) shape ts us top sn) (sym (step-index .is))
+        (subst (λ (x : ℤ). BatchPlaces (P d) (line t (getD ts top (pos 0)) j) x shape ts us top sn) (sym (step-update .is)) (places-below (P d) t u shape ts us top sn here j h)))
 
   module _ {C : Type 0} (act : ℤ → ℤ → ℤ → C → C) where
     -- the loop's turns, by what it reads back
@@ -126,7 +126,7 @@ over-back act t u d shape ts us rank ft fu fd x y h =
     ∙ ap (λ (v : ℤ). over (act v) shape ts us (read t) (read u) rank x) (back fd)
     ∙ ap₂ (λ (a b : ℤ). over (act d) shape ts us a b rank x) (back ft) (back fu)
 
-pub walk-back : (P : ℤ → ℤ → ℤ → Type 0) (t u d : ℤ) (shape : List ℕ) (ts us : List ℤ) (rank sn : ℕ) → SFits w64 t → SFits w64 u → SFits w64 d → Walk (P d) t u shape ts us rank sn → Walk (P (read d)) (read t) (read u) shape ts us rank sn
-walk-back P t u d shape ts us rank sn ft fu fd w =
-    subst (λ (x : ℤ). Walk (P x) (read t) (read u) shape ts us rank sn) (sym (back fd))
-    (subst (λ (x : ℤ). Walk (P d) x (read u) shape ts us rank sn) (sym (back ft)) (subst (λ (x : ℤ). Walk (P d) t x shape ts us rank sn) (sym (back fu)) w))
+pub places-back : (P : ℤ → ℤ → ℤ → Type 0) (t u d : ℤ) (shape : List ℕ) (ts us : List ℤ) (rank sn : ℕ) → SFits w64 t → SFits w64 u → SFits w64 d → BatchPlaces (P d) t u shape ts us rank sn → BatchPlaces (P (read d)) (read t) (read u) shape ts us rank sn
+places-back P t u d shape ts us rank sn ft fu fd w =
+    subst (λ (x : ℤ). BatchPlaces (P x) (read t) (read u) shape ts us rank sn) (sym (back fd))
+    (subst (λ (x : ℤ). BatchPlaces (P d) x (read u) shape ts us rank sn) (sym (back ft)) (subst (λ (x : ℤ). BatchPlaces (P d) t x shape ts us rank sn) (sym (back fu)) w))

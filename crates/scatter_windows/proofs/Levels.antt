@@ -18,7 +18,7 @@ use Rattle.windows.proofs.Levels.{region-line}
 use Rattle.indexed_runs.specs.IndexedRuns.{startAt, Starting, movedAt, Putting}
 use Rattle.indexed_runs.proofs.Puts.{puts-end}
 use Rattle.scatter_windows.specs.Scattering.{putBy, PutLevel}
-use Rattle.scatter_windows.proofs.Batches.{step-walk}
+use Rattle.scatter_windows.proofs.Batches.{step-places}
 
 module _ {A : Type 0} (z : A) (rule : A → A → A) (src : List A) (starts offsets strides : List ℤ) (limits : List ℕ) (count : ℕ) where
   -- what is done at a batch whose start is read at x and whose first update is at y: where its window has one cell, and else
@@ -32,7 +32,7 @@ module _ {A : Type 0} (z : A) (rule : A → A → A) (src : List A) (starts offs
 module _ (starts offsets strides : List ℤ) (limits : List ℕ) (count : ℕ) (t u d : ℤ) (shape : List ℕ) (ts us : List ℤ) (top sn dn : ℕ) (l : PutLevel starts offsets strides limits count t u d shape ts us top (suc top) sn dn) where
   putting : Putting starts offsets strides limits count u t d (getD us top (pos 0)) (getD ts top (pos 0)) (getD shape top 0) sn dn
   putting =
-      let w = l .walk in
+      let w = l .places in
       let le = w .index .extents in
       let lt = w .index .strided in
       record {
@@ -47,9 +47,9 @@ module _ (starts offsets strides : List ℤ) (limits : List ℕ) (count : ℕ) (
       → inOrder (cellAt z rule src (line u (getD us top (pos 0))) (movedAt starts offsets strides limits count (λ _. d) (line t (getD ts top (pos 0))))) (getD shape top 0) x
       ≡ putBy z rule src starts offsets strides limits count t u d shape ts us (suc top) x
   run-is z rule src x =
-      let le = l .walk .index .extents in
-      let lt = l .walk .index .strided in
-      let lu = l .walk .updates .strided in
+      let le = l .places .index .extents in
+      let lt = l .places .index .strided in
+      let lu = l .places .updates .strided in
       sym (same-places z rule src (placeAt u shape us (suc top)) (movedAt starts offsets strides limits count (λ _. d) (placeAt t shape ts (suc top))) (line u (getD us top (pos 0))) (movedAt starts offsets strides limits count (λ _. d) (line t (getD ts top (pos 0)))) (getD shape top 0)
       (λ k h. units-place u top shape us k (omega arith) (omega arith) (l .units) h)
       (λ k h. ap (λ (a : ℤ). d +ℤ startAt starts offsets strides limits a count) (units-place t top shape ts k (omega arith) (omega arith) (l .units) h)) x)
@@ -60,7 +60,7 @@ module _ (starts offsets strides : List ℤ) (limits : List ℕ) (count : ℕ) (
     (top : ℕ) (e : rank ≡ suc top) (fa : SFits w64 (getD ts top (pos 0))) (fc : SFits w64 (getD us top (pos 0))) where
   pub step-put : sn < 2 ^ 63 → (j : ℕ) → j < getD shape top 0 → low < top
       → PutLevel starts offsets strides limits count (machine t (getD ts top (pos 0)) j) (machine u (getD us top (pos 0)) j) (read d) shape ts us low top sn dn
-  step-put r j h k = record { below = k; units = w .units; walk = step-walk (λ d x y. Starting starts offsets strides limits d x count dn) t u d shape ts us rank sn (w .walk) ft fu fd top e fa fc r j h }
+  step-put r j h k = record { below = k; units = w .units; places = step-places (λ d x y. Starting starts offsets strides limits d x count dn) t u d shape ts us rank sn (w .places) ft fu fd top e fa fc r j h }
 
   run-here : top ≡ low → PutLevel starts offsets strides limits count t u d shape ts us top (suc top) sn dn
   run-here g = subst (λ (k : ℕ). PutLevel starts offsets strides limits count t u d shape ts us k (suc top) sn dn) (sym g) (subst (λ (r : ℕ). PutLevel starts offsets strides limits count t u d shape ts us low r sn dn) e w)

@@ -20,8 +20,8 @@ use Rattle.runs.proofs.Place.{read, line-zero}
 use Rattle.windows.specs.Windows.{placeAt, windowed, Region, Units}
 use Rattle.windows.proofs.Last.{place-first, no-cells, units-product}
 use Rattle.indexed_runs.specs.IndexedRuns.{startAt, Starting, movedAt, Putting}
-use Rattle.scatter_windows.specs.Scattering.{scatteredBy, putBy, Batches, Scattering, Walk, Landing, PutLevel}
-use Rattle.scatter_windows.proofs.Batches.{over-none, first-batch, over-back, walk-back}
+use Rattle.scatter_windows.specs.Scattering.{scatteredBy, putBy, Batches, Scattering, BatchPlaces, Landing, PutLevel}
+use Rattle.scatter_windows.proofs.Batches.{over-none, first-batch, over-back, places-back}
 use Rattle.scatter_windows.proofs.Levels.{put, land}
 
 only-zero : (P : ℕ → Type 0) → P 0 → (k : ℕ) → k < 1 → P k
@@ -29,7 +29,7 @@ only-zero P p k h = let z : 0 ≡ k = omega arith in subst P z p
 
 -- ---- windows of one cell, and any number of batch axes
 module _ (starts offsets strides : List ℤ) (limits : List ℕ) (count : ℕ) (t u d : ℤ) (shape : List ℕ) (ts us : List ℤ) (rank sn dn : ℕ)
-    (w : Walk (λ x y. Starting starts offsets strides limits d x count dn) t u shape ts us rank sn) (ft : SFits w64 t) (fu : SFits w64 u) (fd : SFits w64 d) where
+    (w : BatchPlaces (λ x y. Starting starts offsets strides limits d x count dn) t u shape ts us rank sn) (ft : SFits w64 t) (fu : SFits w64 u) (fd : SFits w64 d) where
   module _ (e : rank ≡ 0) where
     one-line : (base : ℤ) (steps : List ℤ) (m : ℕ) → Region base shape steps rank m → Line base (pos 0) 1 m
     unfolding product
@@ -59,7 +59,7 @@ module _ (starts offsets strides : List ℤ) (limits : List ℕ) (count : ℕ) (
         ∙ ap (λ (k : ℕ). putBy z rule src starts offsets strides limits count t u d shape ts us k x) (sym e)
 
   pub put-level : (low : ℕ) → low < rank → Units low shape → PutLevel starts offsets strides limits count (read t) (read u) (read d) shape ts us low rank sn dn
-  put-level low h g = record { below = h; units = g; walk = walk-back (λ d x y. Starting starts offsets strides limits d x count dn) t u d shape ts us rank sn ft fu fd w }
+  put-level low h g = record { below = h; units = g; places = places-back (λ d x y. Starting starts offsets strides limits d x count dn) t u d shape ts us rank sn ft fu fd w }
 
   pub put-end : {A : Type 0} (z : A) (rule : A → A → A) (src x y : List A) → y ≡ putBy z rule src starts offsets strides limits count (read t) (read u) (read d) shape ts us rank x
       → y ≡ putBy z rule src starts offsets strides limits count t u d shape ts us rank x
@@ -113,12 +113,12 @@ module _ (starts offsets strides : List ℤ) (limits : List ℕ) (count : ℕ) (
           inside = λ b h. subst (InSlice sn) (place-first (placeAt u bshape us brank b) wshape ws wrank) (g .source b h .inside 0 (product-pos (take wrank wshape) wp));
         }
 
-    walk-of : (P : ℤ → ℤ → Type 0) → ((b : ℕ) → b < product (take brank bshape) → P (placeAt t bshape ts brank b) (placeAt u bshape us brank b)) → Walk P t u bshape ts us brank sn
-    walk-of P f = record { small = w .small; positive = bp; index = here .index; updates = firsts; each = f }
+    places-of : (P : ℤ → ℤ → Type 0) → ((b : ℕ) → b < product (take brank bshape) → P (placeAt t bshape ts brank b) (placeAt u bshape us brank b)) → BatchPlaces P t u bshape ts us brank sn
+    places-of P f = record { small = w .small; positive = bp; index = here .index; updates = firsts; each = f }
 
     -- windows of one cell
-    pub each-asks : Walk (λ x y. Starting starts offsets strides limits (read d) x count dn) (read t) (read u) bshape ts us brank sn
-    each-asks = walk-back (λ d x y. Starting starts offsets strides limits d x count dn) t u d bshape ts us brank sn ft fu fd (walk-of (λ x y. Starting starts offsets strides limits d x count dn) (here .starting))
+    pub each-asks : BatchPlaces (λ x y. Starting starts offsets strides limits (read d) x count dn) (read t) (read u) bshape ts us brank sn
+    each-asks = places-back (λ d x y. Starting starts offsets strides limits d x count dn) t u d bshape ts us brank sn ft fu fd (places-of (λ x y. Starting starts offsets strides limits d x count dn) (here .starting))
 
     pub each-end : {A : Type 0} (z : A) (rule : A → A → A) (src x y : List A) → Units wrank wshape → y ≡ putBy z rule src starts offsets strides limits count (read t) (read u) (read d) bshape ts us brank x
         → y ≡ scatteredBy z rule src starts offsets strides limits count t u d bshape ts us brank wshape ws ds wrank x
@@ -128,10 +128,10 @@ module _ (starts offsets strides : List ℤ) (limits : List ℕ) (count : ℕ) (
         (λ b l v. unit-window z rule src (placeAt u bshape us brank b) (d +ℤ startAt starts offsets strides limits (placeAt t bshape ts brank b) count) wshape ws ds wrank (here .source b l .extents) g v) x
 
     -- windows of more
-    pub axes-asks : (low : ℕ) → low < wrank → Units low wshape → Walk (Landing starts offsets strides limits count (read d) wshape ws ds low wrank sn dn) (read t) (read u) bshape ts us brank sn
+    pub axes-asks : (low : ℕ) → low < wrank → Units low wshape → BatchPlaces (Landing starts offsets strides limits count (read d) wshape ws ds low wrank sn dn) (read t) (read u) bshape ts us brank sn
     axes-asks low h g =
-        walk-back (λ d. Landing starts offsets strides limits count d wshape ws ds low wrank sn dn) t u d bshape ts us brank sn ft fu fd
-        (walk-of (Landing starts offsets strides limits count d wshape ws ds low wrank sn dn)
+        places-back (λ d. Landing starts offsets strides limits count d wshape ws ds low wrank sn dn) t u d bshape ts us brank sn ft fu fd
+        (places-of (Landing starts offsets strides limits count d wshape ws ds low wrank sn dn)
         (λ b l. record { starting = here .starting b l; window = record { below = h; units = g; positive = wp; window = record { small = w .window-small; source = here .source b l; dest = here .dest b l } } }))
 
     pub axes-end : {A : Type 0} (z : A) (rule : A → A → A) (src x y : List A) → y ≡ scatteredBy z rule src starts offsets strides limits count (read t) (read u) (read d) bshape ts us brank wshape ws ds wrank x

@@ -43,7 +43,7 @@ pub record OneCell (r : Bool) (shape : List ℕ) (rank : ℕ) : Type 0 where
   pub no : r ≡ false → Units rank shape → ⊥
 
 -- batches, of which there are some, with their places of starts and updates; P is asked of both places of each
-pub record Walk (P : ℤ → ℤ → Type 0) (t u : ℤ) (shape : List ℕ) (ts us : List ℤ) (rank sn : ℕ) : Type 0 where
+pub record BatchPlaces (P : ℤ → ℤ → Type 0) (t u : ℤ) (shape : List ℕ) (ts us : List ℤ) (rank sn : ℕ) : Type 0 where
   pub small : rank ≤ rankLimit
   pub positive : AllPos (take rank shape)
   pub index : Region t shape ts rank (2 ^ 63 - 1)
@@ -59,4 +59,4 @@ pub record Landing (starts offsets strides : List ℤ) (limits : List ℕ) (coun
 pub record PutLevel (starts offsets strides : List ℤ) (limits : List ℕ) (count : ℕ) (t u d : ℤ) (shape : List ℕ) (ts us : List ℤ) (low rank sn dn : ℕ) : Type 0 where
   pub below : low < rank
   pub units : Units low shape
-  pub walk : Walk (λ x y. Starting starts offsets strides limits d x count dn) t u shape ts us rank sn
+  pub places : BatchPlaces (λ x y. Starting starts offsets strides limits d x count dn) t u shape ts us rank sn

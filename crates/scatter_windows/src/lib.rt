@@ -8,7 +8,7 @@ ghost use Rattle.indexing.specs.Loops.{inOrder};
 ghost use Rattle.layout.specs.Layouts.{rankLimit};
 ghost use Rattle.runs.specs.Runs.{ruleI32, cellAt, line};
 ghost use Rattle.indexed_runs.specs.IndexedRuns.{Starting, movedAt, Putting};
-ghost use Rattle.scatter_windows.specs.Scattering.{putBy, OneCell, Walk, PutLevel};
+ghost use Rattle.scatter_windows.specs.Scattering.{putBy, OneCell, BatchPlaces, PutLevel};
 use layout::RAW_FUSED_RANK_LIMIT;
 use runs::Rule;
 
@@ -176,7 +176,7 @@ pub fn scatter_each(
     u: i64,
     d: i64,
 )
-    requires { ⌜ Walk (λ x y. Starting (now starts) (now offsets) (now strides) (now limits) d x count (length (now dst))) t u (now extents) (now ts) (now us) rank (length (now src)) ⌝ }
+    requires { ⌜ BatchPlaces (λ x y. Starting (now starts) (now offsets) (now strides) (now limits) d x count (length (now dst))) t u (now extents) (now ts) (now us) rank (length (now src)) ⌝ }
     ensures { λ _. ⌜ now (dst .exit) ≡ putBy (pos 0) (ruleI32 rule) (now (src .entry)) (now (starts .entry)) (now (offsets .entry)) (now (strides .entry)) (now (limits .entry)) count t u d (now (extents .entry)) (now (ts .entry)) (now (us .entry)) rank (now (dst .entry)) ⌝ }
 {
     if rank == 0 {

@@ -7,7 +7,7 @@ ghost use lib.ListN.{length};
 ghost use Rattle.indexing.specs.Loops.{inOrder};
 ghost use Rattle.runs.specs.Runs.{ruleF64, cellAt, line};
 ghost use Rattle.indexed_runs.specs.IndexedRuns.{Starting, movedAt, Putting};
-ghost use Rattle.scatter_windows.specs.Scattering.{putBy, Walk, PutLevel};
+ghost use Rattle.scatter_windows.specs.Scattering.{putBy, BatchPlaces, PutLevel};
 use layout::RAW_FUSED_RANK_LIMIT;
 use runs::Rule;
 
@@ -160,7 +160,7 @@ pub fn scatter_each(
     u: i64,
     d: i64,
 )
-    requires { ⌜ Walk (λ x y. Starting (now starts) (now offsets) (now strides) (now limits) d x count (length (now dst))) t u (now extents) (now ts) (now us) rank (length (now src)) ⌝ }
+    requires { ⌜ BatchPlaces (λ x y. Starting (now starts) (now offsets) (now strides) (now limits) d x count (length (now dst))) t u (now extents) (now ts) (now us) rank (length (now src)) ⌝ }
     ensures { λ _. ⌜ now (dst .exit) ≡ putBy nan (ruleF64 rule) (now (src .entry)) (now (starts .entry)) (now (offsets .entry)) (now (strides .entry)) (now (limits .entry)) count t u d (now (extents .entry)) (now (ts .entry)) (now (us .entry)) rank (now (dst .entry)) ⌝ }
 {
     if rank == 0 {

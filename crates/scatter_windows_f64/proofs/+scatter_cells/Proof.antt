@@ -76,31 +76,31 @@ module _ (t : ℕ) where
 
     module _ (j : ℕ) (h : j < getD (start B .args .extents .now) (start B .args .rank - 1) 0) where
       index : Step (start B .args .t) (getD (start B .args .ts .now) (start B .args .rank - 1) (pos 0)) j (2 ^ 63 - 1)
-      index = let a = start B in step-index (λ d x y. Starting (a .args .starts .now) (a .args .offsets .now) (a .args .strides .now) (a .args .limits .now) d x (a .args .count) (length (a .args .dst .now))) _ _ _ _ _ _ _ _ (a .pre .1 .walk) (a .fits .t) (a .fits .u) (a .fits .d) _ top-is x-fits y-fits (src-room a) j h
+      index = let a = start B in step-index (λ d x y. Starting (a .args .starts .now) (a .args .offsets .now) (a .args .strides .now) (a .args .limits .now) d x (a .args .count) (length (a .args .dst .now))) _ _ _ _ _ _ _ _ (a .pre .1 .places) (a .fits .t) (a .fits .u) (a .fits .d) _ top-is x-fits y-fits (src-room a) j h
 
       from : Step (start B .args .u) (getD (start B .args .us .now) (start B .args .rank - 1) (pos 0)) j (length (start B .args .src .now))
-      from = let a = start B in step-update (λ d x y. Starting (a .args .starts .now) (a .args .offsets .now) (a .args .strides .now) (a .args .limits .now) d x (a .args .count) (length (a .args .dst .now))) _ _ _ _ _ _ _ _ (a .pre .1 .walk) (a .fits .t) (a .fits .u) (a .fits .d) _ top-is x-fits y-fits (src-room a) j h
+      from = let a = start B in step-update (λ d x y. Starting (a .args .starts .now) (a .args .offsets .now) (a .args .strides .now) (a .args .limits .now) d x (a .args .count) (length (a .args .dst .now))) _ _ _ _ _ _ _ _ (a .pre .1 .places) (a .fits .t) (a .fits .u) (a .fits .d) _ top-is x-fits y-fits (src-room a) j h
 
   sub-top : lts.Need-sub-top (claims t) (at t) axes.Post Inv μ
   sub-top c = let a : Begun = search in omega (arith, a .pre .1 .below)
 
   mul-n : lts.Need-mul-n (claims t) (at t) axes.Post Inv μ
-  mul-n c = let a : Begun = search in omega (arith, a .pre .1 .below, a .pre .1 .walk .small)
+  mul-n c = let a : Begun = search in omega (arith, a .pre .1 .below, a .pre .1 .places .small)
 
   element-copy-out-n : lts.Need-element-copy-out-n (claims t) (at t) axes.Post Inv μ
-  element-copy-out-n c = let a : Begun = search in omega (arith, a .pre .1 .below, a .pre .1 .walk .small)
+  element-copy-out-n c = let a : Begun = search in omega (arith, a .pre .1 .below, a .pre .1 .places .small)
 
   mul-x : lts.Need-mul-x (claims t) (at t) axes.Post Inv μ
-  mul-x c = let a : Begun = search in omega (arith, a .pre .1 .below, a .pre .1 .walk .small)
+  mul-x c = let a : Begun = search in omega (arith, a .pre .1 .below, a .pre .1 .places .small)
 
   element-copy-out-x : lts.Need-element-copy-out-x (claims t) (at t) axes.Post Inv μ
-  element-copy-out-x c = let a : Begun = search in omega (arith, a .pre .1 .below, a .pre .1 .walk .small)
+  element-copy-out-x c = let a : Begun = search in omega (arith, a .pre .1 .below, a .pre .1 .places .small)
 
   mul-y : lts.Need-mul-y (claims t) (at t) axes.Post Inv μ
-  mul-y c = let a : Begun = search in omega (arith, a .pre .1 .below, a .pre .1 .walk .small)
+  mul-y c = let a : Begun = search in omega (arith, a .pre .1 .below, a .pre .1 .places .small)
 
   element-copy-out-y : lts.Need-element-copy-out-y (claims t) (at t) axes.Post Inv μ
-  element-copy-out-y c = let a : Begun = search in omega (arith, a .pre .1 .below, a .pre .1 .walk .small)
+  element-copy-out-y c = let a : Begun = search in omega (arith, a .pre .1 .below, a .pre .1 .places .small)
 
   scatter-run-requires : lts.Need-scatter-run-requires (claims t) (at t) axes.Post Inv μ
   scatter-run-requires c κs = let B = c .before .before in let a = start B in run-asks _ _ _ _ _ _ _ _ _ _ _ _ _ _ _ (a .pre .1) (a .fits .t) (a .fits .u) (a .fits .d) _ (top-is B) (x-fits B) (y-fits B) (c .before .if1 .taken)
@@ -146,7 +146,7 @@ module _ (t : ℕ) where
   add-j : lts.Need-add-j (claims t) (at t) axes.Post Inv μ
   add-j c =
       let B : Read = search in
-      omega (arith, start B .pre .1 .walk .index .few (start B .args .rank - 1) (omega (arith, top-is B)))
+      omega (arith, start B .pre .1 .places .index .few (start B .args .rank - 1) (omega (arith, top-is B)))
 
   loop-less : lts.Need-loop-less (claims t) (at t) axes.Post Inv μ
   loop-less c = omega arith
@@ -161,7 +161,7 @@ module _ (t : ℕ) where
       let l = d′ .loop-test .taken in (
         omega arith,
         s .scatter-cells .kept .1 .1 .1 .0 ∙ h .loop .inv .1,
-        levels-more (λ d x y. Starting (a .args .starts .now) (a .args .offsets .now) (a .args .strides .now) (a .args .limits .now) d x (a .args .count) (length (a .args .dst .now))) _ _ _ _ _ _ _ _ (a .pre .1 .walk) (a .fits .t) (a .fits .u) (a .fits .d) _ (top-is B) (x-fits B) (y-fits B) (put nan (ruleF64 (a .args .rule)) (a .args .src .now) (a .args .starts .now) (a .args .offsets .now) (a .args .strides .now) (a .args .limits .now) (a .args .count)) (h .loop .j) _ (a .args .dst .now) (h .loop .dst) _ (index B (h .loop .j) l) (from B (h .loop .j) l) (h .loop .inv .2) (s .scatter-cells .ensures),
+        levels-more (λ d x y. Starting (a .args .starts .now) (a .args .offsets .now) (a .args .strides .now) (a .args .limits .now) d x (a .args .count) (length (a .args .dst .now))) _ _ _ _ _ _ _ _ (a .pre .1 .places) (a .fits .t) (a .fits .u) (a .fits .d) _ (top-is B) (x-fits B) (y-fits B) (put nan (ruleF64 (a .args .rule)) (a .args .src .now) (a .args .starts .now) (a .args .offsets .now) (a .args .strides .now) (a .args .limits .now) (a .args .count)) (h .loop .j) _ (a .args .dst .now) (h .loop .dst) _ (index B (h .loop .j) l) (from B (h .loop .j) l) (h .loop .inv .2) (s .scatter-cells .ensures),
       )
 
   same-length-2 : lts.Need-same-length-2 (claims t) (at t) axes.Post Inv μ
@@ -172,7 +172,7 @@ module _ (t : ℕ) where
       let h = c .before in
       let B = h .before .before in
       let a = start B in
-      levels-end (λ d x y. Starting (a .args .starts .now) (a .args .offsets .now) (a .args .strides .now) (a .args .limits .now) d x (a .args .count) (length (a .args .dst .now))) _ _ _ _ _ _ _ _ (a .pre .1 .walk) (a .fits .t) (a .fits .u) (a .fits .d) _ (top-is B) (x-fits B) (y-fits B) (put nan (ruleF64 (a .args .rule)) (a .args .src .now) (a .args .starts .now) (a .args .offsets .now) (a .args .strides .now) (a .args .limits .now) (a .args .count)) (h .loop .j) (a .args .dst .now) (h .loop .dst) (omega arith) (h .loop .inv .2)
+      levels-end (λ d x y. Starting (a .args .starts .now) (a .args .offsets .now) (a .args .strides .now) (a .args .limits .now) d x (a .args .count) (length (a .args .dst .now))) _ _ _ _ _ _ _ _ (a .pre .1 .places) (a .fits .t) (a .fits .u) (a .fits .d) _ (top-is B) (x-fits B) (y-fits B) (put nan (ruleF64 (a .args .rule)) (a .args .src .now) (a .args .starts .now) (a .args .offsets .now) (a .args .strides .now) (a .args .limits .now) (a .args .count)) (h .loop .j) (a .args .dst .now) (h .loop .dst) (omega arith) (h .loop .inv .2)
 
 pub +scatter-cells-spec : {M : Type 1} → statement M
 +scatter-cells-spec = close μ-axes λ t. lts.spec (claims t) (at t) axes.Post Inv μ
