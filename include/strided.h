@@ -28,6 +28,15 @@
 extern "C" {
 #endif
 
+/* The version of these functions, which grows with every change of them; the function answers it. An archive of another version
+   has no function of this name, and a program that includes this header does not link with it (with GCC and Clang; with other
+   compilers, if it calls the function). */
+#define STRIDED_VERSION 1
+uint64_t strided_version_1(void);
+#if defined(__GNUC__)
+__attribute__((used)) static uint64_t (*const strided_version_wanted)(void) = strided_version_1;
+#endif
+
 #define STRIDED_RANK_LIMIT 8
 #define STRIDED_LIST_LIMIT 16
 

@@ -14,10 +14,18 @@ const ADVICE: &str =
 fn main() {
     println!("cargo::rerun-if-changed=build.rs");
     println!("cargo::rerun-if-env-changed={FOLDER}");
-    match find() {
+    match find().and_then(of_this_version) {
         Ok(folder) => link(&folder),
         // Cargo shows the line and fails.
         Err(line) => println!("cargo::error={line}"),
+    }
+}
+
+/// The same folder, where its archive is of the version that the crate is for.
+fn of_this_version(folder: PathBuf) -> Result<PathBuf, String> {
+    match repository::is_for_this_crate(&folder.join(ARCHIVE)) {
+        Ok(()) => Ok(folder),
+        Err(line) => Err(format!("{line}: {ADVICE}")),
     }
 }
 

@@ -182,6 +182,7 @@ static void window_read_by_i32_job(void) {
 }
 
 int main(void) {
+    check(strided_version_1() == STRIDED_VERSION, "the archive is of the header's version");
     window_read();
     window_read_by_job();
     window_read_by_i32_job();

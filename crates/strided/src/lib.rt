@@ -23,6 +23,18 @@ use job::MadeJob;
 use layout::Answer;
 use runs::Rule;
 
+// Of these exports, as strided.h has it: it grows with every change of them. It is in the name below too, so that a program made
+// for another version finds no such function when it is linked.
+pub const VERSION: u64 = 1;
+
+// The version of the exports.
+#[no_mangle]
+pub extern "C" fn strided_version_1() -> u64
+    ensures { λ r. ⌜ r ≡ 1 ⌝ }
+{
+    VERSION
+}
+
 // The number, a and b of an answer.
 fn words_of(answer: Answer) -> [u64; 3]
     ensures { λ r. ⌜ r ≡ words answer ⌝ }

@@ -21,6 +21,41 @@ pub enum State {
     Old(PathBuf),
 }
 
+/// The version of the exports that this crate is for.
+pub const VERSION: u64 = 1;
+/// An archive exports a function of this name and its version.
+const VERSION_NAME: &[u8] = b"strided_version_";
+
+/// Whether an archive exports the version that this crate is for; otherwise a
+/// line that says what it has.
+pub fn is_for_this_crate(archive: &Path) -> Result<(), String> {
+    let shown = archive.display();
+    let bytes = fs::read(archive).map_err(|error| format!("{shown} cannot be read ({error})"))?;
+    let versions = versions(&bytes);
+    if versions.contains(&VERSION) {
+        return Ok(());
+    }
+    let found = match versions.last() {
+        Some(version) => format!("has version {version} of the exports"),
+        None => "has no version of the exports".to_string(),
+    };
+    Err(format!("{shown} {found}, and this crate is for {VERSION}"))
+}
+
+/// The versions that stand behind the function's name in an archive.
+fn versions(archive: &[u8]) -> Vec<u64> {
+    let names = archive.windows(VERSION_NAME.len()).enumerate();
+    names
+        .filter(|(_, bytes)| *bytes == VERSION_NAME)
+        .filter_map(|(place, _)| {
+            let digits = archive[place + VERSION_NAME.len()..].iter();
+            let digits = digits.take_while(|byte| byte.is_ascii_digit());
+            let text: String = digits.map(|byte| char::from(*byte)).collect();
+            text.parse().ok()
+        })
+        .collect()
+}
+
 /// What the archive is made from, as the command `library` has it: crates.txt,
 /// and the folders src and specs of each crate. None where the crate stands
 /// outside its repository.

@@ -39,6 +39,16 @@ pub type Answer = [u64; 3];
 /// Every call overwrites it; a refusal without a name until then.
 const NO_ANSWER: Answer = [u64::MAX; 3];
 
+/// The version of the exports, as the archive has it. The build script links
+/// no archive of another version than this crate is for.
+pub fn strided_version() -> u64 {
+    extern "C" {
+        fn strided_version_1() -> u64;
+    }
+    // SAFETY: it takes nothing, and returns a number.
+    unsafe { strided_version_1() }
+}
+
 /// Extents, axes or sizes, as the library takes them.
 pub(crate) fn words(list: &[usize]) -> &[u64] {
     // SAFETY: on 64-bit targets, and the crate is for no others, `usize` and

@@ -2,9 +2,9 @@
 //! folders that are made for it, with commands that prove nothing.
 
 #[path = "../../build/repository.rs"]
-mod repository;
+pub mod repository;
 
-use repository::{prepare, state, State, ARCHIVE, PLACE};
+use repository::{is_for_this_crate, prepare, state, State, ARCHIVE, PLACE, VERSION};
 use std::fs::{self, File};
 use std::os::unix::fs::PermissionsExt;
 use std::path::{Path, PathBuf};
@@ -180,4 +180,36 @@ fn sources_that_cannot_be_read_are_refused() {
     fs::remove_dir_all(root.join("crates")).unwrap();
     let line = prepare(&root).unwrap_err();
     assert!(line.starts_with("libstrided.a and its sources cannot be compared ("));
+}
+
+#[test]
+fn an_archive_of_another_version_is_refused() {
+    let root = repository("archive-version");
+    let path = archive(&root);
+    let answer = |content: &str| {
+        fs::write(&path, content).unwrap();
+        is_for_this_crate(&path)
+    };
+    let other = VERSION + 1;
+    let line = |found: &str| {
+        let shown = path.display();
+        Err(format!(
+            "{shown} has {found} of the exports, and this crate is for {VERSION}"
+        ))
+    };
+    assert_eq!(answer(&format!("..strided_version_{VERSION}\0..")), Ok(()));
+    assert_eq!(answer(&format!("strided_version_{VERSION}")), Ok(()));
+    let newer = line(&format!("version {other}"));
+    assert_eq!(answer(&format!("strided_version_{other}\0")), newer);
+    let longer = line(&format!("version {VERSION}0"));
+    assert_eq!(answer(&format!("strided_version_{VERSION}0")), longer);
+    assert_eq!(
+        answer("strided_version_\0strided_read_job"),
+        line("no version")
+    );
+    assert_eq!(answer(""), line("no version"));
+    fs::remove_file(&path).unwrap();
+    assert!(is_for_this_crate(&path)
+        .unwrap_err()
+        .contains("cannot be read ("));
 }

@@ -18,6 +18,17 @@ fn the_header_is_declared() {
     assert_eq!(declared(), header);
 }
 
+#[test]
+fn one_version_everywhere() {
+    let (_, rest) = HEADER.split_once("#define STRIDED_VERSION ").unwrap();
+    let version: u64 = rest.split_whitespace().next().unwrap().parse().unwrap();
+    assert_eq!(version, strided::ffi::strided_version());
+    assert_eq!(version, super::archive::repository::VERSION);
+    let name = format!("strided_version_{version}(");
+    assert!(HEADER.contains(&format!("\nuint64_t {name}void);")));
+    assert!(DECLARED.contains(&format!("fn {name}) -> u64;")));
+}
+
 fn of_header() -> Functions {
     let functions = HEADER.split("\nvoid ").skip(1);
     functions.map(|text| function(text, of_c)).collect()
