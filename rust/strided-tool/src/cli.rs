@@ -4,6 +4,7 @@ use std::path::PathBuf;
 
 use clap::{Args, Parser, Subcommand};
 
+use crate::axis_lists::{GatherLists, ScatterLists};
 use crate::output::Patience;
 use crate::window::{Scale, Window};
 
@@ -128,16 +129,19 @@ impl Lock {
 // Files of a gather.
 #[derive(Args)]
 #[command(after_help = "\
-A file lends its elements in memory order; the job names the layouts, whatever the shape and order of the file.
-Without --dest the destination begins as zeros, where the job's layout of it is packed, in either order.
+With a job, the shape and order of each file are those of the job's view. Without one, extents and order come from the files and the
+axis lists, StableHLO's, from options; a list that is left out is empty.
+Without --dest the destination begins as zeros: in the order of the job's layout of it, where that is packed, or of the operand.
 
 Example:
-  strided gather --job berth.job --operand bed.npy --starts berth.npy --out window.npy")]
+  strided gather --job berth.job --operand bed.npy --starts berth.npy --out window.npy
+  strided gather --offset-dims 0,1 --start-index-map 0,1 --index-vector-dim 0 --slice-sizes 12,30 \\
+    --operand bed.npy --starts berth.npy --out window.npy")]
 pub struct GatherArgs {
-    /// The stored job
+    /// The stored job; without it the axis lists are given
     #[arg(long, value_name = "JOB")]
-    pub job: PathBuf,
-    /// The grid that is read, of the job's element
+    pub job: Option<PathBuf>,
+    /// The grid that is read, i32 or f64, as the job is
     #[arg(long, value_name = "NPY")]
     pub operand: PathBuf,
     /// The starts, i64
@@ -149,6 +153,12 @@ pub struct GatherArgs {
     /// The destination afterwards; it may be the file of --dest
     #[arg(long, value_name = "NPY")]
     pub out: PathBuf,
+    /// The job's axis lists.
+    #[command(flatten)]
+    pub lists: GatherLists,
+    /// Files of any shape and order lend their elements in memory order, by the job's layouts
+    #[arg(long, conflicts_with = "index_vector_dim")]
+    pub any_shape: bool,
     /// How the output is locked.
     #[command(flatten)]
     pub lock: Lock,
@@ -157,28 +167,40 @@ pub struct GatherArgs {
 // Files of a scatter.
 #[derive(Args)]
 #[command(after_help = "\
-A file lends its elements in memory order; the job names the layouts, whatever the shape and order of the file.
+With a job, the shape and order of each file are those of the job's view. Without one, extents and order come from the files and the
+axis lists, StableHLO's, from options; a list that is left out is empty.
 The output is written beside and takes its name at the end, so that a failure leaves an old file as it was.
 An old file is locked from before the grid is read: of runs on one file at once, each waits for the one before.
 
 Example:
-  strided scatter --job cut.job --starts at.npy --updates cuts.npy --grid bed.npy --out bed.npy")]
+  strided scatter --job cut.job --starts at.npy --updates cuts.npy --grid bed.npy --out bed.npy
+  strided scatter --update-window-dims 1,2 --scatter-dims-to-operand-dims 0,1 --index-vector-dim 1 \\
+    --starts at.npy --updates cuts.npy --grid bed.npy --out bed.npy")]
 pub struct ScatterArgs {
-    /// The stored job
+    /// The stored job; without it the axis lists are given
     #[arg(long, value_name = "JOB")]
-    pub job: PathBuf,
+    pub job: Option<PathBuf>,
     /// The starts, i64
     #[arg(long, value_name = "NPY")]
     pub starts: PathBuf,
-    /// The updates, of the job's element
+    /// The updates, of the grid's element
     #[arg(long, value_name = "NPY")]
     pub updates: PathBuf,
-    /// The grid that they are added to, of the job's element
+    /// The grid that they are added to, i32 or f64, as the job is
     #[arg(long, value_name = "NPY")]
     pub grid: PathBuf,
     /// The grid afterwards; it may be the file of --grid
     #[arg(long, value_name = "NPY")]
     pub out: PathBuf,
+    /// The job's axis lists.
+    #[command(flatten)]
+    pub lists: ScatterLists,
+    /// Files of any shape and order lend their elements in memory order, by the job's layouts
+    #[arg(long, conflicts_with = "index_vector_dim")]
+    pub any_shape: bool,
+    /// Add also more than 2^36 updates, which take a minute and more
+    #[arg(long)]
+    pub yes: bool,
     /// How the output is locked.
     #[command(flatten)]
     pub lock: Lock,

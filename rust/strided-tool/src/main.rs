@@ -1,5 +1,6 @@
 //! `strided`: gather and scatter on .npy grids by stored jobs, and pictures of grids.
 
+mod axis_lists;
 mod cli;
 mod commands;
 mod failure;

@@ -107,9 +107,14 @@ class View:
 
     def file(self):
         """What is saved: packed views as arrays in their order, others as the flat buffer."""
-        if self.form == "strides" or 0 in self.extents:
+        if self.form == "strides":
             return self.buffer
         return self.buffer.reshape(self.extents, order="C" if self.form == "rows" else "F")
+
+    def is_whole_file(self):
+        """Whether the layout is that of the whole file; a flat buffer may be such a file by chance."""
+        flat = len(self.extents) == 1 and self.offset == 0 and (self.strides[0] == 1 or self.extents[0] < 2)
+        return self.form != "strides" or flat and self.buffer.size == self.extents[0]
 
     def text(self, name):
         strides = {"rows": "row-major", "columns": None}.get(self.form, ", ".join(map(str, self.strides)))

@@ -223,8 +223,8 @@ def compiled_refusals():
 
 def short_files():
     """9, for each view of a call; a view without cells."""
-    gather = lambda *changes: (make("bad", GATHER, *changes), ["gather", "--job", "bad.job", "--operand", "operand.npy",
-                               "--starts", "two.npy"])[1]
+    gather = lambda *changes: (make("bad", GATHER, *changes), ["gather", "--any-shape", "--job", "bad.job", "--operand",
+                               "operand.npy", "--starts", "two.npy"])[1]
     np.save(path("dest.npy"), np.ones((2, 2), dtype="<i4", order="F"))
     refused(1, ["9 BufferBounds (a = 1, b = 0)", "view 1 is the operand", "operand.npy lends 5 elements"],
             *gather(("operand.extents = 5", "operand.extents = 5\noperand.offset = 1")), "--out", "o.npy")
@@ -236,8 +236,8 @@ def short_files():
     check(np.load(path("dest.npy")).tolist() == [[1, 1], [1, 1]], "a refused gather leaves the destination")
     refused(2, ["dest is not packed", "--dest"], *arguments, "--out", "o.npy")
     make("bad", SCATTER, ("index.extents = 3", "index.extents = 0\nindex.offset = 9"), ("updates.extents = 3", "updates.extents = 0"))
-    refused(1, ["9 BufferBounds (a = 1", "it has no cells, and its offset may be from 0 to 3"], "scatter", "--job", "bad.job",
-            *CUT[3:], "--out", "o.npy")
+    refused(1, ["9 BufferBounds (a = 1", "it has no cells, and its offset may be from 0 to 3"], "scatter", "--any-shape",
+            "--job", "bad.job", *CUT[3:], "--out", "o.npy")
 
 
 def wrong_types():
@@ -246,18 +246,6 @@ def wrong_types():
     refused(2, ["operand.npy: it holds i32, and starts are i64", "astype('<i8')"], "gather", "--job", "read.job", "--operand",
             "operand.npy", "--starts", "operand.npy", "--out", "o.npy")
     refused(2, ["it holds i64; grids of i32 and f64 are drawn"], "show", "square.npy", "o.png")
-
-
-def notes():
-    """A word where a file's order is not the job's, and none where nothing speaks for a mistake."""
-    text = GATHER.replace("operand.extents = 5", "operand.extents = 2, 3").replace("slice_sizes = 2", "slice_sizes = 2, 1")
-    make("note", text.replace("offset_dims = 0", "offset_dims = 0").replace("collapsed_slice_dims =", "collapsed_slice_dims = 1"))
-    for order, said in [("C", True), ("F", False)]:
-        np.save(path("order.npy"), np.array(np.zeros((2, 3)), dtype="<i4", order=order))
-        _, _, err = run("gather", "--job", "note.job", "--operand", "order.npy", "--starts", "two.npy", "--out", "o.npy")
-        check(("note: order.npy is 2 x 3 with the last axis fastest" in err) == said, f"{order}: {err}")
-        _, _, err = run("-q", "gather", "--job", "note.job", "--operand", "order.npy", "--starts", "two.npy", "--out", "o.npy")
-        check(err == "", f"--quiet: {err}")
 
 
 def texts():
@@ -301,7 +289,7 @@ def in_place():
     check(stat.S_IMODE(os.stat(path("bed.npy")).st_mode) == 0o640, "the permissions stay")
     before = content("bed.npy")
     make("bad", SCATTER, ("dest.extents = 5", "dest.extents = 6"))
-    refused(1, ["9 BufferBounds (a = 3"], "scatter", "--job", "bad.job", *CUT[3:-1], "bed.npy", "--out", "bed.npy")
+    refused(1, ["9 BufferBounds (a = 3"], "scatter", "--any-shape", "--job", "bad.job", *CUT[3:-1], "bed.npy", "--out", "bed.npy")
     check(content("bed.npy") == before, "a refused run leaves the grid")
     for option in ["--starts", "--updates", "--job"]:
         victim = CUT[CUT.index(option) + 1]
@@ -404,7 +392,6 @@ def main():
     compiled_refusals()
     short_files()
     wrong_types()
-    notes()
     texts()
     drawn()
     in_place()

@@ -44,7 +44,7 @@ def files():
         np.save(path("blank.npy"), blank)
         put("copy.txt", whole_copy({"i4": "i32", "f8": "f64"}[kind], array.size))
         done("job", "make", "copy.txt", "copy.job")
-        done("gather", "--job", "copy.job", "--operand", "in.npy", "--starts", "zero.npy", "--dest", "blank.npy",
+        done("gather", "--any-shape", "--job", "copy.job", "--operand", "in.npy", "--starts", "zero.npy", "--dest", "blank.npy",
              "--out", "out.npy")
         result = np.load(path("out.npy"))
         what = f"{kind} {endian} {order} {shape} {version}"
@@ -119,31 +119,65 @@ def calls(seed, count):
 
 def one_call(what, kind, element, spec, first, second, third):
     names = ["operand", "index", "dest"] if kind == "gather" else ["index", "updates", "dest"]
-    text = job_text(kind, element, names, [first, second, third], spec)
+    views = [first, second, third]
+    text = job_text(kind, element, names, views, spec)
     put("case.txt", text)
     done("job", "make", "case.txt", "case.job")
     put("again.txt", done("job", "show", "case.job"))
     done("job", "make", "again.txt", "again.job")
     check(content("case.job") == content("again.job"), f"{what}: the job shown and made again")
     done("job", "check", "case.job")
-    for name, view in zip(["one", "two", "three"], [first, second, third]):
-        np.save(path(name + ".npy"), view.file())
-    options = ["--operand", "--starts", "--dest"] if kind == "gather" else ["--starts", "--updates", "--grid"]
-    arguments = sum(([option, name] for option, name in zip(options, ["one.npy", "two.npy", "three.npy"])), [])
-    status, _, err = run(kind, "--job", "case.job", *arguments, "--out", "three.npy")
-    if not check(status == 0 and "note:" not in err, f"{what}: {err}\n{text}"):
+    wanted = third.array.copy()
+    (gather if kind == "gather" else scatter)(first.array, second.array, wanted, spec)
+    by_lists(what, kind, [view.array for view in views], wanted, spec)
+    by_job(what, kind, views, wanted)
+
+
+FILES = {"gather": ["--operand", "--starts", "--dest"], "scatter": ["--starts", "--updates", "--grid"]}
+
+
+def saved(kind, arrays):
+    """The options that name the files, in which the arrays are."""
+    names = ["one.npy", "two.npy", "three.npy"]
+    for name, array in zip(names, arrays):
+        np.save(path(name), array)
+    return sum(([option, name] for option, name in zip(FILES[kind], names)), [])
+
+
+def by_job(what, kind, views, wanted):
+    """The call by its stored job, on files of the job's shapes and orders where they can be, and of any shape where not."""
+    third = views[2]
+    arguments = saved(kind, [view.file() for view in views])
+    call = [kind, "--job", "case.job"]
+    if not all(view.is_whole_file() for view in views):
+        refused(2, ["; nothing was done\n--any-shape takes"], *call, *arguments, "--out", "three.npy")
+        call.append("--any-shape")
+    status, _, err = run(*call, *arguments, "--out", "three.npy")
+    if not check(status == 0, f"{what}: {err}"):
         return
-    if kind == "gather":
-        gather(first.array, second.array, third.array, spec)
-    else:
-        scatter(first.array, second.array, third.array, spec)
+    third.array[...] = wanted
     result = np.load(path("three.npy"))
-    wanted = third.file()
-    check(same(result, wanted), f"{what}: {result} and not {wanted}\n{text}")
+    check(same(result, third.file()), f"{what}: {result} and not {third.file()}")
     if kind == "gather" and third.form != "strides":
-        done("gather", "--job", "case.job", *arguments[:4], "--out", "fresh.npy")
+        done(*call, *arguments[:4], "--out", "fresh.npy")
         fresh = np.load(path("fresh.npy"))
-        check(same(fresh, wanted), f"{what}: without --dest {fresh} and not {wanted}")
+        check(same(fresh, third.file()), f"{what}: without --dest {fresh} and not {third.file()}")
+
+
+def by_lists(what, kind, arrays, wanted, spec):
+    """The call without a job, on files that are in either order."""
+    lists = sum((["--" + name.replace("_", "-"), ",".join(map(str, entries)) if isinstance(entries, list) else entries]
+                 for name, entries in spec.items() if entries != []), [])
+    orders = [np.asfortranarray if len(what) + place & 1 else np.ascontiguousarray for place in range(3)]
+    files = [order(array).reshape(array.shape, order="A") for order, array in zip(orders, arrays)]
+    arguments = saved(kind, files)
+    done(kind, *lists, *arguments, "--out", "lists.npy")
+    result = np.load(path("lists.npy"))
+    check(same(result, wanted), f"{what}: without a job {result} and not {wanted}")
+    check(result.flags.f_contiguous == files[2].flags.f_contiguous, f"{what}: without a job, the order")
+    if kind == "gather":
+        done(kind, *lists, *arguments[:4], "--out", "lists.npy")
+        check(same(np.load(path("lists.npy")), wanted), f"{what}: without a job and --dest")
 
 
 def main():

@@ -50,8 +50,8 @@ scatter_dims_to_operand_dims = 0
 index_vector_dim = 1
 """
 
-READ = ["gather", "--job", "read.job", "--operand", "operand.npy", "--starts"]
-CUT = ["scatter", "--job", "cut.job", "--starts", "start.npy", "--updates", "update.npy", "--grid", "grid.npy"]
+READ = ["gather", "--any-shape", "--job", "read.job", "--operand", "operand.npy", "--starts"]
+CUT = ["scatter", "--any-shape", "--job", "cut.job", "--starts", "start.npy", "--updates", "update.npy", "--grid", "grid.npy"]
 
 
 def terminal():

@@ -1,47 +1,133 @@
 //! `strided gather`.
 
-use strided::{Element, ElementType, GatherJob, Job};
+use std::path::Path;
 
-use super::lent::{packed_order, Lent};
+use strided::{Element, ElementType, GatherJob, GatherSpec, Job, ViewLayout};
+
+use super::lent::{fit, Lent};
+use super::packed::{layout_of, packed_order};
 use super::stored::Stored;
-use super::Report;
+use super::{element_of, Report};
 use crate::cli::GatherArgs;
 use crate::failure::{Failure, Outcome};
 use crate::npy::{self, cells, shape_in_words, Grid, Item};
 use crate::output::{self, Output};
 use crate::progress;
+use crate::refusal::{batch, others, pick};
 
 pub fn run(args: &GatherArgs, report: &mut Report) -> Outcome<()> {
-    output::is_apart(
-        &args.out,
-        &[
-            ("--job", &args.job),
-            ("--operand", &args.operand),
-            ("--starts", &args.starts),
-        ],
-    )?;
+    let mut inputs = vec![
+        ("--operand", args.operand.as_path()),
+        ("--starts", &args.starts),
+    ];
+    inputs.extend(args.job.iter().map(|job| ("--job", job.as_path())));
+    output::is_apart(&args.out, &inputs)?;
     let output = Output::claim(&args.out, args.lock.patience())?;
-    let stored = Stored::read(&args.job)?;
+    let stored = args.job.as_deref().map(stored_gather).transpose()?;
+    let files = Files::open(args)?;
+    let stored = stored.map_or_else(|| files.by_lists(args), Ok)?;
     let Job::Gather(job) = &stored.job else {
+        return Err(stored.unusable("it is not a gather"));
+    };
+    files.fit(&stored, args.any_shape)?;
+    match job.element {
+        ElementType::I32 => gather::<i32>(args, files, &stored, job, output, report),
+        ElementType::F64 => gather::<f64>(args, files, &stored, job, output, report),
+    }
+}
+
+/// A stored gather that the library would run.
+fn stored_gather(path: &Path) -> Outcome<Stored> {
+    let stored = Stored::read(path)?;
+    if let Job::Scatter(_) = stored.job {
         let answer = strided::gather_job::<i32>(&stored.bytes, &[], &[], &mut []);
         return Err(stored.of_other_kind(answer, "scatter"));
-    };
-    match job.element {
-        ElementType::I32 => gather::<i32>(args, &stored, job, output, report),
-        ElementType::F64 => gather::<f64>(args, &stored, job, output, report),
     }
+    stored.can_run()?;
+    Ok(stored)
+}
+
+/// The three files; a destination of zeros has none.
+struct Files<'a> {
+    operand: Lent<'a>,
+    starts: Lent<'a>,
+    dest: Option<Lent<'a>>,
+}
+
+impl<'a> Files<'a> {
+    fn open(args: &'a GatherArgs) -> Outcome<Files<'a>> {
+        Ok(Files {
+            operand: Lent::open(&args.operand)?,
+            starts: Lent::open(&args.starts)?,
+            dest: args.dest.as_deref().map(Lent::open).transpose()?,
+        })
+    }
+
+    /// Refuses files that are not the call's.
+    fn fit(&self, stored: &Stored, any_shape: bool) -> Outcome<()> {
+        let files = [Some(&self.operand), Some(&self.starts), self.dest.as_ref()];
+        fit(stored, files, any_shape)
+    }
+
+    /// The job of the axis lists, with extents and order from the files.
+    fn by_lists(&self, args: &GatherArgs) -> Outcome<Stored> {
+        let spec = args.lists.spec();
+        let index = self.starts.layout()?;
+        let dest = match &self.dest {
+            Some(file) => file.layout()?,
+            None => self.result(&spec, &index)?,
+        };
+        let job = Job::Gather(GatherJob {
+            element: element_of(&args.operand, self.operand.header())?,
+            operand: self.operand.layout()?,
+            index,
+            dest,
+            spec,
+        });
+        Stored::of_call(job)
+    }
+
+    /// The layout of the result, in the operand's order.
+    fn result(&self, spec: &GatherSpec, index: &ViewLayout) -> Outcome<ViewLayout> {
+        let header = self.operand.header();
+        let shape = result_shape(spec, header.shape.len(), &index.dims);
+        layout_of(&shape, header.fortran_order).ok_or_else(|| {
+            let shape = shape_in_words(&shape);
+            Failure::Unusable(format!("the result, {shape}, has too many elements"))
+        })
+    }
+}
+
+/// The extents of a result: the window's on the axes that offset_dims names, and on the others, in order, the batch's. What the
+/// lists name and there is not gets 1: the library refuses such lists.
+fn result_shape(spec: &GatherSpec, rank: usize, index: &[usize]) -> Vec<usize> {
+    let kept = others(rank, &spec.collapsed_slice_dims);
+    let windows = pick(&spec.slice_sizes, &kept);
+    let window = |axis: usize| {
+        let mut named = spec.offset_dims.iter().zip(&windows);
+        named.find_map(|(dim, extent)| (*dim == axis).then_some(*extent))
+    };
+    let mut batch = batch(index, spec.index_vector_dim).into_iter();
+    let axes = spec.offset_dims.len().saturating_add(batch.len());
+    (0..axes)
+        .map(|axis| window(axis).or_else(|| batch.next()).unwrap_or(1))
+        .collect()
 }
 
 fn gather<T: Element + Item>(
     args: &GatherArgs,
+    files: Files<'_>,
     stored: &Stored,
     job: &GatherJob,
     output: Output,
     report: &mut Report,
 ) -> Outcome<()> {
-    let operand = Lent::of(&args.operand, "operand", &job.operand).load::<T>(report)?;
-    let starts = Lent::of(&args.starts, "index", &job.index).load::<i64>(report)?;
-    let mut dest = destination::<T>(args, stored, job, report)?;
+    let operand = files.operand.load::<T>()?;
+    let starts = files.starts.load::<i64>()?;
+    let mut dest = match files.dest {
+        Some(file) => file.load()?,
+        None => fresh(stored, job)?,
+    };
     let count = cells(&job.dest.dims).unwrap_or(0);
     progress::timed(&format!("gathering {count} cells"), || {
         strided::gather_job(&stored.bytes, &operand.data, &starts.data, &mut dest.data)
@@ -67,30 +153,20 @@ fn gather<T: Element + Item>(
     Ok(())
 }
 
-/// What the destination holds before the gather.
-fn destination<T: Item>(
-    args: &GatherArgs,
-    stored: &Stored,
-    job: &GatherJob,
-    report: &mut Report,
-) -> Outcome<Grid<T>> {
-    if let Some(path) = &args.dest {
-        return Lent::of(path, "dest", &job.dest).load(report);
-    }
-    // A job that cannot be run is refused before room is made for its result.
-    job.compile().map_err(|error| stored.refused(error, None))?;
+/// A destination of zeros.
+fn fresh<T: Item>(stored: &Stored, job: &GatherJob) -> Outcome<Grid<T>> {
     let order = packed_order(&job.dest).ok_or_else(|| {
         let why = "its dest is not packed, so that there may be elements between its cells; give them with --dest";
-        Failure::of_file(&args.job, why)
+        stored.unusable(why)
     })?;
     Ok(Grid {
         shape: job.dest.dims.clone(),
         fortran_order: order.fortran_order(),
-        data: zeros(args, &job.dest.dims)?,
+        data: zeros(stored, &job.dest.dims)?,
     })
 }
 
-fn zeros<T: Item>(args: &GatherArgs, dims: &[usize]) -> Outcome<Vec<T>> {
+fn zeros<T: Item>(stored: &Stored, dims: &[usize]) -> Outcome<Vec<T>> {
     let mut data = Vec::new();
     let count = cells(dims).filter(|count| data.try_reserve_exact(*count).is_ok());
     match count {
@@ -98,9 +174,9 @@ fn zeros<T: Item>(args: &GatherArgs, dims: &[usize]) -> Outcome<Vec<T>> {
             data.resize(count, T::default());
             Ok(data)
         }
-        None => Err(Failure::of_file(
-            &args.job,
-            format_args!("there is no memory for its dest, {}", shape_in_words(dims)),
-        )),
+        None => Err(stored.unusable(format_args!(
+            "there is no memory for its dest, {}",
+            shape_in_words(dims)
+        ))),
     }
 }

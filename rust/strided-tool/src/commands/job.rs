@@ -77,7 +77,7 @@ fn described(path: &Path) -> Outcome<Job> {
 
 fn check(path: &Path, report: &mut Report) -> Outcome<()> {
     let stored = Stored::read(path)?;
-    compile(&stored.job).map_err(|error| stored.refused(error, None))?;
+    stored.can_run()?;
     report.say(&format!(
         "{}: {}, which can be run",
         path.display(),

@@ -2,154 +2,130 @@
 
 use std::path::Path;
 
-use strided::ViewLayout;
+use strided::{ElementType, Job, ViewLayout};
 
-use super::Report;
+use super::packed::{layout_of, order_of, packed_order, Packed};
+use super::stored::Stored;
 use crate::failure::{Failure, Outcome};
 use crate::job_text::list;
-use crate::npy::{shape_in_words, Grid, Item, Kind, Opened};
+use crate::npy::{shape_in_words, Grid, Header, Item, Kind, Opened};
+use crate::refusal::views;
 
-/// A file for a view of a job.
+/// A file whose header has been read.
 pub struct Lent<'a> {
-    /// Where it is.
     path: &'a Path,
-    /// The view's name in the job.
-    name: &'a str,
-    /// The view.
-    layout: &'a ViewLayout,
+    opened: Opened,
 }
 
 impl<'a> Lent<'a> {
-    /// The file of a view.
-    pub fn of(path: &'a Path, name: &'a str, layout: &'a ViewLayout) -> Lent<'a> {
-        Lent { path, name, layout }
+    /// Opens the file of a view.
+    pub fn open(path: &'a Path) -> Outcome<Lent<'a>> {
+        let opened = Opened::open(path)?;
+        Ok(Lent { path, opened })
     }
 
-    /// The file's elements, which are of the view's type.
-    pub fn load<T: Item>(&self, report: &mut Report) -> Outcome<Grid<T>> {
-        let opened = Opened::open(self.path)?;
-        let found = opened.header().kind;
-        if found != T::KIND {
-            return Err(Failure::of_file(self.path, self.other_type(found, T::KIND)));
-        }
-        let grid = opened.elements()?;
-        if let Some(note) = self.other_order(&grid) {
-            report.say(&note);
-        }
-        Ok(grid)
+    /// What its header says.
+    pub fn header(&self) -> &Header {
+        self.opened.header()
     }
 
-    fn other_type(&self, found: Kind, wanted: Kind) -> String {
-        let (name, descr) = (self.name, wanted.descr());
-        let convert = format!("convert it in NumPy with .astype('{descr}')");
-        match (wanted, found) {
-            (Kind::I64, _) => format!("it holds {found}, and starts are i64; {convert}"),
-            (_, Kind::I64) => {
-                format!("it holds {found}, and the job's {name} is of {wanted}; {convert}")
+    /// The layout of all its elements, by its own shape and order.
+    pub fn layout(&self) -> Outcome<ViewLayout> {
+        let Header {
+            shape,
+            fortran_order,
+            ..
+        } = self.header();
+        layout_of(shape, *fortran_order).ok_or_else(|| {
+            let shape = shape_in_words(shape);
+            Failure::of_file(
+                self.path,
+                format_args!("its shape {shape} has too many elements"),
+            )
+        })
+    }
+
+    /// The elements, which are of this type.
+    pub fn load<T: Item>(self) -> Outcome<Grid<T>> {
+        self.opened.elements()
+    }
+
+    /// Refuses elements of another type than the call's.
+    fn is_of(&self, wanted: Kind, name: &str, stored: &Stored) -> Outcome<()> {
+        let found = self.header().kind;
+        if found == wanted {
+            return Ok(());
+        }
+        let asked = match wanted {
+            Kind::I64 => "starts are i64".to_owned(),
+            _ if stored.is_file => format!("the job's {name} is of {wanted}"),
+            _ => format!("the grid is of {wanted}"),
+        };
+        let convert = format!("convert it in NumPy with .astype('{}')", wanted.descr());
+        let other = match found {
+            Kind::I32 | Kind::F64 if stored.is_file && wanted != Kind::I64 => {
+                format!(", or make a job of {found}")
             }
-            _ => format!(
-                "it holds {found}, and the job's {name} is of {wanted}; {convert}, or make a job of {found}"
-            ),
-        }
+            _ => String::new(),
+        };
+        Err(Failure::of_file(
+            self.path,
+            format_args!("it holds {found}, and {asked}; {convert}{other}"),
+        ))
     }
 
-    /// A word where the file's axes are probably meant to be the view's, and are not: the job's layout counts.
-    fn other_order<T>(&self, grid: &Grid<T>) -> Option<String> {
-        let layout = self.layout;
-        let (rank, packed) = (grid.shape.len(), packed_order(layout)?);
-        let alike = grid.shape == layout.dims && (packed.is(grid.fortran_order));
-        if rank < 2 || rank != layout.dims.len() || alike {
-            return None;
+    /// Refuses a file that has another shape than the view, or another order.
+    fn is_view(&self, name: &str, layout: &ViewLayout) -> Outcome<()> {
+        let header = self.header();
+        let packed = packed_order(layout);
+        let ordered = packed.is_some_and(|order| order.is(header.fortran_order));
+        if ordered && header.shape == layout.dims {
+            return Ok(());
         }
-        let order = if grid.fortran_order { "first" } else { "last" };
-        Some(format!(
-            "note: {} is {} with the {order} axis fastest, and the job's {} has extents {} and strides {}; the job's layout counts",
-            self.path.display(),
-            shape_in_words(&grid.shape),
-            self.name,
-            list(&layout.dims),
-            list(&layout.strides)
+        let found = shape_in_words(&header.shape);
+        let order = order_of(header).map_or("", Packed::in_words);
+        let wanted = match packed {
+            Some(order) => format!("{}{}", shape_in_words(&layout.dims), order.in_words()),
+            None => format!(
+                "of extents {}, strides {} and offset {}, as no whole file is",
+                list(&layout.dims),
+                list(&layout.strides),
+                layout.offset
+            ),
+        };
+        Err(Failure::of_file(
+            self.path,
+            format_args!(
+                "its shape is {found}{order}, and the job's {name} is {wanted}; nothing was done\n--any-shape takes the file's elements in memory order by the job's layout"
+            ),
         ))
     }
 }
 
-/// In which order a layout is packed.
-#[derive(Clone, Copy, Debug, Eq, PartialEq)]
-pub enum Packed {
-    /// First axis fastest.
-    First,
-    /// Last axis fastest.
-    Last,
-    /// Both at once, as with one axis.
-    Both,
-}
-
-impl Packed {
-    fn is(self, fortran_order: bool) -> bool {
-        match self {
-            Packed::First => fortran_order,
-            Packed::Last => !fortran_order,
-            Packed::Both => true,
+/// Refuses files of other elements than the call's, and, unless any shape will do, of another shape or order than its views. They
+/// stand in the order of the views; a destination that is made has no file.
+pub fn fit(stored: &Stored, files: [Option<&Lent<'_>>; 3], any_shape: bool) -> Outcome<()> {
+    let views = views(&stored.job).into_iter();
+    for (((name, layout), kind), file) in views.zip(kinds(&stored.job)).zip(files) {
+        let Some(file) = file else {
+            continue;
+        };
+        file.is_of(kind, name, stored)?;
+        if !any_shape {
+            file.is_view(name, layout)?;
         }
     }
-
-    /// How a file in this order is written.
-    pub fn fortran_order(self) -> bool {
-        self == Packed::First
-    }
+    Ok(())
 }
 
-/// The order in which a layout is packed, from the slice's beginning and without gaps.
-pub fn packed_order(layout: &ViewLayout) -> Option<Packed> {
-    if layout.offset != 0 || layout.dims.len() != layout.strides.len() {
-        return None;
-    }
-    let first = same_places(layout, ViewLayout::column_major(&layout.dims));
-    let last = same_places(layout, ViewLayout::row_major(&layout.dims));
-    match (first, last) {
-        (true, true) => Some(Packed::Both),
-        (true, false) => Some(Packed::First),
-        (false, true) => Some(Packed::Last),
-        (false, false) => None,
-    }
-}
-
-/// Whether two layouts of the same extents name the same places: strides count along axes of more than one cell alone.
-fn same_places(layout: &ViewLayout, packed: Option<ViewLayout>) -> bool {
-    let Some(packed) = packed else {
-        return false;
+/// The types of the three views.
+fn kinds(job: &Job) -> [Kind; 3] {
+    let element = match job.element() {
+        ElementType::I32 => Kind::I32,
+        ElementType::F64 => Kind::F64,
     };
-    layout.dims.contains(&0)
-        || layout
-            .dims
-            .iter()
-            .zip(layout.strides.iter().zip(&packed.strides))
-            .all(|(extent, (stride, other))| *extent == 1 || stride == other)
-}
-
-#[cfg(test)]
-mod tests {
-    use super::*;
-
-    fn layout(dims: &[usize], strides: &[isize], offset: isize) -> ViewLayout {
-        ViewLayout {
-            dims: dims.to_vec(),
-            strides: strides.to_vec(),
-            offset,
-        }
-    }
-
-    #[test]
-    fn packed_layouts() {
-        let order = |dims: &[usize], strides: &[isize]| packed_order(&layout(dims, strides, 0));
-        assert_eq!(order(&[3, 4], &[1, 3]), Some(Packed::First));
-        assert_eq!(order(&[3, 4], &[4, 1]), Some(Packed::Last));
-        assert_eq!(order(&[3, 4], &[8, 2]), None);
-        assert_eq!(order(&[3, 4], &[8]), None);
-        assert_eq!(order(&[7], &[1]), Some(Packed::Both));
-        assert_eq!(order(&[1, 7], &[99, 1]), Some(Packed::Both));
-        assert_eq!(order(&[], &[]), Some(Packed::Both));
-        assert_eq!(order(&[0, 7], &[5, 5]), Some(Packed::Both));
-        assert_eq!(packed_order(&layout(&[3], &[1], 1)), None);
+    match job {
+        Job::Gather(_) => [element, Kind::I64, element],
+        Job::Scatter(_) => [Kind::I64, element, element],
     }
 }

@@ -1,8 +1,9 @@
-//! Stored jobs in files.
+//! The job of a call: stored in a file, or made of axis lists and files.
 
+use std::fmt::Display;
 use std::fs::File;
 use std::io::Read;
-use std::path::{Path, PathBuf};
+use std::path::Path;
 
 use strided::{Job, StridedError};
 
@@ -14,9 +15,11 @@ const LIMIT: u64 = 1 << 20;
 
 /// A job with its bytes.
 pub struct Stored {
-    /// Where it was read.
-    pub path: PathBuf,
-    /// The bytes, which the library has taken for a job.
+    /// What a refusal names: the file, or the call.
+    pub about: String,
+    /// Whether it was read from a file.
+    pub is_file: bool,
+    /// The bytes, which the library has taken for a job or has written.
     pub bytes: Vec<u8>,
     /// The job.
     pub job: Job,
@@ -26,9 +29,11 @@ impl Stored {
     /// Reads a stored job.
     pub fn read(path: &Path) -> Outcome<Stored> {
         let bytes = small_file(path, "a stored job")?;
+        let about = path.display().to_string();
         match Job::from_bytes(&bytes) {
             Ok(job) => Ok(Stored {
-                path: path.to_owned(),
+                about,
+                is_file: true,
                 bytes,
                 job,
             }),
@@ -37,9 +42,39 @@ impl Stored {
                     bytes: Some(&bytes),
                     ..Known::default()
                 };
-                Err(refused(&path.display().to_string(), error, &known))
+                Err(refused(&about, error, &known))
             }
         }
+    }
+
+    /// A job that no file stores, and that the library would run.
+    pub fn of_call(job: Job) -> Outcome<Stored> {
+        let written = job.to_bytes();
+        let failed = written.as_ref().err().copied();
+        let stored = Stored {
+            about: "the call".to_owned(),
+            is_file: false,
+            bytes: written.unwrap_or_default(),
+            job,
+        };
+        match failed {
+            Some(error) => Err(stored.refused(error, None)),
+            None => stored.can_run().map(|()| stored),
+        }
+    }
+
+    /// Refuses a job that the library refuses to compile.
+    pub fn can_run(&self) -> Outcome<()> {
+        let compiled = match &self.job {
+            Job::Gather(job) => job.compile().map(drop),
+            Job::Scatter(job) => job.compile().map(drop),
+        };
+        compiled.map_err(|error| self.refused(error, None))
+    }
+
+    /// A failure that is not a refusal by the library.
+    pub fn unusable(&self, why: impl Display) -> Failure {
+        Failure::Unusable(format!("{}: {why}", self.about))
     }
 
     /// The failure where the library refuses the job; `lent` as in `Known`.
@@ -49,14 +84,14 @@ impl Stored {
             bytes: Some(&self.bytes),
             lent,
         };
-        refused(&self.path.display().to_string(), error, &known)
+        refused(&self.about, error, &known)
     }
 
     /// The failure where a job is of the other kind than the command.
     pub fn of_other_kind(&self, answer: strided::Result<()>, command: &str) -> Failure {
         let hint = format!("run it with `strided {command}`");
         match answer {
-            Ok(()) => Failure::of_file(&self.path, hint),
+            Ok(()) => self.unusable(hint),
             Err(error) => match self.refused(error, None) {
                 Failure::Refused(text) => Failure::Refused(format!("{text}; {hint}")),
                 other => other,

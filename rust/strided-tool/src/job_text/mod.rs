@@ -4,7 +4,7 @@ mod parse;
 mod print;
 mod values;
 
-pub use parse::parse;
+pub use parse::{axes, parse};
 pub use print::{list, print};
 
 /// Why a text is no job.

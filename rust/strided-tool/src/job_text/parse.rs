@@ -23,6 +23,11 @@ pub fn parse(text: &str) -> Parsed<Job> {
     }
 }
 
+/// A list of axes or sizes.
+pub fn axes(text: &str) -> Result<Vec<usize>, String> {
+    list(text, COUNT)
+}
+
 fn gather(fields: &mut Fields<'_>) -> Parsed<GatherJob> {
     let lists = [
         "offset_dims",
@@ -125,7 +130,7 @@ impl<'a> Fields<'a> {
 
     fn axes(&mut self, key: &str) -> Parsed<Vec<usize>> {
         let value = self.wanted(key)?;
-        list(value.text, COUNT).map_err(|what| value.wrong(what))
+        axes(value.text).map_err(|what| value.wrong(what))
     }
 
     fn count(&mut self, key: &str) -> Parsed<usize> {
@@ -136,7 +141,7 @@ impl<'a> Fields<'a> {
     fn view(&mut self, name: &str) -> Parsed<ViewLayout> {
         let extents_key = format!("{name}.extents");
         let extents = self.wanted(&extents_key)?;
-        let dims: Vec<usize> = list(extents.text, COUNT).map_err(|what| extents.wrong(what))?;
+        let dims = axes(extents.text).map_err(|what| extents.wrong(what))?;
         let strides = self.values.remove(format!("{name}.strides").as_str());
         let offset = self.values.remove(format!("{name}.offset").as_str());
         let strides = strides_for(&dims, strides, extents.line)?;

@@ -5,6 +5,8 @@ mod counts;
 mod gather;
 mod scatter;
 
+pub use counts::{batch, others, pick};
+
 use strided::{Job, StridedError, ViewLayout};
 
 use crate::failure::Failure;

@@ -1,0 +1,102 @@
+//! The axis lists as options, for calls without a stored job.
+
+use std::str::FromStr;
+
+use clap::Args;
+use strided::{GatherSpec, ScatterSpec};
+
+use crate::job_text::axes;
+
+/// Numbers with commas between them.
+#[derive(Clone, Debug, Default, Eq, PartialEq)]
+pub struct Axes(Vec<usize>);
+
+impl FromStr for Axes {
+    type Err = String;
+
+    fn from_str(text: &str) -> Result<Axes, String> {
+        axes(text.trim()).map(Axes)
+    }
+}
+
+// A gather's lists.
+#[derive(Args)]
+pub struct GatherLists {
+    /// Without a job: the result's axes that the windows lie on
+    #[arg(long, value_name = "AXES", conflicts_with = "job")]
+    offset_dims: Option<Axes>,
+    /// Without a job: the operand's axes, with windows of 1, that the result leaves out
+    #[arg(long, value_name = "AXES", conflicts_with = "job")]
+    collapsed_slice_dims: Option<Axes>,
+    /// Without a job: the operand's axis that each component of a start goes along
+    #[arg(long, value_name = "AXES", conflicts_with = "job")]
+    start_index_map: Option<Axes>,
+    /// Without a job: the axis of the starts that their components lie on
+    #[arg(
+        long,
+        value_name = "AXIS",
+        required_unless_present = "job",
+        conflicts_with = "job"
+    )]
+    index_vector_dim: Option<usize>,
+    /// Without a job: the window's extent on each axis of the operand
+    #[arg(
+        long,
+        value_name = "SIZES",
+        required_unless_present = "job",
+        conflicts_with = "job"
+    )]
+    slice_sizes: Option<Axes>,
+}
+
+// A scatter's lists.
+#[derive(Args)]
+pub struct ScatterLists {
+    /// Without a job: the updates' axes that go along the grid's axes
+    #[arg(long, value_name = "AXES", conflicts_with = "job")]
+    update_window_dims: Option<Axes>,
+    /// Without a job: the grid's axes, with windows of 1, that the updates leave out
+    #[arg(long, value_name = "AXES", conflicts_with = "job")]
+    inserted_window_dims: Option<Axes>,
+    /// Without a job: the grid's axis that each component of a start goes along
+    #[arg(long, value_name = "AXES", conflicts_with = "job")]
+    scatter_dims_to_operand_dims: Option<Axes>,
+    /// Without a job: the axis of the starts that their components lie on
+    #[arg(
+        long,
+        value_name = "AXIS",
+        required_unless_present = "job",
+        conflicts_with = "job"
+    )]
+    index_vector_dim: Option<usize>,
+}
+
+/// The entries; none where the option was left out.
+fn entries(list: &Option<Axes>) -> Vec<usize> {
+    list.clone().unwrap_or_default().0
+}
+
+impl GatherLists {
+    /// The lists as a spec.
+    pub fn spec(&self) -> GatherSpec {
+        GatherSpec {
+            offset_dims: entries(&self.offset_dims),
+            collapsed_slice_dims: entries(&self.collapsed_slice_dims),
+            start_index_map: entries(&self.start_index_map),
+            index_vector_dim: self.index_vector_dim.unwrap_or_default(),
+            slice_sizes: entries(&self.slice_sizes),
+        }
+    }
+}
+
+impl ScatterLists {
+    /// The lists as a spec.
+    pub fn spec(&self) -> ScatterSpec {
+        ScatterSpec {
+            update_window_dims: entries(&self.update_window_dims),
+            inserted_window_dims: entries(&self.inserted_window_dims),
+            scatter_dims_to_operand_dims: entries(&self.scatter_dims_to_operand_dims),
+            index_vector_dim: self.index_vector_dim.unwrap_or_default(),
+        }
+    }
+}
