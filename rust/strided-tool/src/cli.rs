@@ -11,7 +11,7 @@ use crate::window::{Scale, Window};
 /// Gather and scatter on grids in .npy files, by stored jobs, and pictures of grids.
 ///
 /// What is read, added, clamped or refused, the proved library libstrided decides.
-/// The exit status is 0; 1 where the library refuses, or where `compare` finds a difference; 2 for usage, a file that cannot be read or written, or elements of another type; 3 where `--no-wait` refuses.
+/// The exit status is 0; 1 where the library refuses, or where `compare` finds a difference; 2 for usage, a file that cannot be read or written, elements of another type, or a shape or order that is not the job's; 3 where `--no-wait` refuses.
 #[derive(Parser)]
 #[command(
     name = "strided",
@@ -129,8 +129,8 @@ impl Lock {
 // Files of a gather.
 #[derive(Args)]
 #[command(after_help = "\
-With a job, the shape and order of each file are those of the job's view. Without one, extents and order come from the files and the
-axis lists, StableHLO's, from options; a list that is left out is empty.
+With a job, the shape and order of each file are those of the job's view.
+Without one, extents and order come from the files, and StableHLO's axis lists from options; one that is left out is empty.
 Without --dest the destination begins as zeros: in the order of the job's layout of it, where that is packed, or of the operand.
 
 Example:
@@ -167,8 +167,8 @@ pub struct GatherArgs {
 // Files of a scatter.
 #[derive(Args)]
 #[command(after_help = "\
-With a job, the shape and order of each file are those of the job's view. Without one, extents and order come from the files and the
-axis lists, StableHLO's, from options; a list that is left out is empty.
+With a job, the shape and order of each file are those of the job's view.
+Without one, extents and order come from the files, and StableHLO's axis lists from options; one that is left out is empty.
 The output is written beside and takes its name at the end, so that a failure leaves an old file as it was.
 An old file is locked from before the grid is read: of runs on one file at once, each waits for the one before.
 

@@ -4,7 +4,7 @@ use std::path::Path;
 
 use strided::Job;
 
-use super::stored::{small_file, Stored};
+use super::stored::{compile, small_file, Stored};
 use super::{print_out, Report};
 use crate::cli::JobCommand;
 use crate::failure::{Failure, Outcome};
@@ -84,13 +84,6 @@ fn check(path: &Path, report: &mut Report) -> Outcome<()> {
         in_words(&stored.job)
     ));
     Ok(())
-}
-
-fn compile(job: &Job) -> strided::Result<()> {
-    match job {
-        Job::Gather(job) => job.compile().map(drop),
-        Job::Scatter(job) => job.compile().map(drop),
-    }
 }
 
 fn in_words(job: &Job) -> String {

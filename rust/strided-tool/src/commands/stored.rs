@@ -65,11 +65,7 @@ impl Stored {
 
     /// Refuses a job that the library refuses to compile.
     pub fn can_run(&self) -> Outcome<()> {
-        let compiled = match &self.job {
-            Job::Gather(job) => job.compile().map(drop),
-            Job::Scatter(job) => job.compile().map(drop),
-        };
-        compiled.map_err(|error| self.refused(error, None))
+        compile(&self.job).map_err(|error| self.refused(error, None))
     }
 
     /// A failure that is not a refusal by the library.
@@ -97,6 +93,14 @@ impl Stored {
                 other => other,
             },
         }
+    }
+}
+
+/// Whether the library would run a job; whether files suffice for it is found when it is run.
+pub fn compile(job: &Job) -> strided::Result<()> {
+    match job {
+        Job::Gather(job) => job.compile().map(drop),
+        Job::Scatter(job) => job.compile().map(drop),
     }
 }
 
