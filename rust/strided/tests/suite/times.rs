@@ -7,6 +7,7 @@ use strided::{
 const HEADER: &str = include_str!("../../../../include/strided.h");
 const DOCUMENTATION: &str = include_str!("../../src/lib.rs");
 const PAGE: &str = include_str!("../../../README.md");
+const TOOL_PAGE: &str = include_str!("../../../strided-tool/README.md");
 const PERFORMANCE: &str = include_str!("../../../../docs/PERFORMANCE.md");
 
 /// A scatter of as many updates to a grid of three, all from one element.
@@ -64,14 +65,24 @@ fn a_gather_has_no_more_cells_than_elements() {
     assert_eq!(refusal, Err(outside));
 }
 
+/// A page in one line, without the marks of a comment.
+fn in_one_line(page: &str) -> String {
+    let words = page.split_whitespace().filter(|word| *word != "//!");
+    words.collect::<Vec<_>>().join(" ")
+}
+
 #[test]
 fn the_pages_say_so() {
     for page in [HEADER, DOCUMENTATION, PAGE] {
-        let words = page.split_whitespace().filter(|word| *word != "//!");
-        let text = words.collect::<Vec<_>>().join(" ");
+        let text = in_one_line(page);
         assert!(text.contains("An accepted call takes as long as its plan has cells"));
         assert!(text.contains("strides of 0 can name 2^62 updates in a few elements"));
     }
+    let text = in_one_line(TOOL_PAGE);
+    assert!(text.contains("strides of 0 can name 2^62 updates in a few elements"));
+    assert!(text.contains(
+        "more than 2^36 updates, somewhat more than a minute, is refused unless `--yes` is given"
+    ));
 }
 
 #[test]
