@@ -177,8 +177,11 @@ impl Picture {
     }
 }
 
-/// A value so that it is read back the same.
+/// A value so that it is read back the same; 0 has no sign.
 fn exact(value: f64) -> String {
+    if value == 0.0 {
+        return "0".to_owned();
+    }
     if value.fract() == 0.0 && value.abs() < 1e15 {
         return format!("{value}");
     }

@@ -62,7 +62,8 @@ fn decimals_of(step: f64) -> usize {
     places.clamp(0.0, 20.0) as usize
 }
 
-/// A number with so many decimals, fewer where it has fewer, or with an exponent where that is long.
+/// A number with so many decimals, fewer where it has fewer, or with an exponent where that is long. What is rounded to
+/// nothing is 0, without a sign.
 fn text(value: f64, decimals: usize) -> String {
     let plain = format!("{value:.decimals$}");
     let exact = format!("{value}");
@@ -74,7 +75,10 @@ fn text(value: f64, decimals: usize) -> String {
     if short.len() > 9 {
         return format!("{value:.3e}");
     }
-    short
+    match short.contains(|digit| ('1'..='9').contains(&digit)) {
+        true => short,
+        false => "0".to_owned(),
+    }
 }
 
 /// Round indices from the first to the last, at least so many apart.
@@ -120,6 +124,18 @@ mod tests {
         );
         assert_eq!(texts(-3.7366, 3.5781), ["-3.7", "3.6", "-2", "0", "2"]);
         assert_eq!(texts(3.0, 3.0), ["3"]);
+    }
+
+    #[test]
+    fn nothing_has_no_sign() {
+        let ends = |low, high| texts(low, high).into_iter().take(2).collect::<Vec<_>>();
+        assert_eq!(ends(-0.0, -0.0), ["0"]);
+        assert_eq!(ends(-0.0, 1.0), ["0", "1"]);
+        assert_eq!(ends(-1.0, -0.0), ["-1", "0"]);
+        assert_eq!(ends(-0.04, 3.0), ["0", "3"]);
+        assert_eq!(ends(-0.4, 300.0), ["-0.4", "300"]);
+        assert_eq!(ends(-3.0, -0.001), ["-3", "0"]);
+        assert_eq!(ends(-1e-9, 1e10), ["0", "1.000e10"]);
     }
 
     #[test]
