@@ -130,7 +130,7 @@ impl Layout {
     fn rows(&self, canvas: &mut Canvas) {
         let place = self.place;
         let apart = self.cells_apart(TEXT_HEIGHT, self.sizes.down);
-        for row in shown(place.row, place.last_row(), apart) {
+        for row in ticks::of_indices(place.row, place.last_row(), apart) {
             let y = self
                 .cells
                 .y
@@ -156,7 +156,7 @@ impl Layout {
     fn columns(&self, canvas: &mut Canvas) {
         let place = self.place;
         let widest = text_width(&place.last_column().to_string());
-        for column in shown(
+        for column in ticks::of_indices(
             place.column,
             place.last_column(),
             self.cells_apart(widest, self.sizes.across),
@@ -225,15 +225,5 @@ impl Layout {
         );
         let x = x.saturating_add(TICK).saturating_add(GAP);
         canvas.text(x, y.saturating_sub(TEXT_HEIGHT / 2), text);
-    }
-}
-
-/// The indices that are numbered: round ones, or the first alone where none is round.
-fn shown(first: usize, last: usize, apart: usize) -> Vec<usize> {
-    let round = ticks::of_indices(first, last, apart);
-    if round.is_empty() {
-        vec![first]
-    } else {
-        round
     }
 }

@@ -81,11 +81,18 @@ fn text(value: f64, decimals: usize) -> String {
     }
 }
 
-/// Round indices from the first to the last, at least so many apart.
+/// The first index, and round ones up to the last, all at least so many apart.
 pub fn of_indices(first: usize, last: usize, apart: usize) -> Vec<usize> {
-    let step = round_index_step(apart.max(1));
-    let from = first.checked_next_multiple_of(step).unwrap_or(usize::MAX);
-    (from..=last).step_by(step).collect()
+    let apart = apart.max(1);
+    let step = round_index_step(apart);
+    let second = first
+        .checked_add(apart)
+        .and_then(|near| near.checked_next_multiple_of(step));
+    let round = second.map(|second| (second..=last).step_by(step));
+    [first]
+        .into_iter()
+        .chain(round.into_iter().flatten())
+        .collect()
 }
 
 fn round_index_step(at_least: usize) -> usize {
@@ -148,10 +155,14 @@ mod tests {
     }
 
     #[test]
-    fn round_indices() {
-        assert_eq!(of_indices(3, 42, 7), [10, 20, 30, 40]);
+    fn the_first_index_and_round_ones() {
+        assert_eq!(of_indices(3, 42, 7), [3, 10, 20, 30, 40]);
+        assert_eq!(of_indices(4, 42, 7), [4, 20, 30, 40]);
+        assert_eq!(of_indices(0, 42, 7), [0, 10, 20, 30, 40]);
         assert_eq!(of_indices(0, 3, 1), [0, 1, 2, 3]);
-        assert_eq!(of_indices(7, 7, 10), Vec::<usize>::new());
+        assert_eq!(of_indices(7, 7, 10), [7]);
         assert_eq!(of_indices(usize::MAX, usize::MAX, 7), [usize::MAX]);
+        // A multiple of 5, and too near.
+        assert_eq!(of_indices(usize::MAX - 3, usize::MAX, 5).len(), 1);
     }
 }
