@@ -1,7 +1,9 @@
 //! Pictures of a grid's cells, with a bar that shows which colour stands for which value.
 
+mod bar;
 mod canvas;
 mod colours;
+mod edges;
 mod field;
 mod font;
 mod layout;
@@ -15,7 +17,8 @@ use canvas::Canvas;
 use field::Summary;
 use layout::Layout;
 
-use crate::progress::{self, Progress};
+use crate::failure::{Failure, Outcome};
+use crate::progress::Progress;
 use crate::window::Scale;
 
 /// The longer side of a picture's cells, in pixels, where no size of a cell is asked for.
@@ -57,26 +60,52 @@ struct Sizes {
     cells: usize,
 }
 
-/// Draws a field; says what to do where it is too large.
-pub fn draw<T: Drawn>(field: &Field<T>, settings: &Settings) -> Result<Picture, String> {
-    let sizes = sizes(field.place, settings.cell)?;
-    let (summary, squares) = progress::timed("looking at the cells", || {
-        (field.summary(), field.squares(sizes.cells))
-    });
+/// Draws a part of a field, whose cells are read twice: once for the ends of the scale, and once for the colours.
+pub fn draw<F: Field>(field: &F, place: Place, settings: &Settings) -> Outcome<Picture> {
+    let sizes = sizes(place, settings.cell).map_err(Failure::Unusable)?;
+    let mut summary = Summary::default();
+    let look = |_: Place, cells: &[F::Cell]| summary.add(cells);
+    each_part(field, place, sizes, "looking at the cells", look)?;
     let scale = settings.scale.unwrap_or(Scale {
         low: summary.low.unwrap_or(0.0),
         high: summary.high.unwrap_or(0.0),
     });
-    let layout = Layout::new(field.place, sizes, scale, summary.nan > 0);
+    let layout = Layout::new(place, sizes, scale, summary.nan > 0);
+    let mut canvas = layout
+        .sheet()
+        .ok_or_else(|| Failure::Unusable("there is no memory for the picture".to_owned()))?;
+    let mut outside = 0_usize;
+    let draw = |part: Place, cells: &[F::Cell]| {
+        outside = outside.saturating_add(field::outside(cells, scale));
+        layout.draw_part(&mut canvas, part, cells);
+    };
+    each_part(field, place, sizes, "drawing", draw)?;
     Ok(Picture {
-        canvas: layout
-            .draw(&squares)
-            .ok_or("there is no memory for the picture")?,
-        place: field.place,
+        canvas,
+        place,
         summary,
         sizes,
-        outside: field.outside(scale),
+        outside,
     })
+}
+
+/// Hands on the cells part by part, so that no second copy of a large grid is made.
+fn each_part<F: Field>(
+    field: &F,
+    place: Place,
+    sizes: Sizes,
+    what: &str,
+    mut take: impl FnMut(Place, &[F::Cell]),
+) -> Outcome<()> {
+    let in_steps = |cells: usize| u64::try_from(cells).unwrap_or(u64::MAX);
+    let mut progress = Progress::new(what, in_steps(place.cells()));
+    let mut cells = Vec::new();
+    for part in place.parts(sizes.cells) {
+        field.read(part, &mut cells)?;
+        take(part, &cells);
+        progress.advance(in_steps(part.cells()));
+    }
+    Ok(())
 }
 
 fn sizes(place: Place, asked: Option<usize>) -> Result<Sizes, String> {
