@@ -5,6 +5,7 @@ use std::path::PathBuf;
 use clap::{Args, Parser, Subcommand};
 
 use crate::output::Patience;
+use crate::picture::Text;
 use crate::window::{Scale, Window};
 
 /// Gather and scatter on grids in .npy files, by stored jobs, and pictures of grids.
@@ -188,9 +189,10 @@ pub struct ScatterArgs {
 #[derive(Args)]
 #[command(after_help = "\
 The first axis goes down, the second to the right. Low values are light, high ones dark, and NaN is orange.
+A title or units may have the letters and signs of ASCII and ° µ ² ³, at most 500. One that is empty or of spaces alone is not drawn.
 
 Example:
-  strided show bed.npy berth.png --window 10:30,40:80 --scale 8000:14000 --cell 8")]
+  strided show bed.npy berth.png --window 10:30,40:80 --scale 8000:14000 --cell 8 --title Berth --units mm")]
 pub struct ShowArgs {
     /// The grid, i32 or f64, of two axes
     pub grid: PathBuf,
@@ -205,6 +207,12 @@ pub struct ShowArgs {
     /// Pixels along a cell; otherwise as suits the size
     #[arg(long, value_name = "N")]
     pub cell: Option<usize>,
+    /// What is written above the cells
+    #[arg(long, value_name = "TEXT", allow_hyphen_values = true)]
+    pub title: Option<Text>,
+    /// What is written above the bar, such as mm
+    #[arg(long, value_name = "TEXT", allow_hyphen_values = true)]
+    pub units: Option<Text>,
     /// How the output is locked.
     #[command(flatten)]
     pub lock: Lock,

@@ -69,6 +69,8 @@ fn show<T: Element + Item + Drawn>(
     let settings = Settings {
         scale: args.scale,
         cell: args.cell,
+        title: args.title.clone().unwrap_or_default(),
+        units: args.units.clone().unwrap_or_default(),
     };
     let held: Held<'_, T> = Held {
         path: &args.grid,

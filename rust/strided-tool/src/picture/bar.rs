@@ -1,14 +1,17 @@
-//! The bar that tells which colour is which value.
+//! The bar that tells which colour is which value, with the units.
 
 use super::canvas::{Box, Canvas, TEXT_HEIGHT};
 use super::colours::{colour_at, INK, NOT_A_NUMBER};
 use super::layout::{Layout, BAR, GAP, TICK};
 
-impl Layout {
-    /// Draws the bar with its numbers, and the colour of NaN below.
+impl Layout<'_> {
+    /// Draws the bar with its numbers, the units above it and the colour of NaN below.
     pub fn draw_bar(&self, canvas: &mut Canvas) {
         self.draw_colours(canvas);
         self.number_bar(canvas);
+        let room = TEXT_HEIGHT.saturating_add(TICK).saturating_add(GAP);
+        let y = self.bar.y.saturating_sub(room.saturating_add(GAP));
+        canvas.text(self.bar.x, y, self.units);
         if let Some(place) = self.nan {
             canvas.fill(place, NOT_A_NUMBER);
             canvas.frame(place);

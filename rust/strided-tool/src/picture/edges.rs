@@ -10,7 +10,7 @@ const APART: usize = 14;
 /// From a number to its short line.
 const NEAR: usize = GAP - 2;
 
-impl Layout {
+impl Layout<'_> {
     /// Numbers rows, the first and round ones.
     pub fn number_rows(&self, canvas: &mut Canvas) {
         let apart = self.cells_apart(TEXT_HEIGHT, self.sizes.down);

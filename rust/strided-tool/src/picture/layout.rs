@@ -1,10 +1,10 @@
-//! Where everything stands in a picture: cells with the numbers of rows and columns, and to the right the bar.
+//! Where everything stands in a picture: cells with the numbers of rows and columns, the title above, and to the right the bar.
 
 use super::canvas::{text_width, Box, Canvas, TEXT_HEIGHT};
 use super::colours::colour_of;
 use super::field::{lowest, Drawn, Place};
 use super::ticks::{self, Tick};
-use super::Sizes;
+use super::{Settings, Sizes};
 use crate::window::Scale;
 
 pub const MARGIN: usize = 12;
@@ -15,20 +15,28 @@ pub const BAR: usize = 24;
 const LOW_BAR: usize = 160;
 
 /// A picture's parts.
-pub struct Layout {
+pub struct Layout<'a> {
     pub place: Place,
     pub sizes: Sizes,
     scale: Scale,
+    title: &'a str,
+    pub units: &'a str,
     pub ticks: Vec<Tick>,
     pub cells: Box,
     pub bar: Box,
     pub nan: Option<Box>,
 }
 
-impl Layout {
+impl<'a> Layout<'a> {
     /// Places everything, the colour of NaN where there is one.
-    pub fn new(place: Place, sizes: Sizes, scale: Scale, nan: bool) -> Layout {
-        let cells = cells(place, sizes);
+    pub fn new(
+        place: Place,
+        sizes: Sizes,
+        scale: Scale,
+        nan: bool,
+        settings: &'a Settings,
+    ) -> Layout<'a> {
+        let cells = cells(place, sizes, settings);
         let bar = Box {
             x: cells.right().saturating_add(to_the_bar(place)),
             y: cells.y,
@@ -44,6 +52,8 @@ impl Layout {
             place,
             sizes,
             scale,
+            title: settings.title.as_str(),
+            units: settings.units.as_str(),
             ticks: ticks::of_values(scale),
             cells,
             bar,
@@ -54,6 +64,7 @@ impl Layout {
     /// A sheet with everything but the cells; none where there is no memory for it.
     pub fn sheet(&self) -> Option<Canvas> {
         let mut canvas = self.canvas()?;
+        canvas.text(self.cells.x, MARGIN, self.title);
         canvas.frame(self.cells);
         self.number_rows(&mut canvas);
         self.number_columns(&mut canvas);
@@ -64,7 +75,11 @@ impl Layout {
     fn canvas(&self) -> Option<Canvas> {
         let beside = self.bar.right().checked_add(TICK.saturating_add(GAP))?;
         let numbers = self.ticks.iter().map(|tick| (beside, tick.text.as_str()));
-        let others = [(beside, "NaN")];
+        let others = [
+            (beside, "NaN"),
+            (self.bar.x, self.units),
+            (self.cells.x, self.title),
+        ];
         let right = numbers
             .chain(others)
             .map(|(x, text)| x.saturating_add(text_width(text)))
@@ -109,11 +124,17 @@ impl Layout {
     }
 }
 
-/// Where the cells stand: with room for the numbers of rows and columns.
-fn cells(place: Place, sizes: Sizes) -> Box {
+/// Where the cells stand: with room for the numbers of rows and columns, the units and the title.
+fn cells(place: Place, sizes: Sizes, settings: &Settings) -> Box {
     let row = text_width(&place.last_row().to_string()).saturating_add(GAP.saturating_add(TICK));
     let half_column = text_width(&place.last_column().to_string()) / 2;
-    let y = MARGIN.saturating_add(TEXT_HEIGHT.saturating_add(GAP).saturating_add(TICK));
+    let mut y = MARGIN.saturating_add(TEXT_HEIGHT.saturating_add(GAP).saturating_add(TICK));
+    if !settings.title.as_str().is_empty() {
+        y = y.saturating_add(TEXT_HEIGHT.saturating_add(MARGIN));
+    }
+    if !settings.units.as_str().is_empty() {
+        y = y.saturating_add(GAP);
+    }
     let squares = |count: usize| count.div_ceil(sizes.cells.max(1));
     Box {
         x: MARGIN.saturating_add(row.max(half_column)),

@@ -7,9 +7,11 @@ mod edges;
 mod field;
 mod font;
 mod layout;
+mod text;
 mod ticks;
 
 pub use field::{Drawn, Field, Place};
+pub use text::Text;
 
 use std::io::{self, Write};
 
@@ -38,6 +40,10 @@ pub struct Settings {
     pub scale: Option<Scale>,
     /// Pixels along a cell.
     pub cell: Option<usize>,
+    /// What stands above the cells.
+    pub title: Text,
+    /// What stands above the bar.
+    pub units: Text,
 }
 
 /// A picture, with what is told of it.
@@ -70,7 +76,7 @@ pub fn draw<F: Field>(field: &F, place: Place, settings: &Settings) -> Outcome<P
         low: summary.low.unwrap_or(0.0),
         high: summary.high.unwrap_or(0.0),
     });
-    let layout = Layout::new(place, sizes, scale, summary.nan > 0);
+    let layout = Layout::new(place, sizes, scale, summary.nan > 0, settings);
     let mut canvas = layout
         .sheet()
         .ok_or_else(|| Failure::Unusable("there is no memory for the picture".to_owned()))?;
