@@ -6,7 +6,7 @@ use clap::{Args, Parser, Subcommand};
 
 use crate::output::Patience;
 use crate::picture::Text;
-use crate::window::{Scale, Window};
+use crate::window::{Origin, Scale, Window};
 
 /// Gather and scatter on grids in .npy files, by stored jobs, and pictures of grids.
 ///
@@ -192,7 +192,8 @@ The first axis goes down, the second to the right. Low values are light, high on
 A title or units may have the letters and signs of ASCII and ° µ ² ³, at most 500. One that is empty or of spaces alone is not drawn.
 
 Example:
-  strided show bed.npy berth.png --window 10:30,40:80 --scale 8000:14000 --cell 8 --title Berth --units mm")]
+  strided show bed.npy berth.png --window 10:30,40:80 --scale 8000:14000 --cell 8 --title Berth --units mm
+  strided show window.npy berth.png --origin 10,40")]
 pub struct ShowArgs {
     /// The grid, i32 or f64, of two axes
     pub grid: PathBuf,
@@ -201,6 +202,14 @@ pub struct ShowArgs {
     /// Rows R0 up to R1 and columns C0 up to C1, the last of each left out; a side may be left empty
     #[arg(long, value_name = "R0:R1,C0:C1", allow_hyphen_values = true)]
     pub window: Option<Window>,
+    /// The numbers of the file's first row and column, for a file that holds a window; --window counts from there
+    #[arg(
+        long,
+        value_name = "R,C",
+        default_value = "0,0",
+        allow_hyphen_values = true
+    )]
+    pub origin: Origin,
     /// The values at the two ends of the colours; otherwise the lowest and the highest that are drawn
     #[arg(long, value_name = "LOW:HIGH", allow_hyphen_values = true)]
     pub scale: Option<Scale>,

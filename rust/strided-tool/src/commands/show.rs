@@ -11,7 +11,7 @@ use crate::npy::{shape_in_words, Grid, Header, Item, Kind, Opened};
 use crate::output::{self, Output};
 use crate::picture::{self, Drawn, Field, Place, Settings};
 use crate::refusal::{refused, Known};
-use crate::window::{Span, Window};
+use crate::window::{Origin, Span, Window};
 
 pub fn run(args: &ShowArgs, report: &mut Report) -> Outcome<()> {
     output::is_apart(&args.out, &[("the grid", &args.grid)])?;
@@ -28,7 +28,7 @@ pub fn run(args: &ShowArgs, report: &mut Report) -> Outcome<()> {
     }
 }
 
-/// The rows and columns that are drawn.
+/// The rows and columns that are drawn, as the user numbers them.
 fn place(args: &ShowArgs, header: &Header) -> Outcome<Place> {
     let [rows, columns] = header.shape.as_slice() else {
         let shape = shape_in_words(&header.shape);
@@ -48,9 +48,13 @@ fn place(args: &ShowArgs, header: &Header) -> Outcome<Place> {
         rows: whole,
         columns: whole,
     });
-    let wrong = |why: String| Failure::of_file(&args.grid, why);
-    let (row, rows) = window.rows.within(*rows, "rows").map_err(wrong)?;
-    let (column, columns) = window.columns.within(*columns, "columns").map_err(wrong)?;
+    let Origin { row, column } = args.origin;
+    let within = |span: Span, first, extent, of| {
+        span.within(first, extent, of)
+            .map_err(|why| Failure::of_file(&args.grid, why))
+    };
+    let (row, rows) = within(window.rows, row, *rows, "rows")?;
+    let (column, columns) = within(window.columns, column, *columns, "columns")?;
     Ok(Place {
         row,
         rows,
@@ -72,12 +76,13 @@ fn show<T: Element + Item + Drawn>(
         title: args.title.clone().unwrap_or_default(),
         units: args.units.clone().unwrap_or_default(),
     };
-    let held: Held<'_, T> = Held {
+    let numbered: Numbered<'_, T> = Numbered {
         path: &args.grid,
         grid: opened.elements()?,
+        origin: args.origin,
     };
-    let picture = picture::draw(&held, place, &settings)?;
-    drop(held);
+    let picture = picture::draw(&numbered, place, &settings)?;
+    drop(numbered);
     output.write(|file| picture.write(file))?;
     for line in picture.in_words() {
         report.say(&format!("{}: {line}", args.out.display()));
@@ -85,13 +90,14 @@ fn show<T: Element + Item + Drawn>(
     Ok(())
 }
 
-/// A grid in memory.
-struct Held<'a, T> {
+/// A grid with the numbers of its first row and column.
+struct Numbered<'a, T> {
     path: &'a Path,
     grid: Grid<T>,
+    origin: Origin,
 }
 
-impl<T: Element + Item + Drawn> Field for Held<'_, T> {
+impl<T: Element + Item + Drawn> Field for Numbered<'_, T> {
     type Cell = T;
 
     fn read(&self, part: Place, cells: &mut Vec<T>) -> Outcome<()> {
@@ -113,7 +119,7 @@ impl<T: Element + Item + Drawn> Field for Held<'_, T> {
     }
 }
 
-impl<T: Element + Item> Held<'_, T> {
+impl<T: Element + Item> Numbered<'_, T> {
     /// The library gathers the cells of a part.
     fn gather(
         &self,
@@ -138,7 +144,9 @@ impl<T: Element + Item> Held<'_, T> {
             &dest.strides,
             spec,
         )?;
-        let starts = [part.row, part.column].map(|start| i64::try_from(start).unwrap_or(i64::MAX));
+        let row = part.row.saturating_sub(self.origin.row);
+        let column = part.column.saturating_sub(self.origin.column);
+        let starts = [row, column].map(|start| i64::try_from(start).unwrap_or(i64::MAX));
         plan.execute(
             &mut StridedMut::new(cells, &dest.dims, &dest.strides, 0),
             &operand.view(&self.grid.data),
