@@ -192,8 +192,8 @@ The first axis goes down, the second to the right. Low values are light, high on
 A title or units may have the letters and signs of ASCII and ° µ ² ³, at most 500. One that is empty or of spaces alone is not drawn.
 
 Example:
-  strided show bed.npy berth.png --window 10:30,40:80 --scale 8000:14000 --cell 8 --title Berth --units mm
-  strided show window.npy berth.png --origin 10,40")]
+  strided show bed.npy berth.png --window 10:30,40:80 --scale 8000:14000 --cell 8
+  strided show window.npy berth.png --origin 10,40 --title Berth --units mm")]
 pub struct ShowArgs {
     /// The grid, i32 or f64, of two axes
     pub grid: PathBuf,
