@@ -7,23 +7,33 @@ use super::ticks::{self, Tick};
 use super::{Settings, Sizes};
 use crate::window::Scale;
 
-pub const MARGIN: usize = 12;
+const MARGIN: usize = 12;
+/// Between a text and what it stands beside.
 pub const GAP: usize = 6;
+/// The length of a short line between a number and what it numbers.
 pub const TICK: usize = 5;
+/// The width of the bar.
 pub const BAR: usize = 24;
 /// The bar is at least so high, also beside a low picture.
 const LOW_BAR: usize = 160;
 
 /// A picture's parts.
 pub struct Layout<'a> {
+    /// What is drawn.
     pub place: Place,
+    /// How large.
     pub sizes: Sizes,
     scale: Scale,
     title: &'a str,
+    /// Empty where there are none.
     pub units: &'a str,
+    /// The numbers beside the bar.
     pub ticks: Vec<Tick>,
+    /// Where the cells stand.
     pub cells: Box,
+    /// Where the bar stands.
     pub bar: Box,
+    /// Where the colour of NaN stands.
     pub nan: Option<Box>,
 }
 
