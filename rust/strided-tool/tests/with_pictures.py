@@ -148,11 +148,14 @@ def refused_letters():
 
 
 def edge_numbers(pixels, origin, cell):
-    """The numbers along both edges, with how many cells they stand from the first; none where one is not at a cell's middle."""
+    """The numbers along both edges, with how many cells they stand from the first; none where one is not at a cell's middle,
+    or reaches over the bar."""
     top, left = origin
-    found = pictures.texts(pixels, top - NUMBERS, 0, pictures.bar_origin(pixels)[1] - GAP)
-    middles = [(words, begin + (end - begin) // 2 - left - cell // 2) for words, begin, end in found]
-    columns = {words: place // cell if place % cell == 0 else None for words, place in middles}
+    bar = pictures.bar_origin(pixels)[1]
+    columns = {}
+    for words, begin, end in pictures.texts(pixels, top - NUMBERS, 0, bar):
+        number, over = divmod(begin + (end - begin) // 2 - left - cell // 2, cell)
+        columns[words] = number if over == 0 and end < bar else None
     rows = {}
     for number in range((pixels.shape[0] - top) // cell):
         y = top + cell * number + cell // 2 - pictures.TEXT // 2
@@ -176,6 +179,8 @@ def numbered():
             (["show", "basin.npy", "o.png"], range(0, 20, 2), range(0, 60, 5)),
             (["show", "berth.npy", "o.png", "--origin", "12345,999999990"], [12345, 12348, 12350, 12352, 12354, 12356],
              [999999990, 1000000000, 1000000010]),
+            (["show", "berth.npy", "o.png", "--origin", "0,2000000001"], range(0, 12, 2),
+             [2000000001, 2000000010, 2000000020, 2000000030]),
             (["show", "berth.npy", "o.png", "--origin", f"{2**64 - 13},{2**64 - 31}"],
              [2**64 - 13, *range(2**64 - 10, 2**64, 2)], [2**64 - 31])]:
         pixels, err, origin = picture(*arguments, "--cell", 16)
@@ -186,11 +191,14 @@ def numbered():
 
 def windows_of_their_own():
     """A window in a file of its own is drawn, and told, as in the whole grid."""
-    for window, more in [("0:12,18:48", []), ("0:5,20:30", ["--window", "0:5,20:30"]), ("4:12,18:19", ["--window", "4:,:19"]),
-                         ("11:12,47:48", ["--window", "11:12,47:48"])]:
+    np.save(path("pier.npy"), np.load(path("basin.npy"))[5:17, 0:30])
+    pier = ["show", "pier.npy", "o.png", "--origin", "5,0"]
+    for arguments, window, more in [(BERTH, "0:12,18:48", ":,:"), (BERTH, "0:5,20:30", "0:5,20:30"), (BERTH, "4:12,18:19", "4:,:19"),
+                                    (BERTH, "11:12,47:48", "11:12,47:48"), (pier, "5:17,0:30", "5:17,0:30"),
+                                    (pier, "7:9,3:20", "7:9,3:20"), (pier, "5:6,29:30", ":6,29:")]:
         _, whole, _ = picture("show", "basin.npy", "o.png", "--window", window, "--scale", "-9000:9000")
         expected = content("o.png")
-        _, own, _ = picture(*BERTH, *more, "--scale", "-9000:9000")
+        _, own, _ = picture(*arguments, "--window", more, "--scale", "-9000:9000")
         check(content("o.png") == expected, f"the window {window} by itself")
         check(own == whole, f"the window {window} is told: {own} {whole}")
 

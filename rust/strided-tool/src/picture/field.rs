@@ -65,9 +65,9 @@ impl Place {
     /// Parts that are small beside a large grid, row by row. No square of so many cells along each side is cut.
     pub fn parts(self, side: usize) -> impl Iterator<Item = Place> {
         let side = side.max(1);
-        // Cells along so many squares as fit, which have so many cells each.
-        let along = |square: usize| {
-            let squares = PART.checked_div(square).unwrap_or(1).max(1);
+        // Cells along as many squares as there is room for, where each takes so many cells.
+        let along = |cells: usize| {
+            let squares = PART.checked_div(cells).unwrap_or(1).max(1);
             side.saturating_mul(squares)
         };
         let height = side.min(self.rows);

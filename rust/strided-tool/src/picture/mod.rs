@@ -250,4 +250,10 @@ mod tests {
         assert_eq!(chosen(5000, 9000), sizes(1, 1, 3));
         assert_eq!(chosen(usize::MAX, 1).cells, usize::MAX / 4096 + 1);
     }
+
+    #[test]
+    fn values_are_told_exactly() {
+        let told = [-0.0, 0.0, -0.04, -3.0, 1e14, 1e300].map(exact);
+        assert_eq!(told, ["0", "0", "-0.04", "-3", "100000000000000", "1e300"]);
+    }
 }
