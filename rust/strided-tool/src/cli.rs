@@ -6,7 +6,8 @@ use clap::{Args, Parser, Subcommand};
 
 use crate::axis_lists::{GatherLists, ScatterLists};
 use crate::output::Patience;
-use crate::window::{Scale, Window};
+use crate::picture::Text;
+use crate::window::{Origin, Scale, Window};
 
 /// Gather and scatter on grids in .npy files, by stored jobs, and pictures of grids.
 ///
@@ -210,9 +211,11 @@ pub struct ScatterArgs {
 #[derive(Args)]
 #[command(after_help = "\
 The first axis goes down, the second to the right. Low values are light, high ones dark, and NaN is orange.
+A title or units may have the letters and signs of ASCII and ° µ ² ³, at most 500. One that is empty or of spaces alone is not drawn.
 
 Example:
-  strided show bed.npy berth.png --window 10:30,40:80 --scale 8000:14000 --cell 8")]
+  strided show bed.npy berth.png --window 10:30,40:80 --scale 8000:14000 --cell 8
+  strided show window.npy berth.png --origin 10,40 --title Berth --units mm")]
 pub struct ShowArgs {
     /// The grid, i32 or f64, of two axes
     pub grid: PathBuf,
@@ -221,12 +224,26 @@ pub struct ShowArgs {
     /// Rows R0 up to R1 and columns C0 up to C1, the last of each left out; a side may be left empty
     #[arg(long, value_name = "R0:R1,C0:C1", allow_hyphen_values = true)]
     pub window: Option<Window>,
+    /// The numbers of the file's first row and column, for a file that holds a window; --window counts from there
+    #[arg(
+        long,
+        value_name = "R,C",
+        default_value = "0,0",
+        allow_hyphen_values = true
+    )]
+    pub origin: Origin,
     /// The values at the two ends of the colours; otherwise the lowest and the highest that are drawn
     #[arg(long, value_name = "LOW:HIGH", allow_hyphen_values = true)]
     pub scale: Option<Scale>,
     /// Pixels along a cell; otherwise as suits the size
     #[arg(long, value_name = "N")]
     pub cell: Option<usize>,
+    /// What is written above the cells
+    #[arg(long, value_name = "TEXT", allow_hyphen_values = true)]
+    pub title: Option<Text>,
+    /// What is written above the bar, such as mm
+    #[arg(long, value_name = "TEXT", allow_hyphen_values = true)]
+    pub units: Option<Text>,
     /// How the output is locked.
     #[command(flatten)]
     pub lock: Lock,

@@ -1,4 +1,4 @@
-"""The tool on damaged files, refused jobs, full disks and odd outputs, and its pictures. usage: with_damage.py TOOL"""
+"""The tool on damaged files, refused jobs, full disks and odd outputs. usage: with_damage.py TOOL"""
 
 import os
 import random
@@ -8,7 +8,6 @@ import stat
 
 import numpy as np
 
-import pictures
 from harness import HERE, TOOL, check, content, done, finish, left_behind, path, put, refused, run
 
 GATHER = """kind = gather
@@ -44,6 +43,7 @@ def scene():
     np.save(path("updates.npy"), np.array([3, 4, 5], dtype="<i4"))
     np.save(path("grid.npy"), np.zeros(5, dtype="<i4"))
     np.save(path("floats.npy"), np.zeros(5))
+    np.save(path("drawn.npy"), np.zeros((2, 3)))
     make("read", GATHER)
     make("cut", SCATTER)
 
@@ -310,7 +310,7 @@ def failed_writes():
     check(content("grid.npy") == before, "a full disk leaves the grid")
     refused(2, ["fresh.npy: cannot write it"], *CUT, "--out", "fresh.npy", **big)
     check(not os.path.exists(path("fresh.npy")), "a full disk leaves no part of an output")
-    refused(2, ["cannot write it"], "show", "square_f.npy", "o.png", **big)
+    refused(2, ["cannot write it"], "show", "drawn.npy", "o.png", **big)
     check(not left_behind(), "a full disk leaves no temporary file")
     refused(2, ["/dev/full: cannot write it", "No space left"], *CUT, "--out", "/dev/full")
     refused(2, ["cannot write it"], *CUT, "--out", "absent/o.npy")
@@ -334,44 +334,6 @@ def unwritable_folder():
     check(os.listdir(path("closed")) == [], "nothing is written to a folder that is closed")
 
 
-def drawn():
-    array = np.array([[1.0, 5.0, np.nan], [2.0, 3.0, 9.0]])
-    np.save(path("square_f.npy"), array)
-    np.save(path("square_t.npy"), np.asfortranarray(array))
-    _, _, err = run("show", "square_f.npy", "one.png", "--cell", "10")
-    check("lowest 1, highest 9, 1 NaN" in err and "10 pixels a cell" in err, err)
-    done("show", "square_t.npy", "two.png", "--cell", "10")
-    check(content("one.png") == content("two.png"), "both orders give one picture")
-    picture = pictures.read(content("one.png"))
-    at = lambda row, column: tuple(picture[cell_origin(picture)[0] + 10 * row + 5, cell_origin(picture)[1] + 10 * column + 5])
-    check(at(0, 0) == (250, 247, 214) and at(1, 2) == (13, 16, 52), f"the ends: {at(0, 0)} {at(1, 2)}")
-    check(at(0, 2) == (230, 120, 20), f"NaN: {at(0, 2)}")
-    check(sum(map(int, at(1, 0))) > sum(map(int, at(1, 1))) > sum(map(int, at(0, 1))), "the deeper the darker")
-    done("show", "square_f.npy", "w.png", "--window", "1:2,:", "--scale", "-2:20")
-    check(pictures.read(content("w.png")).shape[2] == 3, "a window with a scale")
-    for arguments, words in [(["--window", "0:3,0:1"], "the grid has 2 rows"), (["--window", "1:1,0:1"], "has no rows"),
-                             (["--window", "5"], "give rows and columns"), (["--scale", "2:1"], "below the second"),
-                             (["--cell", "0"], "at least 1 pixel"), (["--cell", "9999"], "smaller --cell")]:
-        status, _, err = run("show", "square_f.npy", "o.png", *arguments)
-        check(status == 2 and words in err, f"{arguments}: {err}")
-    refused(2, ["a grid of two axes is drawn"], "show", "operand.npy", "o.png")
-    np.save(path("none.npy"), np.zeros((0, 4)))
-    refused(2, ["no cells to draw"], "show", "none.npy", "o.png")
-    for name, values in [("inf", [[np.inf, -np.inf]]), ("nan", [[np.nan]]), ("wide", [[-1.7e308, 1.7e308]]), ("one", [[7.0]]),
-                         ("small", [[5e-324, 0.0]])]:
-        np.save(path(name + ".npy"), np.array(values))
-        done("show", name + ".npy", name + ".png")
-        check(pictures.read(content(name + ".png")).size > 0, name)
-
-
-def cell_origin(picture):
-    """The first pixel inside the frame around the cells: past the first row and column of many dark pixels."""
-    dark = (picture.sum(axis=2) == 120)
-    row = next(y for y in range(dark.shape[0]) if dark[y].sum() > 30)
-    column = next(x for x in range(dark.shape[1]) if dark[:, x].sum() > 20 and dark[row, x])
-    return row + 1, column + 1
-
-
 def helps():
     for command in [[], ["job", "make"], ["job", "show"], ["job", "check"], ["gather"], ["scatter"], ["show"], ["compare"], ["print"]]:
         out = done(*command, "--help")
@@ -393,7 +355,6 @@ def main():
     short_files()
     wrong_types()
     texts()
-    drawn()
     in_place()
     failed_writes()
     helps()

@@ -5,7 +5,7 @@ use super::font;
 
 /// Pixels along a dot of the font.
 const DOT: usize = 2;
-/// The height of a line of text in pixels.
+/// The height of a line of text in pixels; some letters go a little below it.
 pub const TEXT_HEIGHT: usize = font::HEIGHT * DOT;
 /// From one letter to the next.
 const LETTER: usize = (font::WIDTH + 1) * DOT;
@@ -119,7 +119,7 @@ impl Canvas {
     }
 
     fn letter(&mut self, x: usize, y: usize, letter: char) {
-        for (row, dots) in (0_usize..).zip(font::rows(letter)) {
+        for (row, dots) in (0_usize..).zip(font::rows(letter).unwrap_or_default()) {
             for column in 0..font::WIDTH {
                 let dot = font::WIDTH.saturating_sub(column).saturating_sub(1);
                 if dots >> dot & 1 == 1 {

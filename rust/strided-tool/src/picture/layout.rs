@@ -1,54 +1,55 @@
-//! Where everything stands in a picture: cells with the numbers of rows and columns, and to the right the bar.
+//! Where everything stands in a picture: cells with the numbers of rows and columns, the title above, and to the right the bar.
 
 use super::canvas::{text_width, Box, Canvas, TEXT_HEIGHT};
-use super::colours::{colour_at, colour_of, INK, NOT_A_NUMBER};
-use super::field::{Place, Squares};
+use super::colours::colour_of;
+use super::field::{lowest, Drawn, Place};
 use super::ticks::{self, Tick};
-use super::Sizes;
-use crate::progress::Progress;
+use super::{Settings, Sizes};
 use crate::window::Scale;
 
 const MARGIN: usize = 12;
-const GAP: usize = 6;
-const TICK: usize = 5;
-const BAR: usize = 24;
+/// Between a text and what it stands beside.
+pub const GAP: usize = 6;
+/// The length of a short line between a number and what it numbers.
+pub const TICK: usize = 5;
+/// The width of the bar.
+pub const BAR: usize = 24;
 /// The bar is at least so high, also beside a low picture.
 const LOW_BAR: usize = 160;
-/// Between the numbers of two rows or columns, at least.
-const APART: usize = 14;
 
 /// A picture's parts.
-pub struct Layout {
-    place: Place,
-    sizes: Sizes,
+pub struct Layout<'a> {
+    /// What is drawn.
+    pub place: Place,
+    /// How large.
+    pub sizes: Sizes,
     scale: Scale,
-    ticks: Vec<Tick>,
-    cells: Box,
-    bar: Box,
-    nan: Option<Box>,
+    title: &'a str,
+    /// Empty where there are none.
+    pub units: &'a str,
+    /// The numbers beside the bar.
+    pub ticks: Vec<Tick>,
+    /// Where the cells stand.
+    pub cells: Box,
+    /// Where the bar stands.
+    pub bar: Box,
+    /// Where the colour of NaN stands.
+    pub nan: Option<Box>,
 }
 
-impl Layout {
+impl<'a> Layout<'a> {
     /// Places everything, the colour of NaN where there is one.
-    pub fn new(place: Place, sizes: Sizes, scale: Scale, nan: bool) -> Layout {
-        let ticks = ticks::of_values(scale);
-        let rows = place.last_row().to_string();
-        let left = MARGIN
-            .saturating_add(text_width(&rows))
-            .saturating_add(GAP.saturating_add(TICK));
-        let top = MARGIN
-            .saturating_add(TEXT_HEIGHT)
-            .saturating_add(GAP.saturating_add(TICK));
-        let squares = |count: usize| count.div_ceil(sizes.cells.max(1));
-        let cells = Box {
-            x: left,
-            y: top,
-            width: squares(place.columns).saturating_mul(sizes.across),
-            height: squares(place.rows).saturating_mul(sizes.down),
-        };
+    pub fn new(
+        place: Place,
+        sizes: Sizes,
+        scale: Scale,
+        nan: bool,
+        settings: &'a Settings,
+    ) -> Layout<'a> {
+        let cells = cells(place, sizes, settings);
         let bar = Box {
-            x: cells.right().saturating_add(MARGIN.saturating_mul(2)),
-            y: top,
+            x: cells.right().saturating_add(to_the_bar(place)),
+            y: cells.y,
             width: BAR,
             height: cells.height.max(LOW_BAR),
         };
@@ -61,179 +62,102 @@ impl Layout {
             place,
             sizes,
             scale,
-            ticks,
+            title: settings.title.as_str(),
+            units: settings.units.as_str(),
+            ticks: ticks::of_values(scale),
             cells,
             bar,
             nan,
         }
     }
 
-    /// Draws it; none where there is no memory for it.
-    pub fn draw(&self, squares: &Squares) -> Option<Canvas> {
+    /// A sheet with everything but the cells; none where there is no memory for it.
+    pub fn sheet(&self) -> Option<Canvas> {
         let mut canvas = self.canvas()?;
-        self.squares(&mut canvas, squares);
-        self.rows(&mut canvas);
-        self.columns(&mut canvas);
-        self.bar(&mut canvas);
-        if let Some(place) = self.nan {
-            canvas.fill(place, NOT_A_NUMBER);
-            canvas.frame(place);
-            self.beside(&mut canvas, place.y.saturating_add(BAR / 2), "NaN");
-        }
+        canvas.text(self.cells.x, MARGIN, self.title);
+        canvas.frame(self.cells);
+        self.number_rows(&mut canvas);
+        self.number_columns(&mut canvas);
+        self.draw_bar(&mut canvas);
         Some(canvas)
     }
 
     fn canvas(&self) -> Option<Canvas> {
-        let texts = self.ticks.iter().map(|tick| text_width(&tick.text));
-        let widest = texts.chain([text_width("NaN")]).max().unwrap_or(0);
-        let width = self.bar.right().checked_add(widest)?;
+        let beside = self.bar.right().checked_add(TICK.saturating_add(GAP))?;
+        let numbers = self.ticks.iter().map(|tick| (beside, tick.text.as_str()));
+        let others = [
+            (beside, "NaN"),
+            (self.bar.x, self.units),
+            (self.cells.x, self.title),
+        ];
+        let right = numbers
+            .chain(others)
+            .map(|(x, text)| x.saturating_add(text_width(text)))
+            .max()?;
         let lowest = self.nan.unwrap_or(self.bar).bottom();
-        let height = lowest.max(self.cells.bottom());
-        Canvas::new(
-            width.checked_add(TICK.saturating_add(GAP).saturating_add(MARGIN))?,
-            height.checked_add(MARGIN)?,
-        )
+        let bottom = lowest.max(self.cells.bottom());
+        Canvas::new(right.checked_add(MARGIN)?, bottom.checked_add(MARGIN)?)
     }
 
-    fn squares(&self, canvas: &mut Canvas, squares: &Squares) {
-        let total = u64::try_from(squares.values.len()).unwrap_or(u64::MAX);
-        let mut progress = Progress::new("drawing", total);
-        let rows = squares.values.chunks(squares.columns.max(1));
+    /// Draws the cells of a part of whole squares.
+    pub fn draw_part<T: Drawn>(&self, canvas: &mut Canvas, part: Place, cells: &[T]) {
         let Sizes { across, down, .. } = self.sizes;
-        for (row, values) in (0_usize..).zip(rows) {
-            for (column, value) in (0_usize..).zip(values) {
-                let place = Box {
-                    x: self.cells.x.saturating_add(column.saturating_mul(across)),
-                    y: self.cells.y.saturating_add(row.saturating_mul(down)),
-                    width: across,
-                    height: down,
-                };
-                canvas.fill(place, colour_of(*value, self.scale));
-            }
-            progress.advance(u64::try_from(values.len()).unwrap_or(u64::MAX));
+        let before = part.column.saturating_sub(self.place.column);
+        let above = part.row.saturating_sub(self.place.row);
+        let first = Box {
+            x: self.cells.x.saturating_add(self.edge(before, across)),
+            y: self.cells.y.saturating_add(self.edge(above, down)),
+            width: across,
+            height: down,
+        };
+        let side = self.sizes.cells;
+        let rows = cells.chunks(part.columns.saturating_mul(side).max(1));
+        for (row, cells) in (0_usize..).zip(rows) {
+            let y = first.y.saturating_add(row.saturating_mul(down));
+            let squares = lowest(cells, part.columns, side);
+            self.draw_squares(canvas, Box { y, ..first }, &squares);
         }
-        canvas.frame(self.cells);
     }
 
-    /// The middle of the cell that comes after so many others, where a square takes so many pixels.
-    fn middle(&self, cells: usize, pixels: usize) -> usize {
+    /// Draws squares from the first to the right.
+    fn draw_squares(&self, canvas: &mut Canvas, first: Box, squares: &[f64]) {
+        for (column, value) in (0_usize..).zip(squares) {
+            let x = first.x.saturating_add(column.saturating_mul(first.width));
+            canvas.fill(Box { x, ..first }, colour_of(*value, self.scale));
+        }
+    }
+
+    /// Pixels to the square with the cell that comes after so many others, where a square takes so many pixels.
+    pub fn edge(&self, cells: usize, pixels: usize) -> usize {
         let square = cells.checked_div(self.sizes.cells).unwrap_or(0);
-        square.saturating_mul(pixels).saturating_add(pixels / 2)
-    }
-
-    /// How many cells lie at least from one number to the next, which takes so much room.
-    fn cells_apart(&self, room: usize, pixels: usize) -> usize {
-        let squares = room.saturating_add(APART).div_ceil(pixels.max(1));
-        squares.saturating_mul(self.sizes.cells)
-    }
-
-    fn rows(&self, canvas: &mut Canvas) {
-        let place = self.place;
-        let apart = self.cells_apart(TEXT_HEIGHT, self.sizes.down);
-        for row in shown(place.row, place.last_row(), apart) {
-            let y = self
-                .cells
-                .y
-                .saturating_add(self.middle(row.saturating_sub(place.row), self.sizes.down));
-            let x = self.cells.x.saturating_sub(TICK);
-            canvas.fill(
-                Box {
-                    x,
-                    y,
-                    width: TICK,
-                    height: 1,
-                },
-                INK,
-            );
-            let text = row.to_string();
-            let x = x
-                .saturating_sub(GAP.saturating_sub(2))
-                .saturating_sub(text_width(&text));
-            canvas.text(x, y.saturating_sub(TEXT_HEIGHT / 2), &text);
-        }
-    }
-
-    fn columns(&self, canvas: &mut Canvas) {
-        let place = self.place;
-        let widest = text_width(&place.last_column().to_string());
-        for column in shown(
-            place.column,
-            place.last_column(),
-            self.cells_apart(widest, self.sizes.across),
-        ) {
-            let cells = column.saturating_sub(place.column);
-            let x = self
-                .cells
-                .x
-                .saturating_add(self.middle(cells, self.sizes.across));
-            let y = self.cells.y.saturating_sub(TICK);
-            canvas.fill(
-                Box {
-                    x,
-                    y,
-                    width: 1,
-                    height: TICK,
-                },
-                INK,
-            );
-            let text = column.to_string();
-            let x = x.saturating_sub(text_width(&text) / 2);
-            canvas.text(
-                x,
-                y.saturating_sub(GAP.saturating_sub(2))
-                    .saturating_sub(TEXT_HEIGHT),
-                &text,
-            );
-        }
-    }
-
-    /// The low end is above, as depths are read.
-    fn bar(&self, canvas: &mut Canvas) {
-        let last = self.bar.height.saturating_sub(1).max(1);
-        for down in 0..self.bar.height {
-            let line = Box {
-                y: self.bar.y.saturating_add(down),
-                height: 1,
-                ..self.bar
-            };
-            canvas.fill(line, colour_at(down as f64 / last as f64));
-        }
-        canvas.frame(self.bar);
-        let mut taken: Vec<usize> = Vec::new();
-        for tick in &self.ticks {
-            // A share of the bar's height.
-            let down = (tick.share * last as f64).round() as usize;
-            let free = |other: &usize| other.abs_diff(down) >= TEXT_HEIGHT.saturating_add(GAP);
-            if taken.iter().all(free) {
-                self.beside(canvas, self.bar.y.saturating_add(down), &tick.text);
-                taken.push(down);
-            }
-        }
-    }
-
-    /// A number beside the bar, with a short line to it.
-    fn beside(&self, canvas: &mut Canvas, y: usize, text: &str) {
-        let x = self.bar.right();
-        canvas.fill(
-            Box {
-                x,
-                y,
-                width: TICK,
-                height: 1,
-            },
-            INK,
-        );
-        let x = x.saturating_add(TICK).saturating_add(GAP);
-        canvas.text(x, y.saturating_sub(TEXT_HEIGHT / 2), text);
+        square.saturating_mul(pixels)
     }
 }
 
-/// The indices that are numbered: round ones, or the first alone where none is round.
-fn shown(first: usize, last: usize, apart: usize) -> Vec<usize> {
-    let round = ticks::of_indices(first, last, apart);
-    if round.is_empty() {
-        vec![first]
-    } else {
-        round
+/// Where the cells stand: with room for the numbers of rows and columns, the units and the title.
+fn cells(place: Place, sizes: Sizes, settings: &Settings) -> Box {
+    let row = text_width(&place.last_row().to_string()).saturating_add(GAP.saturating_add(TICK));
+    let half_column = text_width(&place.last_column().to_string()) / 2;
+    let mut y = MARGIN.saturating_add(TEXT_HEIGHT.saturating_add(GAP).saturating_add(TICK));
+    if !settings.title.as_str().is_empty() {
+        y = y.saturating_add(TEXT_HEIGHT.saturating_add(MARGIN));
     }
+    if !settings.units.as_str().is_empty() {
+        y = y.saturating_add(GAP);
+    }
+    let squares = |count: usize| count.div_ceil(sizes.cells.max(1));
+    Box {
+        x: MARGIN.saturating_add(row.max(half_column)),
+        y,
+        width: squares(place.columns).saturating_mul(sizes.across),
+        height: squares(place.rows).saturating_mul(sizes.down),
+    }
+}
+
+/// From the cells to the bar: at least so much that no column's number stands over the bar.
+fn to_the_bar(place: Place) -> usize {
+    let half_column = text_width(&place.last_column().to_string()) / 2;
+    half_column
+        .saturating_add(GAP)
+        .max(MARGIN.saturating_mul(2))
 }

@@ -1,13 +1,17 @@
 //! Pictures of a grid's cells, with a bar that shows which colour stands for which value.
 
+mod bar;
 mod canvas;
 mod colours;
+mod edges;
 mod field;
 mod font;
 mod layout;
+mod text;
 mod ticks;
 
 pub use field::{Drawn, Field, Place};
+pub use text::Text;
 
 use std::io::{self, Write};
 
@@ -15,7 +19,8 @@ use canvas::Canvas;
 use field::Summary;
 use layout::Layout;
 
-use crate::progress::{self, Progress};
+use crate::failure::{Failure, Outcome};
+use crate::progress::Progress;
 use crate::window::Scale;
 
 /// The longer side of a picture's cells, in pixels, where no size of a cell is asked for.
@@ -35,6 +40,10 @@ pub struct Settings {
     pub scale: Option<Scale>,
     /// Pixels along a cell.
     pub cell: Option<usize>,
+    /// What stands above the cells.
+    pub title: Text,
+    /// What stands above the bar.
+    pub units: Text,
 }
 
 /// A picture, with what is told of it.
@@ -57,26 +66,52 @@ struct Sizes {
     cells: usize,
 }
 
-/// Draws a field; says what to do where it is too large.
-pub fn draw<T: Drawn>(field: &Field<T>, settings: &Settings) -> Result<Picture, String> {
-    let sizes = sizes(field.place, settings.cell)?;
-    let (summary, squares) = progress::timed("looking at the cells", || {
-        (field.summary(), field.squares(sizes.cells))
-    });
+/// Draws a part of a field, whose cells are read twice: once for the ends of the scale, and once for the colours.
+pub fn draw<F: Field>(field: &F, place: Place, settings: &Settings) -> Outcome<Picture> {
+    let sizes = sizes(place, settings.cell).map_err(Failure::Unusable)?;
+    let mut summary = Summary::default();
+    let look = |_: Place, cells: &[F::Cell]| summary.add(cells);
+    each_part(field, place, sizes, "looking at the cells", look)?;
     let scale = settings.scale.unwrap_or(Scale {
         low: summary.low.unwrap_or(0.0),
         high: summary.high.unwrap_or(0.0),
     });
-    let layout = Layout::new(field.place, sizes, scale, summary.nan > 0);
+    let layout = Layout::new(place, sizes, scale, summary.nan > 0, settings);
+    let mut canvas = layout
+        .sheet()
+        .ok_or_else(|| Failure::Unusable("there is no memory for the picture".to_owned()))?;
+    let mut outside = 0_usize;
+    let draw = |part: Place, cells: &[F::Cell]| {
+        outside = outside.saturating_add(field::outside(cells, scale));
+        layout.draw_part(&mut canvas, part, cells);
+    };
+    each_part(field, place, sizes, "drawing", draw)?;
     Ok(Picture {
-        canvas: layout
-            .draw(&squares)
-            .ok_or("there is no memory for the picture")?,
-        place: field.place,
+        canvas,
+        place,
         summary,
         sizes,
-        outside: field.outside(scale),
+        outside,
     })
+}
+
+/// Hands on the cells part by part, so that no second copy of a large grid is made.
+fn each_part<F: Field>(
+    field: &F,
+    place: Place,
+    sizes: Sizes,
+    what: &str,
+    mut take: impl FnMut(Place, &[F::Cell]),
+) -> Outcome<()> {
+    let in_steps = |cells: usize| u64::try_from(cells).unwrap_or(u64::MAX);
+    let mut progress = Progress::new(what, in_steps(place.cells()));
+    let mut cells = Vec::new();
+    for part in place.parts(sizes.cells) {
+        field.read(part, &mut cells)?;
+        take(part, &cells);
+        progress.advance(in_steps(part.cells()));
+    }
+    Ok(())
 }
 
 fn sizes(place: Place, asked: Option<usize>) -> Result<Sizes, String> {
@@ -177,8 +212,11 @@ impl Picture {
     }
 }
 
-/// A value so that it is read back the same.
+/// A value so that it is read back the same; 0 has no sign.
 fn exact(value: f64) -> String {
+    if value == 0.0 {
+        return "0".to_owned();
+    }
     if value.fract() == 0.0 && value.abs() < 1e15 {
         return format!("{value}");
     }
@@ -211,5 +249,11 @@ mod tests {
         assert_eq!(chosen(1, 3000), sizes(1, 24, 1));
         assert_eq!(chosen(5000, 9000), sizes(1, 1, 3));
         assert_eq!(chosen(usize::MAX, 1).cells, usize::MAX / 4096 + 1);
+    }
+
+    #[test]
+    fn values_are_told_exactly() {
+        let told = [-0.0, 0.0, -0.04, -3.0, 1e14, 1e300].map(exact);
+        assert_eq!(told, ["0", "0", "-0.04", "-3", "100000000000000", "1e300"]);
     }
 }

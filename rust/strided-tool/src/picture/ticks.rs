@@ -62,7 +62,8 @@ fn decimals_of(step: f64) -> usize {
     places.clamp(0.0, 20.0) as usize
 }
 
-/// A number with so many decimals, fewer where it has fewer, or with an exponent where that is long.
+/// A number with so many decimals, fewer where it has fewer, or with an exponent where that is long. What is rounded to
+/// nothing is 0, without a sign.
 fn text(value: f64, decimals: usize) -> String {
     let plain = format!("{value:.decimals$}");
     let exact = format!("{value}");
@@ -74,14 +75,24 @@ fn text(value: f64, decimals: usize) -> String {
     if short.len() > 9 {
         return format!("{value:.3e}");
     }
-    short
+    match short.contains(|digit| ('1'..='9').contains(&digit)) {
+        true => short,
+        false => "0".to_owned(),
+    }
 }
 
-/// Round indices from the first to the last, at least so many apart.
+/// The first index, and round ones up to the last, all at least so many apart.
 pub fn of_indices(first: usize, last: usize, apart: usize) -> Vec<usize> {
-    let step = round_index_step(apart.max(1));
-    let from = first.checked_next_multiple_of(step).unwrap_or(usize::MAX);
-    (from..=last).step_by(step).collect()
+    let apart = apart.max(1);
+    let step = round_index_step(apart);
+    let second = first
+        .checked_add(apart)
+        .and_then(|near| near.checked_next_multiple_of(step));
+    let round = second.map(|second| (second..=last).step_by(step));
+    [first]
+        .into_iter()
+        .chain(round.into_iter().flatten())
+        .collect()
 }
 
 fn round_index_step(at_least: usize) -> usize {
@@ -123,6 +134,18 @@ mod tests {
     }
 
     #[test]
+    fn nothing_has_no_sign() {
+        let ends = |low, high| texts(low, high).into_iter().take(2).collect::<Vec<_>>();
+        assert_eq!(ends(-0.0, -0.0), ["0"]);
+        assert_eq!(ends(-0.0, 1.0), ["0", "1"]);
+        assert_eq!(ends(-1.0, -0.0), ["-1", "0"]);
+        assert_eq!(ends(-0.04, 3.0), ["0", "3"]);
+        assert_eq!(ends(-0.4, 300.0), ["-0.4", "300"]);
+        assert_eq!(ends(-3.0, -0.001), ["-3", "0"]);
+        assert_eq!(ends(-1e-9, 1e10), ["0", "1.000e10"]);
+    }
+
+    #[test]
     fn extreme_scales() {
         assert_eq!(texts(-f64::MAX, f64::MAX).len(), 2);
         assert!(texts(0.0, f64::MIN_POSITIVE).len() >= 2);
@@ -132,10 +155,14 @@ mod tests {
     }
 
     #[test]
-    fn round_indices() {
-        assert_eq!(of_indices(3, 42, 7), [10, 20, 30, 40]);
+    fn the_first_index_and_round_ones() {
+        assert_eq!(of_indices(3, 42, 7), [3, 10, 20, 30, 40]);
+        assert_eq!(of_indices(4, 42, 7), [4, 20, 30, 40]);
+        assert_eq!(of_indices(0, 42, 7), [0, 10, 20, 30, 40]);
         assert_eq!(of_indices(0, 3, 1), [0, 1, 2, 3]);
-        assert_eq!(of_indices(7, 7, 10), Vec::<usize>::new());
+        assert_eq!(of_indices(7, 7, 10), [7]);
         assert_eq!(of_indices(usize::MAX, usize::MAX, 7), [usize::MAX]);
+        // A multiple of 5, and too near.
+        assert_eq!(of_indices(usize::MAX - 3, usize::MAX, 5).len(), 1);
     }
 }
