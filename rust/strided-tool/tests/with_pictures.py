@@ -77,14 +77,18 @@ def every_cell():
                                       ((1_000_000, 2), 245, 1, 24)]:
         depths = rng.normal(size=shape)
         depths[rng.random(shape) < 0.2] = np.nan
-        low, high = np.nanmin(depths), np.nanmax(depths)
+        depths[0, 0], depths[-1, -1] = np.inf, -np.inf
+        finite, nan = depths[np.isfinite(depths)], np.isnan(depths).sum()
+        low, high, outside = float(finite.min()), float(finite.max()), (abs(finite) > 1.5).sum()
         lowest = np.fmin.reduceat(np.fmin.reduceat(depths, range(0, shape[1], side), axis=1), range(0, shape[0], side), axis=0)
-        expected = pictures.colours(lowest, low, high).repeat(down, axis=0).repeat(across, axis=1)
-        for order in "CF":
+        for order, scale, ends, told in [("C", [], (low, high), ""), ("F", [], (low, high), ""),
+                                         ("C", ["--scale", "-1.5:1.5"], (-1.5, 1.5), f", {outside} outside the scale")]:
+            what = f"{shape} in {order} order {scale}"
             np.save(path("large.npy"), np.asarray(depths, order=order))
-            pixels, err, origin = picture("show", "large.npy", "large.png")
-            is_drawn(pixels, origin, expected, f"{shape} in {order} order")
-            check(f"lowest {low!r}, highest {high!r}, {np.isnan(depths).sum()} NaN" in err, f"{shape} in {order} order: {err}")
+            pixels, err, origin = picture("show", "large.npy", "large.png", *scale)
+            expected = pictures.colours(lowest, *ends).repeat(down, axis=0).repeat(across, axis=1)
+            is_drawn(pixels, origin, expected, what)
+            check(f"lowest {low!r}, highest {high!r}, {nan} NaN, 2 infinite{told}\n" in err, f"{what}: {err}")
     os.remove(path("large.npy"))
 
 
