@@ -69,6 +69,19 @@ def refused(status, words, *arguments, **options):
     return err
 
 
+# Runs a command and prints the most memory that it held, in bytes. In a process of its own, which is small: what a process holds
+# when it starts a command counts as the command's.
+MEASURE = """import os, sys
+_, status, usage = os.wait4(os.posix_spawn(sys.argv[1], sys.argv[1:], os.environ), 0)
+print(usage.ru_maxrss * 1024)
+sys.exit(os.waitstatus_to_exitcode(status))"""
+
+
+def peak(*arguments):
+    """The most memory that a run held, which must be done, in bytes."""
+    return int(done("-c", MEASURE, TOOL, "--quiet", *arguments, tool=sys.executable))
+
+
 def left_behind():
     """Files that a run should have removed."""
     return [name for name in os.listdir(HERE.name) if name.endswith(".tmp")]

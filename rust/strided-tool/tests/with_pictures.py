@@ -6,7 +6,7 @@ import re
 import numpy as np
 
 import pictures
-from harness import TOOL, check, content, done, finish, path, put, refused, run
+from harness import check, content, done, finish, path, peak, put, refused, run
 
 MARGIN, TICK, GAP, BAR = 12, 5, 6, 24
 # From the top of the columns' numbers to the cells, and what a title and units add above them.
@@ -240,20 +240,12 @@ def nothing_below():
     check(done("print", "zero.npy") == "-0.0\n", "print is exact")
 
 
-def peak(*arguments):
-    """The most memory that a run has had, in bytes."""
-    process = os.spawnv(os.P_NOWAIT, TOOL, [TOOL, "--quiet", *arguments])
-    _, status, usage = os.wait4(process, 0)
-    check(status == 0, f"{arguments} ended with {status}")
-    return usage.ru_maxrss * 1024
-
-
 def memory():
     """The grid is in memory once, whatever its shape and order; the files have no blocks on the disk."""
     for shape in [(5000, 5000), (1, 25_000_000), (25_000_000, 1)]:
         for fortran_order in [False, True]:
             np.lib.format.open_memmap(path("large.npy"), mode="w+", dtype="<i4", shape=shape, fortran_order=fortran_order)
-            most = peak("show", path("large.npy"), path("large.png"))
+            most = peak("show", "large.npy", "large.png")
             check(most <= 100_000_000 + 64_000_000, f"{shape}, Fortran order {fortran_order}: {most} bytes")
     os.remove(path("large.npy"))
 

@@ -5,7 +5,7 @@ import subprocess
 
 import numpy as np
 
-from harness import HERE, TOOL, check, content, done, finish, path, put, refused, run
+from harness import HERE, TOOL, check, content, done, finish, path, peak, put, refused, run
 
 ROWS, COLUMNS = 80, 120
 
@@ -180,6 +180,9 @@ def refused_without_a_job():
     refused(2, ["bed.npy: it holds i64; grids are of i32 or f64"], "scatter", *LISTS, *FILES)
     save(starts, cuts)
     check(content("bed.npy") == before, "the grid stays")
+    np.save(path("floats.npy"), np.zeros((12, 30)))
+    refused(2, ["floats.npy: it holds f64, and the operand is of i32"], "gather", *READ, "--operand", "bed.npy", "--starts",
+            "start.npy", "--dest", "floats.npy", "--out", "w.npy")
     for arguments, words in [
             (["scatter", *LISTS[:4], *FILES], "--index-vector-dim"), (["scatter", *FILES], "--index-vector-dim"),
             (["scatter", "--job", "log.job", *LISTS, *FILES], "cannot be used with"),
@@ -217,15 +220,6 @@ def long_calls():
         begun.terminate()
         begun.wait()
     check(content("bed.npy") == before, "a run that was ended leaves the grid")
-
-
-def peak(*arguments):
-    """The most memory that a run held, in bytes."""
-    process = subprocess.Popen([TOOL, *map(str, arguments)], cwd=HERE.name, stderr=subprocess.DEVNULL)
-    _, status, usage = os.wait4(process.pid, 0)
-    process.returncode = os.waitstatus_to_exitcode(status)
-    check(process.returncode == 0, f"{arguments}: {process.returncode}")
-    return usage.ru_maxrss * 1024
 
 
 def memory():
