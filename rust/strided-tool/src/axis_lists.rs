@@ -21,25 +21,18 @@ impl FromStr for Axes {
 
 // A gather's lists.
 #[derive(Args)]
+#[command(next_help_heading = "Without a job")]
 pub struct GatherLists {
-    /// Without a job: the result's axes that the windows lie on
+    /// The result's axes that the windows lie on
     #[arg(long, value_name = "AXES", conflicts_with = "job")]
     offset_dims: Option<Axes>,
-    /// Without a job: the operand's axes, with windows of 1, that the result leaves out
+    /// The operand's axes, with windows of 1, that the result leaves out
     #[arg(long, value_name = "AXES", conflicts_with = "job")]
     collapsed_slice_dims: Option<Axes>,
-    /// Without a job: the operand's axis that each component of a start goes along
+    /// The operand's axis that each component of a start goes along
     #[arg(long, value_name = "AXES", conflicts_with = "job")]
     start_index_map: Option<Axes>,
-    /// Without a job: the axis of the starts that their components lie on
-    #[arg(
-        long,
-        value_name = "AXIS",
-        required_unless_present = "job",
-        conflicts_with = "job"
-    )]
-    index_vector_dim: Option<usize>,
-    /// Without a job: the window's extent on each axis of the operand
+    /// The window's extent on each axis of the operand; must be given
     #[arg(
         long,
         value_name = "SIZES",
@@ -47,21 +40,33 @@ pub struct GatherLists {
         conflicts_with = "job"
     )]
     slice_sizes: Option<Axes>,
+    /// The axis of the components.
+    #[command(flatten)]
+    vector: Vector,
 }
 
 // A scatter's lists.
 #[derive(Args)]
+#[command(next_help_heading = "Without a job")]
 pub struct ScatterLists {
-    /// Without a job: the updates' axes that go along the grid's axes
+    /// The updates' axes that go along the grid's axes
     #[arg(long, value_name = "AXES", conflicts_with = "job")]
     update_window_dims: Option<Axes>,
-    /// Without a job: the grid's axes, with windows of 1, that the updates leave out
+    /// The grid's axes, with windows of 1, that the updates leave out
     #[arg(long, value_name = "AXES", conflicts_with = "job")]
     inserted_window_dims: Option<Axes>,
-    /// Without a job: the grid's axis that each component of a start goes along
+    /// The grid's axis that each component of a start goes along
     #[arg(long, value_name = "AXES", conflicts_with = "job")]
     scatter_dims_to_operand_dims: Option<Axes>,
-    /// Without a job: the axis of the starts that their components lie on
+    /// The axis of the components.
+    #[command(flatten)]
+    vector: Vector,
+}
+
+// What both have.
+#[derive(Args)]
+struct Vector {
+    /// The axis of the starts that their components lie on; the count of their axes where a start is one number; must be given
     #[arg(
         long,
         value_name = "AXIS",
@@ -69,6 +74,12 @@ pub struct ScatterLists {
         conflicts_with = "job"
     )]
     index_vector_dim: Option<usize>,
+}
+
+impl Vector {
+    fn axis(&self) -> usize {
+        self.index_vector_dim.unwrap_or_default()
+    }
 }
 
 /// The entries; none where the option was left out.
@@ -83,7 +94,7 @@ impl GatherLists {
             offset_dims: entries(&self.offset_dims),
             collapsed_slice_dims: entries(&self.collapsed_slice_dims),
             start_index_map: entries(&self.start_index_map),
-            index_vector_dim: self.index_vector_dim.unwrap_or_default(),
+            index_vector_dim: self.vector.axis(),
             slice_sizes: entries(&self.slice_sizes),
         }
     }
@@ -96,7 +107,7 @@ impl ScatterLists {
             update_window_dims: entries(&self.update_window_dims),
             inserted_window_dims: entries(&self.inserted_window_dims),
             scatter_dims_to_operand_dims: entries(&self.scatter_dims_to_operand_dims),
-            index_vector_dim: self.index_vector_dim.unwrap_or_default(),
+            index_vector_dim: self.vector.axis(),
         }
     }
 }

@@ -154,15 +154,15 @@ pub struct GatherArgs {
     /// The destination afterwards; it may be the file of --dest
     #[arg(long, value_name = "NPY")]
     pub out: PathBuf,
-    /// The job's axis lists.
-    #[command(flatten)]
-    pub lists: GatherLists,
     /// Files of any shape and order lend their elements in memory order, by the job's layouts
     #[arg(long, conflicts_with = "index_vector_dim")]
     pub any_shape: bool,
     /// How the output is locked.
     #[command(flatten)]
     pub lock: Lock,
+    /// The axis lists, last, since their heading would be that of what follows.
+    #[command(flatten)]
+    pub lists: GatherLists,
 }
 
 // Files of a scatter.
@@ -193,9 +193,6 @@ pub struct ScatterArgs {
     /// The grid afterwards; it may be the file of --grid
     #[arg(long, value_name = "NPY")]
     pub out: PathBuf,
-    /// The job's axis lists.
-    #[command(flatten)]
-    pub lists: ScatterLists,
     /// Files of any shape and order lend their elements in memory order, by the job's layouts
     #[arg(long, conflicts_with = "index_vector_dim")]
     pub any_shape: bool,
@@ -205,6 +202,9 @@ pub struct ScatterArgs {
     /// How the output is locked.
     #[command(flatten)]
     pub lock: Lock,
+    /// The axis lists, last, since their heading would be that of what follows.
+    #[command(flatten)]
+    pub lists: ScatterLists,
 }
 
 // What is drawn, and how.

@@ -56,10 +56,11 @@ impl<'a> Lent<'a> {
         if found == wanted {
             return Ok(());
         }
-        let asked = match wanted {
-            Kind::I64 => "starts are i64".to_owned(),
+        let asked = match (wanted, &stored.job) {
+            (Kind::I64, _) => "starts are i64".to_owned(),
             _ if stored.is_file => format!("the job's {name} is of {wanted}"),
-            _ => format!("the grid is of {wanted}"),
+            (_, Job::Gather(_)) => format!("the operand is of {wanted}"),
+            (_, Job::Scatter(_)) => format!("the grid is of {wanted}"),
         };
         let convert = format!("convert it in NumPy with .astype('{}')", wanted.descr());
         let other = match found {

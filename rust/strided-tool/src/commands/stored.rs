@@ -49,18 +49,21 @@ impl Stored {
 
     /// A job that no file stores, and that the library would run.
     pub fn of_call(job: Job) -> Outcome<Stored> {
+        let about = "the call".to_owned();
+        let known = Known {
+            job: Some(&job),
+            ..Known::default()
+        };
         let written = job.to_bytes();
-        let failed = written.as_ref().err().copied();
+        let bytes = written.map_err(|error| refused(&about, error, &known))?;
         let stored = Stored {
-            about: "the call".to_owned(),
+            about,
             is_file: false,
-            bytes: written.unwrap_or_default(),
+            bytes,
             job,
         };
-        match failed {
-            Some(error) => Err(stored.refused(error, None)),
-            None => stored.can_run().map(|()| stored),
-        }
+        stored.can_run()?;
+        Ok(stored)
     }
 
     /// Refuses a job that the library refuses to compile.
