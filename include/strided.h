@@ -1,7 +1,8 @@
 /* Gather and scatter on strided grids: the functions of libstrided.a (`rt staticlib strided`).
 
    Every function answers for all arguments, always returns, and reads and writes only inside the slices that it is lent.
-   Its answer is three numbers in `answer`: STRIDED_DONE, or one of the refusals below, then a and b, 0 where unnamed.
+   Its answer is three numbers in `answer`: STRIDED_DONE, or one of the refusals below, then a and b, 0 where unnamed; the
+   version's function alone has none, and returns its number.
    A refusal changes no element of a destination and no byte of a job. A call that is done changes only the destination's
    elements that its cells name. An accepted call takes as long as its plan has cells: a gather has at most as many as its
    destination has elements, but a scatter whose index and updates have strides of 0 can name 2^62 updates in a few
@@ -28,9 +29,9 @@
 extern "C" {
 #endif
 
-/* The version of these functions, which grows with every change of them; the function answers it. An archive of another version
-   has no function of this name, and a program that includes this header does not link with it (with GCC and Clang; with other
-   compilers, if it calls the function). */
+/* The version of these functions, which grows with every change of them, and which the function returns. An archive of another
+   version has no function of this name, and a program that includes this header does not link with it (with GCC and Clang; with
+   other compilers, if it calls the function). */
 #define STRIDED_VERSION 1
 uint64_t strided_version_1(void);
 #if defined(__GNUC__)

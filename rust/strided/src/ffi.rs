@@ -1,6 +1,7 @@
 //! The C interface: a function for each of `strided.h`, by its name, with a
 //! slice where the header has a pointer and a count, and with the answer
-//! handed back. Every use of the library from Rust goes through here.
+//! handed back; the version's function is here without the version in its
+//! name. Every use of the library from Rust goes through here.
 //!
 //! These are the calls as the library has them, with lists in place of specs
 //! and views; the rest of the crate is easier to use. All of them are safe:

@@ -29,6 +29,31 @@ fn one_version_everywhere() {
     assert!(DECLARED.contains(&format!("fn {name}) -> u64;")));
 }
 
+/// Each version with a digest of the header as the compiler reads it. A change
+/// of the functions gets a new version and a line here.
+const VERSIONS: [(u64, u64); 1] = [(1, 0xa413_22fe_9128_3adc)];
+
+#[test]
+fn a_change_of_the_functions_has_a_new_version() {
+    let now = (super::archive::repository::VERSION, digest(&code(HEADER)));
+    assert_eq!(VERSIONS.last(), Some(&now));
+}
+
+/// Without comments, and with one space where there are some.
+fn code(header: &str) -> String {
+    let parts = header.split("/*");
+    let outside = parts.map(|part| part.split_once("*/").map_or(part, |(_, after)| after));
+    let words = outside.flat_map(str::split_whitespace);
+    words.collect::<Vec<_>>().join(" ")
+}
+
+/// FNV-1a.
+fn digest(text: &str) -> u64 {
+    text.bytes().fold(0xcbf2_9ce4_8422_2325, |digest, byte| {
+        (digest ^ u64::from(byte)).wrapping_mul(0x100_0000_01b3)
+    })
+}
+
 fn of_header() -> Functions {
     let functions = HEADER.split("\nvoid ").skip(1);
     functions.map(|text| function(text, of_c)).collect()
