@@ -6,10 +6,11 @@ use Prim.Native.Nat.{ℕ}
 use lib.Dec.{eqb}
 use lib.IntN.{ℤ}
 use Rattle.integer.specs.Defs.{eqZ}
+use Rattle.integer.specs.Tests.{and-true, and-both, both-ways}
 use Rattle.indexing.specs.Coordinates.{View}
 use Rattle.axis_lists.specs.Held.{Decides}
 use Rattle.equality.specs.Same.{sameBy}
-use Rattle.equality.proofs.Compare.{and-true, and-both, numbers-decide, ints-decide, lists-decide, both-ways}
+use Rattle.equality.proofs.Compare.{numbers-decide, ints-decide, lists-decide}
 use Rattle.calls.specs.Calls.{sameView}
 
 -- tests one after the other

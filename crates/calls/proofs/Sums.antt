@@ -9,15 +9,10 @@ use lib.IntN.{ℤ, pos, _+ℤ_}
 use Rattle.integer.specs.Z.{up}
 use Rattle.indexing.specs.Coordinates.{dot}
 use Rattle.indexing.specs.Start.{clamp}
-use Rattle.indexing.specs.Axes.{Axes, sumOf}
+use Rattle.indexing.specs.Axes.{Axes}
 use Rattle.indexing.specs.Inside.{clamp-is}
 
 -- ---- sums and clamps
-pub sum-same : (n : ℕ) (f g : ℕ → ℤ) → ((c : ℕ) → c < n → f c ≡ g c) → sumOf n f ≡ sumOf n g
-unfolding sumOf
-sum-same zero f g e = refl
-sum-same (suc n) f g e = ap₂ _+ℤ_ (sum-same n f g (λ c l. e c (omega arith))) (e n (omega arith))
-
 pub clamp-limit : (x : ℤ) (extent window : ℕ) → clamp x (extent - window) 0 ≡ clamp x extent window
 clamp-limit x extent window =
     let e : extent - window - 0 ≡ extent - window = omega arith in

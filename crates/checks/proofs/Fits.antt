@@ -3,8 +3,8 @@ use mathlib.Core.Path.{_≡_, refl, ap, _∙_}
 use mathlib.Core.Bool.{Bool, true, false, cond}
 use Prim.Native.Nat.{ℕ, zero, suc, _+_, _<_, _≤_}
 use native.Mathlib.Omega.{arith}
-use borrow.Author.Tests.{eqb-true, eq-eqb, le-leb}
-use lib.Dec.{eqb}
+use borrow.Author.Tests.{eqb-true, eq-eqb, le-leb, leb-true}
+use lib.Dec.{eqb, leb}
 use lib.IntN.{ℤ, pos, _*ℤ_, +ℤ-idl}
 use Rattle.integer.specs.declared.Checked.{Checked}
 use Rattle.integer.specs.declared.Checked.the-variants as C
@@ -16,7 +16,7 @@ use Rattle.layout.specs.Answers.{isDone}
 use Rattle.layout.specs.Layouts.{rankLimit, strideLength, rankAtMost}
 use Rattle.layout.specs.Spans.{offsetAdd}
 use Rattle.layout.specs.Laws.{offset-add-is}
-use Rattle.checks.specs.Checks.{firstOf, totalFits, numberFits, offsetFits, sameCount}
+use Rattle.checks.specs.Checks.{firstOf, totalFits, numberFits, offsetFits, sameCount, vectorAxis}
 use Rattle.checks.specs.Values.{valueOf, valueOfU, offsetOr}
 use Rattle.checks.proofs.Made.{or-done}
 
@@ -54,3 +54,10 @@ strides-yes n m e = rw (eq-eqb m n e)
 
 pub rank-yes : (n : ℕ) → n ≤ rankLimit → isDone (rankAtMost n) ≡ true
 rank-yes n h = rw (le-leb n rankLimit h)
+
+pub vector-fits : (v n : ℕ) → isDone (vectorAxis v n) ≡ true → v ≤ n
+vector-fits v n e = go (leb v n) refl e
+  where
+    go : (t : Bool) → leb v n ≡ t → isDone (cond t A.Done (A.InvalidAxis v (n + 1))) ≡ true → v ≤ n
+    go true f h = leb-true v n f
+    go false f h = let z : _≡_ {A = ℕ} 0 1 = cc in absurd (omega arith)

@@ -1,8 +1,8 @@
 -- Lists as they are held and lent, and layouts that neither 1 nor 2 refuses. Assumes nothing.
-use mathlib.Core.Path.{_≡_, ap, ap₂, _∙_}
+use mathlib.Core.Path.{_≡_, ap, ap₂, _∙_, refl}
 use mathlib.Core.Bool.{Bool, true, false, cond}
-use mathlib.Core.List.{List}
-use Prim.Native.Nat.{ℕ, _+_, _-_, _≤_, min}
+use mathlib.Core.List.{List, [], _∷_, map}
+use Prim.Native.Nat.{ℕ, _+_, _-_, _≤_, min, zero, suc}
 use native.Mathlib.Omega.{arith}
 use lib.ListN.{length, take, drop, replicate, length-append, length-take, length-replicate}
 use lib.IntN.{ℤ, pos}
@@ -63,3 +63,8 @@ lengths-pass oe os ie is de ds done =
     let (x, d4) = or-done (rankAtMost oe) _ d3 in
     let (y, z) = or-done (rankAtMost ie) _ d4 in
     record { operand = same-length oe os a; index = same-length ie is b; dest = same-length de ds d; operand-few = few-axes oe x; index-few = few-axes ie y; dest-few = few-axes de z }
+
+pub take-map : {A B : Type 0} (f : A → B) (n : ℕ) (l : List A) → take n (map f l) ≡ map f (take n l)
+take-map f zero l = refl
+take-map f (suc n) [] = refl
+take-map {A} {B} f (suc n) (x ∷ xs) = ap (λ (r : List B). f x ∷ r) (take-map f n xs)

@@ -2,13 +2,14 @@
 use mathlib.Core.Path.{_≡_, refl, sym, ap, ap₂, _∙_}
 use mathlib.Core.Bool.{Bool, true, false, cond}
 use mathlib.Core.List.{List, _++_, append-nil}
-use Prim.Native.Nat.{ℕ, zero, suc, _+_, _-_, _<_, _≤_}
+use Prim.Native.Nat.{ℕ, _+_, _-_, _<_, _≤_}
 use native.Mathlib.Omega.{arith}
 use borrow.Author.Tests.{ne-eqb, ltb-true, ltb-false}
 use lib.Dec.{ltb}
 use lib.ListN.{length, getD, take, replicate, length-take}
 use lib.Seq.{take-all, ext-getD, getD-append-add}
 use lib.IntN.{ℤ, pos}
+use Rattle.indexing.specs.Axes.{getD-same}
 use Rattle.indexing.specs.Coordinates.{tabulate}
 use Rattle.indexing.specs.Updates.{length-tabulate, getD-tabulate}
 use Rattle.layout.specs.Layouts.{rankLimit, padded}
@@ -24,18 +25,12 @@ full {A} d l e = let z : rankLimit - length l ≡ 0 = omega arith in ap₂ _++_ 
 pub padded-entry : {A : Type 0} (d : A) (l : List A) (i : ℕ) → i < length l → length l ≤ rankLimit → getD (padded rankLimit d l) i d ≡ getD l i d
 padded-entry {A} d l i h f = entry-below (length l) (padded rankLimit d l) i d h ∙ ap (λ (x : List A). getD x i d) (read-back d l f)
 
-replicate-default : {A : Type 0} (d : A) (n i : ℕ) → getD (replicate n d) i d ≡ d
-replicate-default d zero zero = refl
-replicate-default d zero (suc i) = refl
-replicate-default d (suc n) zero = refl
-replicate-default d (suc n) (suc i) = replicate-default d n i
-
 pub padded-past : {A : Type 0} (d : A) (l : List A) (i : ℕ) → length l ≤ i → getD (padded rankLimit d l) i d ≡ d
 unfolding padded
 padded-past {A} d l i h =
     let n : ℕ = length (take rankLimit l) in
     let e : i ≡ n + (i - n) = omega (arith, length-take rankLimit l) in
-    ap (λ (j : ℕ). getD (take rankLimit l ++ replicate (rankLimit - length l) d) j d) e ∙ getD-append-add (take rankLimit l) (replicate (rankLimit - length l) d) (i - n) d ∙ replicate-default d (rankLimit - length l) (i - n)
+    ap (λ (j : ℕ). getD (take rankLimit l ++ replicate (rankLimit - length l) d) j d) e ∙ getD-append-add (take rankLimit l) (replicate (rankLimit - length l) d) (i - n) d ∙ getD-same d (rankLimit - length l) (i - n)
 
 -- a number of each entry of such an array
 pub each-padded : {A : Type 0} (f : A → ℤ) (d : A) (l : List A) (zs : List ℤ) → f d ≡ pos 0 → length l ≤ rankLimit → length zs ≡ length l → ((a : ℕ) → a < length l → f (getD l a d) ≡ getD zs a (pos 0))

@@ -1,5 +1,5 @@
 -- Tests for the same lists and layouts: entry by entry, and that they decide. Assumes nothing.
-use mathlib.Core.Path.{_≡_, refl, sym, ap, ap₂, subst}
+use mathlib.Core.Path.{_≡_, refl, ap, ap₂, subst}
 use mathlib.Core.Bool.{Bool, true, false, _&&_}
 use mathlib.Core.List.{List, [], _∷_}
 use Prim.Native.Nat.{ℕ, _+_, _<_, _≤_}
@@ -15,6 +15,7 @@ use mir.Val.{SFits, ofZ}
 use Rattle.integer.specs.Defs.{eqZ}
 use Rattle.integer.specs.Laws.{eqZ-true, eqZ-refl}
 use Rattle.integer.specs.Machine.{same-bits}
+use Rattle.integer.specs.Tests.{and-true, and-both, both-ways}
 use Rattle.layout.specs.declared.Layout.{Layout}
 use Rattle.axis_lists.specs.declared.Numbers.{Numbers}
 use Rattle.axis_lists.specs.declared.Steps.{Steps}
@@ -38,11 +39,6 @@ module _ {A : Type 0} (test : A → A → Bool) (d : A) (xs ys : List A) (i : �
   same-ends h k = rw (drop-of-length-le xs h, drop-of-length-le ys k)
 
 -- ---- signed numbers, by their bits
-pub both-ways : (t u : Bool) → (t ≡ true → u ≡ true) → (u ≡ true → t ≡ true) → t ≡ u
-both-ways true u f g = sym (f refl)
-both-ways false true f g = g refl
-both-ways false false f g = refl
-
 pub bits-same : (a b : ℤ) → SFits w64 a → SFits w64 b → eqb (ofZ w64 a) (ofZ w64 b) ≡ eqZ a b
 bits-same a b f g =
     both-ways (eqb (ofZ w64 a) (ofZ w64 b)) (eqZ a b)
@@ -50,14 +46,6 @@ bits-same a b f g =
     (λ e. eq-eqb (ofZ w64 a) (ofZ w64 b) (ap (ofZ w64) (eqZ-true a b e)))
 
 -- ---- each test decides
-pub and-true : (r s : Bool) → (r && s) ≡ true → (r ≡ true) × (s ≡ true)
-and-true true s e = (refl, e)
-and-true false s e = let z : _≡_ {A = ℕ} 0 1 = cc in absurd (omega arith)
-
-pub and-both : (r s : Bool) → r ≡ true → s ≡ true → (r && s) ≡ true
-and-both true s e f = f
-and-both false s e f = e
-
 pub numbers-decide : (x y : ℕ) → Decides (eqb x y) x y
 numbers-decide x y = record { yes = eqb-true x y; no = eq-eqb x y }
 

@@ -6,6 +6,7 @@ use Prim.Native.Nat.{ℕ}
 use native.Mathlib.Omega.{arith}
 use lib.ListN.{length, getD, replicate}
 use lib.IntN.{ℤ, pos}
+use Rattle.integer.specs.Tests.{and-true}
 use Rattle.indexing.specs.Coordinates.{rank, tabulate}
 use Rattle.indexing.specs.Gather.{Gather, shownDims, batchDims}
 use Rattle.indexing.specs.Steps.{windowSteps, batchSteps}
@@ -21,7 +22,6 @@ use Rattle.axis_lists.specs.Held.{numbersOf}
 use Rattle.checks.proofs.Made.{or-done}
 use Rattle.components.specs.Components.{limitAt, unlessNone}
 use Rattle.components.proofs.Padded.{each-padded}
-use Rattle.equality.proofs.Compare.{and-true}
 use Rattle.calls.specs.Calls.{sameView, sameViews, planRefusal, reachIn, boundsRefusal}
 use Rattle.calls.proofs.Same.{same-view-is}
 use Rattle.calls.proofs.Does.{plan-done}

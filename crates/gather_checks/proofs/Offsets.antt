@@ -11,9 +11,9 @@ use lib.IntN.{ℤ, pos, _+ℤ_, _*ℤ_, +ℤ-idl}
 use mir.Syntax.{w64}
 use mir.Val.{SFits}
 use mir.Facts.{sfits-lit}
-use Rattle.integer.specs.Defs.{checked, minℤ, maxℤ}
+use Rattle.integer.specs.Defs.{checked}
 use Rattle.integer.specs.Machine.{checked-yes, checked-fits, checked-sfits}
-use Rattle.integer.specs.Laws.{minℤ-by, maxℤ-by, term-low, term-high, pos-≤, sfits-between}
+use Rattle.integer.specs.Laws.{term-fits}
 use Rattle.integer.specs.declared.Checked.{Checked}
 use Rattle.integer.specs.declared.Checked.the-variants as C
 use Rattle.layout.specs.Answers.{isDone}
@@ -21,16 +21,6 @@ use Rattle.layout.specs.Spans.{andThen, spanned, reachOf, offsetAdd}
 use Rattle.layout.specs.Laws.{then-inv}
 use Rattle.checks.specs.Checks.{spanFits, numberFits, offsetFits, componentsOf}
 use Rattle.checks.proofs.Small.{spans-reach}
-
--- a stride times a coordinate lies between 0 and the stride times the last
-between : (s : ℤ) (c d : ℕ) → c < d → SFits w64 (s *ℤ pos (d - 1)) → SFits w64 (s *ℤ pos c)
-between s c d h f =
-    let z : SFits w64 (pos 0) = sfits-lit {z = pos 0} tt in
-    sfits-between (minℤ (pos 0) (s *ℤ pos (d - 1))) (s *ℤ pos c) (maxℤ (pos 0) (s *ℤ pos (d - 1)))
-    (minℤ-by (pos 0) (s *ℤ pos (d - 1)) (λ x. SFits w64 x) (λ k. z) (λ k. f))
-    (maxℤ-by (pos 0) (s *ℤ pos (d - 1)) (λ x. SFits w64 x) (λ k. f) (λ k. z))
-    (term-low s (pos c) (pos (d - 1)) (pos-≤ (omega arith)) (pos-≤ (omega arith)))
-    (term-high s (pos c) (pos (d - 1)) (pos-≤ (omega arith)) (pos-≤ (omega arith)))
 
 offset-yes : (s : ℤ) (c : ℕ) → SFits w64 (pos c) → SFits w64 (s *ℤ pos c) → isDone (offsetFits s c) ≡ true
 unfolding offsetAdd
@@ -47,7 +37,7 @@ reach-offset d s m c h e =
     let t = then-inv (checked (pos (d - 1))) (λ z. checked (s *ℤ z)) m e in
     let f : SFits w64 (pos (d - 1)) = checked-sfits (pos (d - 1)) (t .0) (t .1) in
     let g : SFits w64 (s *ℤ pos (d - 1)) = subst (λ (z : ℤ). SFits w64 (s *ℤ z)) (sym (checked-fits (pos (d - 1)) (t .0) (t .1))) (checked-sfits (s *ℤ t .0) m (t .2)) in
-    offset-yes s c (record { sfits = omega (arith, f .sfits) }) (between s c d h g)
+    offset-yes s c (record { sfits = omega (arith, f .sfits) }) (term-fits s c d h g)
 
 -- THE COMPONENT OFFSETS, the vector axis's stride times c: none is refused, given the span of the index view and the component count
 pub component-offsets : (ie : List ℕ) (is : List ℤ) (v : ℕ) → length is ≡ length ie → isDone (spanFits (spanned ie is)) ≡ true → v ≤ length ie

@@ -5,6 +5,7 @@ use mathlib.Core.List.{List}
 use Prim.Native.Nat.{ℕ, min}
 use lib.ListN.{length, take, replicate}
 use lib.IntN.{ℤ, pos}
+use Rattle.integer.specs.Tests.{and-true, and-both}
 use Rattle.indexing.specs.Coordinates.{View, rank, pick, tabulate}
 use Rattle.indexing.specs.Gather.{Gather, shownDims, batchDims}
 use Rattle.indexing.specs.Steps.{vectorStride, windowSteps, batchSteps}
@@ -19,7 +20,6 @@ use Rattle.axis_lists.specs.declared.Steps.{Steps}
 use Rattle.checks.specs.Values.{offsetOr}
 use Rattle.checks.proofs.Held.{never}
 use Rattle.components.specs.Components.{limitAt, unlessNone}
-use Rattle.equality.proofs.Compare.{and-true, and-both}
 use Rattle.calls.specs.Calls.{viewWith, sameView, sameViews, planRefusal, reachIn, boundsRefusal}
 use Rattle.calls.proofs.Same.{same-view-is, view-same}
 use Rattle.gather_checks.specs.Refusals.{specRefusal, refusalOf, compileRefusal}

@@ -18,7 +18,7 @@ use Rattle.indexing.specs.Loops.{inOrder, gathered-loop}
 use Rattle.indexing.specs.Inside.{inside-within}
 use Rattle.indexing.specs.Bounds.{offset-below, operand-inside, gather-start-within}
 use Rattle.indexing.specs.Valid.{Covered, ValidGather}
-use Rattle.indexing.specs.Places.{reads-at, gather-component-at, reads-partly-in, writes-in, gather-starts-in}
+use Rattle.indexing.specs.Places.{reads-at, gather-component-at, reads-partly-in, writes-in, gather-starts-in, sum-same}
 use Rattle.layout.specs.declared.Answer.the-variants as A
 use Rattle.layout.specs.Answers.{isDone}
 use Rattle.layout.specs.Layouts.{rankLimit, padded}
@@ -27,7 +27,7 @@ use Rattle.axis_lists.proofs.Filling.{entry-below}
 use Rattle.components.specs.Components.{limitAt, unlessNone}
 use Rattle.components.proofs.Padded.{unless-some}
 use Rattle.calls.proofs.Covers.{no-zero, covered}
-use Rattle.calls.proofs.Sums.{sum-same, clamp-limit, zero-dot, axis-below}
+use Rattle.calls.proofs.Sums.{clamp-limit, zero-dot, axis-below}
 use Rattle.gather_checks.specs.Refusals.{refusalOf}
 use Rattle.gather_plan.proofs.Valid.{small, valid}
 use Rattle.runs.specs.Runs.{cellAt}

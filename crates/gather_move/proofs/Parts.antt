@@ -19,6 +19,7 @@ use Rattle.indexing.specs.Reach.{lowest}
 use Rattle.indexing.specs.Steps.{windowSteps, batchSteps}
 use Rattle.indexing.specs.Valid.{Covered}
 use Rattle.indexing.specs.Parts.{rebased, covered-part, gathered-lent}
+use Rattle.layout.specs.Laws.{no-cells}
 use Rattle.layout.specs.declared.Answer.{Answer}
 use Rattle.layout.specs.declared.Answer.the-variants as A
 use Rattle.layout.specs.declared.Reach.the-variants as R
@@ -31,7 +32,6 @@ use Rattle.calls.proofs.Does.{not-outside, zero-of}
 use Rattle.gather_checks.specs.Refusals.{specRefusal, refusalOf}
 use Rattle.runs.proofs.Place.{read}
 use Rattle.runs.proofs.Turns.{none}
-use Rattle.windows.proofs.Last.{no-cells}
 use Rattle.gather_windows.specs.Gathering.{gatheredBy, Gathering}
 use Rattle.gather_move.specs.Prepared.{gatherNumbers, startBase, Ready, Prepares, Cells, Movable}
 use Rattle.gather_move.specs.declared.GatherNumbers.{GatherNumbers}

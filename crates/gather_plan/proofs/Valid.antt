@@ -7,6 +7,7 @@ use native.Mathlib.Omega.{arith}
 use borrow.Author.Tests.{eqb-true, leb-true}
 use lib.Dec.{eqb, leb}
 use lib.ListN.{length, getD}
+use Rattle.integer.specs.Tests.{and-true}
 use Rattle.indexing.specs.Coordinates.{rank, pick, has, others}
 use Rattle.indexing.specs.Start.{without, components}
 use Rattle.indexing.specs.Gather.{Gather, batchDims, shownDims}
@@ -24,18 +25,10 @@ use Rattle.gather_checks.specs.Refusals.{collapsedOne, numbersRefusal, sizesRef
 use Rattle.gather_checks.proofs.Offsets.{component-offsets}
 use Rattle.checks.proofs.Made.{or-done, same-length}
 use Rattle.checks.proofs.Small.{spans-small}
-use Rattle.checks.proofs.Fits.{same-count}
+use Rattle.checks.proofs.Fits.{same-count, vector-fits}
 use Rattle.checks.proofs.Lists.{unique-axes}
-use Rattle.equality.proofs.Compare.{and-true}
 
 -- ---- each check
-vector-at : (v n : ℕ) → isDone (vectorAxis v n) ≡ true → v ≤ n
-vector-at v n e = go (leb v n) refl e
-  where
-    go : (t : Bool) → leb v n ≡ t → isDone (cond t A.Done (A.InvalidAxis v (n + 1))) ≡ true → v ≤ n
-    go true f h = leb-true v n f
-    go false f h = let z : _≡_ {A = ℕ} 0 1 = cc in absurd (omega arith)
-
 windows-fit : (r a : ℕ) (ds ws : List ℕ) → length ws ≡ length ds → isDone (windowsFrom r a ds ws) ≡ true → (i : ℕ) → i < length ds → getD ws i 0 ≤ getD ds i 0
 unfolding windowsFrom
 windows-fit r a [] ws l e i h = absurd (omega arith)
@@ -140,7 +133,7 @@ module _ (four : Answer) (g : Gather) (done : isDone (refusalOf four g) ≡ true
         sizes = sizes;
         collapsed = unique-axes (rank (g .operand)) (g .spec .collapsed-slice-dims) (b .0);
         mapped = unique-axes (rank (g .operand)) (g .spec .start-index-map) (c .0);
-        vector = vector-at (g .spec .index-vector-dim) (rank (g .indices)) (d .0);
+        vector = vector-fits (g .spec .index-vector-dim) (rank (g .indices)) (d .0);
         fits = windows-fit (rank (g .operand)) 0 (g .operand .extents) (g .spec .slice-sizes) sizes (e .0);
         collapsed-one = collapsed-one (rank (g .operand)) (g .spec .slice-sizes) (g .spec .collapsed-slice-dims) (e .1);
         counted = same-count (componentsOf (g .indices .extents) (g .spec .index-vector-dim)) (length (g .spec .start-index-map)) (m .0);

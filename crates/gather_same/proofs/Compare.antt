@@ -6,9 +6,10 @@ use borrow.Author.Tests.{eqb-true, eq-eqb}
 use lib.Dec.{eqb}
 use Rattle.integer.specs.Defs.{eqZ}
 use Rattle.integer.specs.Laws.{eqZ-true}
+use Rattle.integer.specs.Tests.{and-true, and-both}
 use Rattle.axis_lists.specs.Held.{Decides}
 use Rattle.equality.specs.Same.{sameBy, sameLayout, sameNumbers, sameSteps}
-use Rattle.equality.proofs.Compare.{and-true, and-both, ints-decide, lists-decide, layouts-decide, held-decide, steps-decide}
+use Rattle.equality.proofs.Compare.{ints-decide, lists-decide, layouts-decide, held-decide, steps-decide}
 use Rattle.gather_plan.specs.declared.Role.{Role}
 use Rattle.gather_plan.specs.declared.Role.the-variants.{Batch, Window}
 use Rattle.gather_plan.specs.declared.GatherReplayAxis.{GatherReplayAxis}

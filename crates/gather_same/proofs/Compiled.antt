@@ -1,6 +1,7 @@
 -- A compiled plan is the plan of an accepted gather, and what compile gives is compiled. Assumes nothing.
 use mathlib.Core.Path.{_≡_, refl, sym, ap, _∙_}
 use mathlib.Core.Bool.{true, false}
+use Rattle.integer.specs.Tests.{and-true, and-both}
 use Rattle.indexing.specs.Coordinates.{othersFrom}
 use Rattle.indexing.specs.Gather.{Gather, shownDims, batchDims}
 use Rattle.indexing.specs.Steps.{windowSteps, batchSteps}
@@ -12,7 +13,6 @@ use Rattle.layout.specs.Spans.{totalFrom, spanFrom}
 use Rattle.checks.specs.Checks.{windowsFrom}
 use Rattle.gather_checks.specs.Refusals.{collapsedOne, sizesRefusal, specRefusal, refusalOf}
 use Rattle.gather_checks.proofs.Found.{done-again}
-use Rattle.equality.proofs.Compare.{and-true, and-both}
 use Rattle.gather_plan.specs.declared.GatherPlan.{GatherPlan}
 use Rattle.gather_plan.specs.Plan.{planOf, refusedPlan, compiledBy, compiledAgain, heldGather}
 use Rattle.gather_plan.proofs.Accepted.{accepted}

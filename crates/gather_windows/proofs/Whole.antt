@@ -12,17 +12,15 @@ use Rattle.integer.specs.Z.{back}
 use Rattle.indexing.specs.Coordinates.{product, InSlice}
 use Rattle.indexing.specs.Odometer.{AllPos}
 use Rattle.indexing.specs.Loops.{inOrder}
+use Rattle.layout.specs.Laws.{no-cells}
 use Rattle.layout.specs.Nested.{hasZero}
 use Rattle.runs.specs.Runs.{cellAt, line, Line}
 use Rattle.runs.proofs.Turns.{none, same-places}
 use Rattle.runs.proofs.Place.{read, line-zero}
 use Rattle.windows.specs.Windows.{placeAt, Region, Units}
-use Rattle.windows.proofs.Last.{place-first, no-cells}
+use Rattle.windows.proofs.Last.{place-first, only-zero}
 use Rattle.indexed_runs.specs.IndexedRuns.{startAt, Starting, movedAt, Taking}
 use Rattle.gather_windows.specs.Gathering.{gatheredBy, Gathering, Still, GatherLevel}
-
-only-zero : (P : ℕ → Type 0) → P 0 → (k : ℕ) → k < 1 → P k
-only-zero P p k h = let z : 0 ≡ k = omega arith in subst P z p
 
 module _ (starts offsets strides : List ℤ) (limits : List ℕ) (count : ℕ) (s t d : ℤ) (shape : List ℕ) (ss ts ds : List ℤ) (rank sn dn : ℕ) (w : Gathering starts offsets strides limits count s t d shape ss ts ds rank sn dn) (fs : SFits w64 s) (ft : SFits w64 t) (fd : SFits w64 d) where
   module _ (e : rank ≡ 0) where

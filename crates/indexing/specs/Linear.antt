@@ -2,10 +2,11 @@
 use mathlib.Core.Path.{_≡_, refl, sym, ap, ap₂, _∙_, subst}
 use mathlib.Core.List.{List, [], _∷_}
 use Prim.Native.Nat.{ℕ, zero, suc, _+_, _*_, _/_, _%_, _<_}
-use native.Mathlib.Nat.{div-add-mod, mod-eq-of-lt, div-eq-of-lt, add-mul-mod-self-left, add-mul-div-left, div-lt-iff-lt-mul, mul-le-mul-left, mul-suc, mul-comm, zero-mul, zero-add, add-comm}
+use native.Mathlib.Nat.{div-add-mod, mod-eq-of-lt, div-eq-of-lt, add-mul-mod-self-left, add-mul-div-left, div-lt-iff-lt-mul, mul-le-mul-left, mul-suc, mul-comm, zero-mul, zero-add, add-comm, zero-mod, zero-div}
 use native.Mathlib.Omega.{arith}
 use lib.ListN.{length, getD}
-use Rattle.indexing.specs.Coordinates.{product, unravel, Within}
+use lib.IntN.{ℤ, pos, _+ℤ_, *ℤ-zero}
+use Rattle.indexing.specs.Coordinates.{product, unravel, Within, dot}
 use Rattle.indexing.specs.Odometer.{AllPos, walk-within}
 
 -- the linear index of a coordinate
@@ -88,3 +89,10 @@ within-by [] [] l h = tt
 within-by [] (c ∷ cs) l h = absurd (omega arith)
 within-by (d ∷ ds) [] l h = absurd (omega arith)
 within-by (d ∷ ds) (c ∷ cs) l h = (h 0 (omega arith), within-by ds cs (omega arith) (λ a k. h (suc a) (omega arith)))
+
+-- the first coordinate adds nothing
+pub dot-first : (ss : List ℤ) (ds : List ℕ) → dot ss (unravel ds 0) ≡ pos 0
+unfolding dot unravel
+dot-first [] ds = refl
+dot-first (s ∷ ss) [] = refl
+dot-first (s ∷ ss) (d ∷ ds) = rw (zero-mod, zero-div) (ap₂ _+ℤ_ (*ℤ-zero s) (dot-first ss ds))

@@ -33,6 +33,14 @@ highest [] ds = pos 0
 highest (s ∷ ss) [] = pos 0
 highest (s ∷ ss) (d ∷ ds) = aboveZero (s *ℤ pos (d - 1)) +ℤ highest ss ds
 
+pub below-neg : (n : ℕ) → belowZero (negℤ (pos n)) ≡ negℤ (pos n)
+below-neg zero = refl
+below-neg (suc n) = refl
+
+pub above-neg : (n : ℕ) → aboveZero (negℤ (pos n)) ≡ pos 0
+above-neg zero = refl
+above-neg (suc n) = refl
+
 below-is : (z : ℤ) → minℤ (pos 0) z ≡ belowZero z
 below-is (pos n) = ap (λ (t : Bool). cond t (pos 0) (pos n)) (leb·zero n)
 below-is (negsuc n) = refl

@@ -13,11 +13,13 @@ use lib.Ieee.Exact.{HasValue}
 use lib.Ieee.Back.{round-whole, whole-unique}
 use lib.ListN.{length, getD}
 use Rattle.integer.specs.Defs.{signOf, isNeg}
+use Rattle.integer.specs.Machine.{abs-sum}
+use Rattle.integer.specs.Laws.{both-minus, minus-below, minus-above, plus-below, plus-above}
 use Rattle.indexing.specs.Scatter.{Scatter, placedUpdates, landing, addF64, scatteredF64}
 use Rattle.indexing.specs.Updates.{inTurn}
 use Rattle.indexing.specs.Sums.{total}
 use Rattle.indexing.specs.Whole.{Whole, Wholes, sizes, minusZero, allMinusZero}
-use Rattle.indexing.specs.Exact.{sum-scaled, over, both-minus, minus-below, minus-above, plus-below, plus-above, size-signed, sum-size, of-value, add-whole, regroup, front, each-f64}
+use Rattle.indexing.specs.Exact.{sum-scaled, over, size-signed, of-value, add-whole, regroup, front, each-f64}
 
 -- ---- a sum of two signed natural numbers, rounded
 module _ (f : Format) where
@@ -178,7 +180,7 @@ from-nearest (u ∷ us) z (w ∷ ws) q h =
     let b : natAbs z ≤ 2 ^ 53 = first-le (natAbs z) (natAbs w + sizes ws) (2 ^ 53) h in
     ap (λ (x : Float). inTurn addF64 x us)
     (add-nearest binary64 (ofInt binary64 z) u z w (ofInt-whole binary64 z b) (q .0) (not-both (minusZero (ofInt binary64 z)) (minusZero u) (ofInt-no-minus binary64 z b)))
-    ∙ from-nearest us (z +ℤ w) ws (q .1) (regroup (natAbs z) (natAbs w) (sizes ws) (natAbs (z +ℤ w)) (2 ^ 53) (sum-size z w) h)
+    ∙ from-nearest us (z +ℤ w) ws (q .1) (regroup (natAbs z) (natAbs w) (sizes ws) (natAbs (z +ℤ w)) (2 ^ 53) (abs-sum z w) h)
     ∙ ap (ofInt binary64) (+ℤ-assoc z w (total ws))
 
 -- from an f64 that is a whole number, unless it and all updates are −0: the float that the exact sum is, bit for bit
@@ -196,13 +198,13 @@ in-turn-float x (u ∷ us) z (w ∷ ws) f p q h n =
     go (minusZero x) refl (minusZero u) refl
     (λ g m.
     in-turn-float (add binary64 x u) us (z +ℤ w) ws g (add-whole binary64 x u z w p (q .0) (front (natAbs z) (natAbs w) (sizes ws) (2 ^ 53) h)) (q .1)
-    (regroup (natAbs z) (natAbs w) (sizes ws) (natAbs (z +ℤ w)) (2 ^ 53) (sum-size z w) h) m)
+    (regroup (natAbs z) (natAbs w) (sizes ws) (natAbs (z +ℤ w)) (2 ^ 53) (abs-sum z w) h) m)
     ∙ ap (ofInt binary64) (+ℤ-assoc z w (total ws))
   where
     plain : T (not (minusZero x && minusZero u)) → inTurn addF64 (add binary64 x u) us ≡ ofInt binary64 (z +ℤ w +ℤ total ws)
     plain o =
         ap (λ (y : Float). inTurn addF64 y us) (add-nearest binary64 x u z w p (q .0) o)
-        ∙ from-nearest us (z +ℤ w) ws (q .1) (regroup (natAbs z) (natAbs w) (sizes ws) (natAbs (z +ℤ w)) (2 ^ 53) (sum-size z w) h)
+        ∙ from-nearest us (z +ℤ w) ws (q .1) (regroup (natAbs z) (natAbs w) (sizes ws) (natAbs (z +ℤ w)) (2 ^ 53) (abs-sum z w) h)
 
     not-right : (b : Bool) → T (not (b && false))
     not-right true = tt

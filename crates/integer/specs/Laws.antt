@@ -1,15 +1,16 @@
 -- The laws of ℤ that `lib.IntN` and `lib.Signed` lack. Assumes nothing.
 use mathlib.Core.Path.{_≡_, refl, sym, ap, _∙_}
 use mathlib.Core.Logic.{_≢_, _⊎_, inl, inr, ⊎-elim}
-use Prim.Native.Nat.{ℕ, _*_, _≤_}
+use Prim.Native.Nat.{ℕ, _+_, _*_, _-_, _<_, _≤_}
 use native.Mathlib.Nat.{mul-le-mul-right}
 use native.Mathlib.Omega.{arith}
 use borrow.Author.Tests.{eqb-true, eq-eqb}
 use lib.IntN.{ℤ, pos, negsuc, negℤ, _+ℤ_, _*ℤ_, +ℤ-assoc, +ℤ-comm, *ℤ-comm, zero-*ℤ, one, *ℤ-one}
 use mathlib.Core.Bool.{Bool, true, false, cond, true≢false}
 use lib.Signed.{_≤ℤ_, _<ℤ_, ≤ℤ-refl, leZ}
-use mir.Syntax.{Width}
+use mir.Syntax.{Width, w64}
 use mir.Val.{SFits}
+use mir.Facts.{sfits-lit}
 use Rattle.integer.specs.Defs.{minℤ, maxℤ, eqZ}
 use Rattle.integer.specs.Z.{≤-to, ≤-from, <-from, znorm, zflat, zfacts, up-*pos, dn-*pos, known}
 
@@ -138,3 +139,29 @@ pub ≤-pos : {m n : ℕ} → pos m ≤ℤ pos n → m ≤ n
 -- ---- ranges
 pub sfits-between : {w : Width} (a b c : ℤ) → SFits w a → SFits w c → a ≤ℤ b → b ≤ℤ c → SFits w b
 sfits-between a b c fa fc h k = simp znorm (simp zflat (omega (arith, ≤-to, known fa, known fc)))
+
+-- ---- a sum of two naturals of which one or both are negated
+pub both-minus : (a b : ℕ) → negℤ (pos a) +ℤ negℤ (pos b) ≡ negℤ (pos (a + b))
+both-minus a b = simp znorm (simp zflat (omega arith))
+
+pub minus-below : (a b : ℕ) → a < b → pos a +ℤ negℤ (pos b) ≡ negℤ (pos (b - a))
+minus-below a b h = simp znorm (simp zflat (omega arith))
+
+pub minus-above : (a b : ℕ) → b ≤ a → pos a +ℤ negℤ (pos b) ≡ pos (a - b)
+minus-above a b h = simp znorm (simp zflat (omega arith))
+
+pub plus-below : (a b : ℕ) → b < a → negℤ (pos a) +ℤ pos b ≡ negℤ (pos (a - b))
+plus-below a b h = simp znorm (simp zflat (omega arith))
+
+pub plus-above : (a b : ℕ) → a ≤ b → negℤ (pos a) +ℤ pos b ≡ pos (b - a)
+plus-above a b h = simp znorm (simp zflat (omega arith))
+
+-- ---- a stride times a coordinate lies between 0 and the stride times the last
+pub term-fits : (s : ℤ) (c d : ℕ) → c < d → SFits w64 (s *ℤ pos (d - 1)) → SFits w64 (s *ℤ pos c)
+term-fits s c d h f =
+    let z : SFits w64 (pos 0) = sfits-lit {z = pos 0} tt in
+    sfits-between (minℤ (pos 0) (s *ℤ pos (d - 1))) (s *ℤ pos c) (maxℤ (pos 0) (s *ℤ pos (d - 1)))
+    (minℤ-by (pos 0) (s *ℤ pos (d - 1)) (λ x. SFits w64 x) (λ k. z) (λ k. f))
+    (maxℤ-by (pos 0) (s *ℤ pos (d - 1)) (λ x. SFits w64 x) (λ k. f) (λ k. z))
+    (term-low s (pos c) (pos (d - 1)) (pos-≤ (omega arith)) (pos-≤ (omega arith)))
+    (term-high s (pos c) (pos (d - 1)) (pos-≤ (omega arith)) (pos-≤ (omega arith)))

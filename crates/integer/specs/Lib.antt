@@ -2,6 +2,8 @@
 
 -- what a reader must believe
 pub mod Defs
+-- two tests at once
+pub mod Tests
 -- ℤ read as differences of naturals, for `omega`; order, sums, products and ranges
 pub mod Z
 pub mod Laws

@@ -5,12 +5,12 @@ use Prim.Native.Nat.{ℕ, zero, suc, _+_, _*_, _≤_, _<_, _^_}
 use native.Mathlib.Omega.{arith}
 use borrow.Author.Tests.{lt-ltb, le-ltb, ltb-false, ltb-true}
 use lib.Dec.{T, ltb}
-use lib.IntN.{ℤ, pos, negsuc, natAbs, negℤ, _*ℤ_}
+use lib.IntN.{ℤ, pos, negsuc, natAbs, negℤ, _+ℤ_, _*ℤ_}
 use lib.Signed.{_≤ℤ_, _<ℤ_, nonNeg, mag}
 use mir.Syntax.{Width, w64}
 use mir.Val.{SFits, Fits, toZ, ofZ, bits, hbits}
 use mir.Facts.{fits-natAbs}
-use Rattle.integer.specs.Z.{dn, zfacts, known, back, ≤-to, <-from, up}
+use Rattle.integer.specs.Z.{dn, zfacts, known, back, ≤-to, <-from, up, abs-is, add-is, only}
 use Rattle.integer.specs.Defs.{checked, checkedU, fitsOr, fitsOrU, isNeg}
 use Rattle.integer.specs.declared.Checked.the-variants as C
 use Rattle.integer.specs.declared.CheckedU.the-variants as U
@@ -142,17 +142,21 @@ pub isNeg-no : (a : ℤ) → pos 0 ≤ℤ a → isNeg a ≡ false
 isNeg-no (pos n) h = refl
 isNeg-no (negsuc n) h = absurd (h .le)
 
--- a product whose size no u64 holds fits no i64
+-- the size of a product and of a sum
 neg-abs : (n : ℕ) → natAbs (negℤ (pos n)) ≡ n
 neg-abs zero = refl
 neg-abs (suc n) = refl
 
-abs-mul : (a b : ℤ) → natAbs (a *ℤ b) ≡ natAbs a * natAbs b
+pub abs-mul : (a b : ℤ) → natAbs (a *ℤ b) ≡ natAbs a * natAbs b
 abs-mul (pos a) (pos b) = refl
 abs-mul (pos a) (negsuc b) = neg-abs (a * suc b)
 abs-mul (negsuc a) (pos b) = neg-abs (suc a * b)
 abs-mul (negsuc a) (negsuc b) = refl
 
+pub abs-sum : (a b : ℤ) → natAbs (a +ℤ b) ≤ natAbs a + natAbs b
+abs-sum a b = omega (arith, abs-is a, abs-is b, abs-is (a +ℤ b), add-is a b, only (a +ℤ b))
+
+-- a product whose size no u64 holds fits no i64
 wide-no : (z : ℤ) → 2 ^ 64 ≤ natAbs z → C.Overflow ≡ checked z
 wide-no (pos n) h = checked-high (pos n) (<-from (pos 9223372036854775807) (pos n) (omega arith))
 wide-no (negsuc n) h = checked-low (negsuc n) (<-from (negsuc n) (negsuc 9223372036854775807) (omega arith))

@@ -1,8 +1,8 @@
 -- Parts of a job as bytes: how many they are, and one stored behind another. Assumes nothing.
 use mathlib.Core.Path.{_≡_, refl, sym, ap, ap₂, _∙_}
 use mathlib.Core.Bool.{Bool, true, false, cond}
-use mathlib.Core.List.{List, [], _∷_, _++_, map}
-use Prim.Native.Nat.{ℕ, zero, suc, _+_, _*_, _≤_, _<_, min}
+use mathlib.Core.List.{List, [], _++_, map}
+use Prim.Native.Nat.{ℕ, _+_, _*_, _≤_, _<_, min}
 use native.Mathlib.Omega.{arith}
 use native.Mathlib.Nat.{zero-add}
 use borrow.Author.Tests.{le-leb, lt-leb}
@@ -10,6 +10,7 @@ use lib.Dec.{leb}
 use lib.ListN.{length, take, drop, length-append, length-take, length-map}
 use lib.Seq.{sets, length-sets, sets-eq}
 use lib.IntN.{ℤ}
+use Rattle.checks.proofs.Held.{take-map}
 use Rattle.layout.specs.declared.Answer.{Answer}
 use Rattle.layout.specs.declared.Answer.the-variants as A
 use Rattle.layout.specs.Answers.{isDone}
@@ -81,11 +82,6 @@ pub put-same : {before after part : List ℕ} {at next : ℕ} → Put before aft
 put-same {before} {after} {part} {at} {next} p = ap length (p .cells) ∙ length-sets before at part
 
 -- ---- the parts themselves
-take-map : {A B : Type 0} (f : A → B) (n : ℕ) (xs : List A) → take n (map f xs) ≡ map f (take n xs)
-take-map f zero xs = refl
-take-map f (suc n) [] = refl
-take-map f (suc n) (x ∷ xs) = ap (λ (l : List _). f x ∷ l) (take-map f n xs)
-
 pub put-list-is : (l : List16) (n at : ℕ) (before mid after : List ℕ) → length (l .entries) ≡ listLimit → n ≡ min (l .count) listLimit
     → mid ≡ sets before at (bytesOf 1 n) → after ≡ sets mid (at + 1) (wordsOf (take n (l .entries))) → Put before after at (listBytes l) (at + 1 + 8 * n)
 unfolding listBytes

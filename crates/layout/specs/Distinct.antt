@@ -1,7 +1,7 @@
 -- A nested layout gives no two coordinates the same offset. Assumes nothing.
 use mathlib.Core.Path.{_≡_, refl, sym, ap, ap₂, _∙_}
 use mathlib.Core.Logic.{_⊎_, inl, inr, ⊎-elim}
-use mathlib.Core.Bool.{Bool, true, false, cond, _||_, _&&_}
+use mathlib.Core.Bool.{Bool, true, false, cond, _||_}
 use mathlib.Core.List.{List, [], _∷_}
 use Prim.Native.Nat.{ℕ, zero, suc, _+_, _*_, _-_, _<_, _≤_}
 use native.Mathlib.Nat.{mul-le-mul-left, mul-one}
@@ -10,34 +10,14 @@ use borrow.Author.Tests.{ltb-true, eqb-true}
 use lib.Dec.{eqb, leb, ltb}
 use lib.ListN.{length}
 use lib.IntN.{ℤ, pos, negsuc, negℤ, natAbs, _+ℤ_, _-ℤ_, _*ℤ_, +ℤ-idl, +ℤ-idr, *ℤ-zero}
+use Rattle.integer.specs.Machine.{abs-mul, abs-sum}
+use Rattle.integer.specs.Tests.{and-true}
 use Rattle.integer.specs.Z.{up-neg, dn-neg, znorm, zflat, zring, abs-is, only, add-is}
 use Rattle.integer.specs.Laws.{+ℤ-ac, +ℤ-left-comm, +ℤ-cancel-r}
 use Rattle.indexing.specs.Coordinates.{dot, Within}
 use Rattle.layout.specs.Nested.{hasZero, longAxes, insert, ordered, exceeds, nested}
 
-pub and-both : (a b : Bool) → (a && b) ≡ true → (a ≡ true) × (b ≡ true)
-and-both true true e = (refl, refl)
-and-both true false e = (refl, e)
-and-both false b e = (e, cc)
-
 -- ---- magnitudes
-abs-sum : (a b : ℤ) → natAbs (a +ℤ b) ≤ natAbs a + natAbs b
-abs-sum a b = omega (arith, abs-is a, abs-is b, abs-is (a +ℤ b), add-is a b, only (a +ℤ b))
-
-abs-times : (s c : ℤ) → natAbs (s *ℤ c) ≡ natAbs s * natAbs c
-abs-times (pos a) (pos b) = refl
-abs-times (pos a) (negsuc b) = abs-neg (a * suc b)
-  where
-    abs-neg : (n : ℕ) → natAbs (negℤ (pos n)) ≡ n
-    abs-neg zero = refl
-    abs-neg (suc n) = refl
-abs-times (negsuc a) (pos b) = abs-neg (suc a * b)
-  where
-    abs-neg : (n : ℕ) → natAbs (negℤ (pos n)) ≡ n
-    abs-neg zero = refl
-    abs-neg (suc n) = refl
-abs-times (negsuc a) (negsuc b) = refl
-
 abs-zero : (z : ℤ) → natAbs z ≡ 0 → z ≡ pos 0
 abs-zero (pos n) e = ap pos e
 abs-zero (negsuc n) e = absurd (omega arith)
@@ -139,7 +119,7 @@ zero-parts : (p : ℕ) (z : ℤ) (qs : List Item) → natAbs z ≤ p → exceeds
 unfolding Each total axesOf exceeds
 zero-parts p z [] h e f k = (sym (+ℤ-idr z) ∙ k, tt)
 zero-parts p z (q ∷ qs) h e f k =
-    let b = and-both (ltb p (q .0 .0)) (exceeds (p + q .0 .0 * (q .0 .1 - 1)) (axesOf qs)) e in
+    let b = and-true (ltb p (q .0 .0)) (exceeds (p + q .0 .0 * (q .0 .1 - 1)) (axesOf qs)) e in
     let m : p < q .0 .0 = ltb-true p (q .0 .0) (b .0) in
     let u = zero-parts (p + q .0 .0 * (q .0 .1 - 1)) (z +ℤ q .1) qs (omega (arith, abs-sum z (q .1), f .0 .0)) (b .1) (f .1) (regroup z (q .1) (total qs) ∙ k) in
     let o : natAbs z ≡ natAbs (q .1) = opposite z (q .1) (u .0) in
@@ -167,11 +147,11 @@ diff-none : (c e : ℕ) → natAbs (pos c -ℤ pos e) ≡ 0 → c ≡ e
 diff-none c e h = omega (arith, abs-is (pos c -ℤ pos e), add-is (pos c) (negℤ (pos e)), up-neg (pos e), dn-neg (pos e))
 
 fair : (s : ℤ) (c e d : ℕ) → c < d → e < d → Fair ((natAbs s, d), s *ℤ (pos c -ℤ pos e))
-fair s c e d h k = (rw (abs-times s (pos c -ℤ pos e)) (mul-le-mul-left (natAbs s) (diff-most c e d h k)), go (natAbs (pos c -ℤ pos e)) refl)
+fair s c e d h k = (rw (abs-mul s (pos c -ℤ pos e)) (mul-le-mul-left (natAbs s) (diff-most c e d h k)), go (natAbs (pos c -ℤ pos e)) refl)
   where
     go : (n : ℕ) → natAbs (pos c -ℤ pos e) ≡ n → (s *ℤ (pos c -ℤ pos e) ≡ pos 0) ⊎ (natAbs s ≤ natAbs (s *ℤ (pos c -ℤ pos e)))
     go zero x = inl (ap (λ (z : ℤ). s *ℤ z) (abs-zero (pos c -ℤ pos e) x) ∙ *ℤ-zero s)
-    go (suc n) x = inr (rw (abs-times s (pos c -ℤ pos e), x) (omega (arith, mul-le-mul-left {m = 1} {n = suc n} (natAbs s) (omega arith), mul-one (natAbs s))))
+    go (suc n) x = inr (rw (abs-mul s (pos c -ℤ pos e), x) (omega (arith, mul-le-mul-left {m = 1} {n = suc n} (natAbs s) (omega arith), mul-one (natAbs s))))
 
 items-axes : (ds : List ℕ) (ss : List ℤ) (cs es : List ℕ) → Within ds cs → Within ds es → axesOf (items ds ss cs es) ≡ longAxes ds ss
 unfolding Within axesOf items longAxes
@@ -233,7 +213,7 @@ items-same (d ∷ ds) (s ∷ ss) (c ∷ cs) (e ∷ es) l w x h = go (eqb d 1) re
   where
     go : (t : Bool) → eqb d 1 ≡ t → Each Same (cond t (items ds ss cs es) (((natAbs s, d), s *ℤ (pos c -ℤ pos e)) ∷ items ds ss cs es)) → (Each Same (items ds ss cs es) → cs ≡ es) → c ∷ cs ≡ e ∷ es
     go true f k ih = let o : d ≡ 1 = eqb-true d 1 f in ap₂ _∷_ (omega (arith, w .0, x .0)) (ih k)
-    go false f k ih = ap₂ _∷_ (diff-none c e (one-zero (natAbs s) (natAbs (pos c -ℤ pos e)) (k .0 .1) (sym (abs-times s (pos c -ℤ pos e)) ∙ ap natAbs (k .0 .0)))) (ih (k .1))
+    go false f k ih = ap₂ _∷_ (diff-none c e (one-zero (natAbs s) (natAbs (pos c -ℤ pos e)) (k .0 .1) (sym (abs-mul s (pos c -ℤ pos e)) ∙ ap natAbs (k .0 .0)))) (ih (k .1))
       where
         one-zero : (a b : ℕ) → 0 < a → a * b ≡ 0 → b ≡ 0
         one-zero a zero p q = refl

@@ -1,10 +1,12 @@
 -- What an accepted product, span, reset or offset is: the product, the least and the greatest sums, the way back, the place. Assumes nothing.
 use mathlib.Core.Path.{_≡_, refl, sym, ap, subst, _∙_}
-use mathlib.Core.Bool.{Bool, true, false}
+use mathlib.Core.Bool.{Bool, true, false, _||_, true≢false}
 use mathlib.Core.List.{List, [], _∷_}
-use Prim.Native.Nat.{ℕ, zero, suc, _*_, _-_, _≤_}
-use native.Mathlib.Nat.{mul-assoc, one-mul}
+use Prim.Native.Nat.{ℕ, zero, suc, _*_, _-_, _≤_, _<_}
+use native.Mathlib.Nat.{mul-assoc, one-mul, zero-mul, mul-zero}
 use native.Mathlib.Omega.{arith}
+use borrow.Author.Tests.{eqb-true, eqb-false}
+use lib.Dec.{eqb}
 use lib.ListN.{length}
 use lib.IntN.{ℤ, pos, negsuc, negℤ, _+ℤ_, _*ℤ_, +ℤ-idl, +ℤ-idr, +ℤ-assoc, *ℤ-zero}
 use lib.Signed.{_≤ℤ_}
@@ -17,11 +19,13 @@ use Rattle.integer.specs.declared.Checked.{Checked}
 use Rattle.integer.specs.declared.Checked.the-variants as C
 use Rattle.integer.specs.declared.CheckedU.{CheckedU}
 use Rattle.integer.specs.declared.CheckedU.the-variants as U
+use Rattle.indexing.specs.Odometer.{AllPos}
 use Rattle.layout.specs.declared.OffsetSpan.{OffsetSpan}
 use Rattle.layout.specs.declared.OffsetSpan.the-variants as S
 use Rattle.indexing.specs.Coordinates.{product, dot, Within}
 use Rattle.indexing.specs.Reach.{belowZero, aboveZero, lowest, highest, dot-low, dot-high}
 use Rattle.layout.specs.Spans.{andThen, andThenU, spanOf, andSpan, totalFrom, totalOf, reachOf, widenBy, widened, spanFrom, spanned, reset, resetOf, offsetAdd, stridedOffset}
+use Rattle.layout.specs.Nested.{hasZero}
 
 zero-ne : _≡_ {A = ℕ} 0 1 → ⊥
 zero-ne e = omega arith
@@ -186,3 +190,22 @@ strided-offset-is base (s ∷ ss) (c ∷ cs) r e =
     strided-offset-is (t .0) ss cs r (t .2)
     ∙ ap (λ (z : ℤ). z +ℤ dot ss cs) (offset-add-is base s c (t .0) (t .1))
     ∙ +ℤ-assoc base (s *ℤ pos c) (dot ss cs)
+
+-- ---- whether there are cells
+pub no-cells : (ds : List ℕ) → hasZero ds ≡ true → product ds ≡ 0
+unfolding hasZero product
+no-cells [] h = absurd (true≢false (sym h))
+no-cells (d ∷ ds) h = go (eqb d 0) refl h (no-cells ds)
+  where
+    go : (t : Bool) → eqb d 0 ≡ t → (t || hasZero ds) ≡ true → (hasZero ds ≡ true → product ds ≡ 0) → d * product ds ≡ 0
+    go true e q f = ap (λ (k : ℕ). k * product ds) (eqb-true d 0 e) ∙ zero-mul (product ds)
+    go false e q f = ap (λ (k : ℕ). d * k) (f q) ∙ mul-zero d
+
+pub some-cells : (ds : List ℕ) → hasZero ds ≡ false → AllPos ds
+unfolding hasZero AllPos
+some-cells [] h = tt
+some-cells (d ∷ ds) h = go (eqb d 0) refl h (some-cells ds)
+  where
+    go : (t : Bool) → eqb d 0 ≡ t → (t || hasZero ds) ≡ false → (hasZero ds ≡ false → AllPos ds) → (0 < d) × AllPos ds
+    go true e q f = absurd (true≢false q)
+    go false e q f = (omega (arith, eqb-false d 0 e), f q)

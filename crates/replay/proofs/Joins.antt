@@ -1,16 +1,13 @@
 -- What the calls of `make_axis`, `merge` and `join` give, by the definitions, and back. Assumes nothing.
-use mathlib.Core.Path.{_≡_, refl, sym, ap, ap₂, subst, _∙_}
+use mathlib.Core.Path.{_≡_, refl, sym, ap, ap₂, _∙_}
 use mathlib.Core.Bool.{Bool, true, false, cond, _&&_}
 use Prim.Native.Nat.{ℕ, _*_, _≤_, _^_}
 use native.Mathlib.Omega.{arith}
-use borrow.Author.Tests.{eqb-true, eq-eqb, lt-ltb, le-ltb}
-use lib.Dec.{eqb, ltb}
+use borrow.Author.Tests.{lt-ltb, le-ltb}
+use lib.Dec.{ltb}
 use lib.IntN.{ℤ, pos, _*ℤ_}
-use mir.Syntax.{w64}
-use mir.Val.{SFits, ofZ}
 use Rattle.integer.specs.Defs.{checked, eqZ}
-use Rattle.integer.specs.Laws.{eqZ-true, eqZ-refl}
-use Rattle.integer.specs.Machine.{same-bits, checked-fits}
+use Rattle.integer.specs.Machine.{checked-fits}
 use Rattle.integer.specs.declared.Checked.{Checked}
 use Rattle.integer.specs.declared.Checked.the-variants as C
 use Rattle.layout.specs.Spans.{andThen, resetOf}
@@ -21,18 +18,6 @@ use Rattle.replay.specs.declared.CheckedAxis.the-variants as A
 use Rattle.replay.specs.declared.JoinedAxis.the-variants as J
 use Rattle.replay.specs.Replays.{theAxis, axisOf, merges, joined, isFits, axisFits, pastFits}
 use Rattle.replay.specs.Parts.{past, checkedAxis, asMerged, asApart, joinedAxis}
-
--- ---- equality of signed numbers, by their bits
-both-ways : (t u : Bool) → (t ≡ true → u ≡ true) → (u ≡ true → t ≡ true) → t ≡ u
-both-ways true u f g = sym (f refl)
-both-ways false true f g = g refl
-both-ways false false f g = refl
-
-pub same-bits-is : (a b : ℤ) → SFits w64 a → SFits w64 b → eqb (ofZ w64 a) (ofZ w64 b) ≡ eqZ a b
-same-bits-is a b fa fb =
-    both-ways (eqb (ofZ w64 a) (ofZ w64 b)) (eqZ a b)
-    (λ e. subst (λ (z : ℤ). eqZ a z ≡ true) (same-bits fa fb (eqb-true (ofZ w64 a) (ofZ w64 b) e)) (eqZ-refl a))
-    (λ e. eq-eqb (ofZ w64 a) (ofZ w64 b) (ap (ofZ w64) (eqZ-true a b e)))
 
 -- ---- tests
 not-both : (r : Bool) → r && false ≡ false

@@ -15,9 +15,10 @@ use Rattle.integer.specs.Z.{negℤ-*ℤ}
 use Rattle.integer.specs.Laws.{eqZ-true}
 use Rattle.integer.specs.declared.Checked.{Checked}
 use Rattle.integer.specs.declared.Checked.the-variants as C
+use Rattle.integer.specs.Tests.{and-true}
 use Rattle.indexing.specs.Coordinates.{product, unravel, dot}
 use Rattle.indexing.specs.Odometer.{AllPos}
-use Rattle.indexing.specs.Reach.{belowZero, aboveZero, lowest, highest}
+use Rattle.indexing.specs.Reach.{belowZero, aboveZero, lowest, highest, below-neg, above-neg}
 use Rattle.indexing.specs.Fusion.{dot-fuse, product-fuse}
 use Rattle.layout.specs.declared.Answer.the-variants as N
 use Rattle.layout.specs.declared.OffsetSpan.{OffsetSpan}
@@ -59,14 +60,6 @@ reach-sum : (a p d : ℕ) → 0 < p → 0 < d → a * (p - 1) + a * p * (d - 1) 
 reach-sum a p d h k =
     let e : a * (p * d - 1) ≡ a * ((p - 1) + p * (d - 1)) = ap (λ (n : ℕ). a * n) (last-of p d h k) in
     omega arith
-
-below-neg : (n : ℕ) → belowZero (negℤ (pos n)) ≡ negℤ (pos n)
-below-neg zero = refl
-below-neg (suc n) = refl
-
-above-neg : (n : ℕ) → aboveZero (negℤ (pos n)) ≡ pos 0
-above-neg zero = refl
-above-neg (suc n) = refl
 
 neg-times : (a p d : ℕ) → negsuc a *ℤ pos p *ℤ pos d ≡ negℤ (pos (suc a * p * d))
 neg-times a p d = negℤ-*ℤ (pos (suc a * p)) (pos d)
@@ -145,10 +138,6 @@ meets-fuse p d s s′ t t′ ds ss ts l e f m = record {
 }
 
 -- ---- the axes that fit
-and-true : (r t : Bool) → r && t ≡ true → (r ≡ true) × (t ≡ true)
-and-true true t e = (refl, e)
-and-true false t e = let z : _≡_ {A = ℕ} 0 1 = cc in absurd (omega arith)
-
 fits-inv : (x : Checked) → isFits x ≡ true → (r : ℤ) × (x ≡ C.Fits r)
 fits-inv (C.Fits r) e = (r, refl)
 fits-inv C.Overflow e = let z : _≡_ {A = ℕ} 0 1 = cc in absurd (omega arith)

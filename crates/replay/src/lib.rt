@@ -3,7 +3,6 @@
 ghost use mathlib.Core.Path.{_≡_};
 ghost use lib.ListN.{take, drop};
 ghost use Prim.Native.Nat.{_*_};
-ghost use Rattle.integer.specs.Defs.{eqZ};
 ghost use Rattle.replay.specs.Replays.{noAxis, axisOf, givenAxes, walkOf, doneReplay, refusedReplay, compiledReplay, extents, rowsOf, axesFrom};
 ghost use Rattle.replay.specs.Parts.{past, checkedAxis, asMerged, asApart, joinedAxis, walkFrom};
 use integer::Checked;
@@ -56,12 +55,6 @@ pub enum JoinedAxis {
     Merged(WindowReplayAxis),
     Apart(WindowReplayAxis),
     Overflow,
-}
-
-fn same(a: i64, b: i64) -> bool
-    ensures { λ r. ⌜ r ≡ eqZ a b ⌝ }
-{
-    a == b
 }
 
 fn no_axis() -> WindowReplayAxis
@@ -155,10 +148,10 @@ fn join(before: WindowReplayAxis, extent: u64, source: i64, dest: i64) -> Joined
     match expected_source {
         Checked::Fits(s) => match expected_dest {
             Checked::Fits(d) => {
-                if !same(source, s) {
+                if !equality::same_i64(source, s) {
                     return apart(extent, source, dest);
                 }
-                if !same(dest, d) {
+                if !equality::same_i64(dest, d) {
                     return apart(extent, source, dest);
                 }
                 merge(size, extent, source_step, dest_step)

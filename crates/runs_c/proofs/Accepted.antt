@@ -1,6 +1,6 @@
 -- What is accepted meets what the runs and windows ask. Assumes nothing.
 use mathlib.Core.Path.{_≡_, refl, sym, ap, ap₂, _∙_}
-use mathlib.Core.Bool.{Bool, true, false, cond, not, _&&_, true≢false}
+use mathlib.Core.Bool.{Bool, true, false, cond, not, _&&_}
 use mathlib.Core.List.{List, [], _∷_}
 use Prim.Native.Nat.{ℕ, zero, suc, _+_, _<_, _≤_, _^_}
 use native.Mathlib.Numerals.{add-one}
@@ -12,16 +12,17 @@ use lib.Seq.{drop-cons, getD-take, length-take-le}
 use lib.IntN.{ℤ}
 use mir.Syntax.{w64}
 use mir.Val.{SFits}
+use Rattle.integer.specs.Tests.{and-true}
 use Rattle.integer.specs.Z.{back}
 use Rattle.indexing.specs.Odometer.{AllPos}
 use Rattle.indexing.specs.Loops.{inOrder}
+use Rattle.layout.specs.Laws.{some-cells}
 use Rattle.layout.specs.Layouts.{rankLimit}
 use Rattle.layout.specs.Nested.{hasZero}
 use Rattle.runs.specs.Runs.{cellAt, line, Run}
 use Rattle.runs.specs.declared.Rule.{Rule}
 use Rattle.runs.proofs.Place.{read}
 use Rattle.windows.specs.Windows.{windowed, Window, Units, Level}
-use Rattle.windows.proofs.Last.{some-cells}
 use Rattle.windows.proofs.Levels.{region-line}
 use Rattle.windows.proofs.Reached.{reached}
 use Rattle.runs_c.specs.Bench.{allFew, covers, accepted, Ran}
@@ -46,20 +47,12 @@ module _ (xs : List ℕ) (n i : ℕ) (room : n ≤ length xs) where
   few-ends h = sym (ap allFew (drop-of-length-le (take n xs) {i = i} (omega (arith, length-take-le n xs room))))
 
 -- ---- what the tests say
-and-left : (a b : Bool) → (a && b) ≡ true → a ≡ true
-and-left true b e = refl
-and-left false b e = e
-
-and-right : (a b : Bool) → (a && b) ≡ true → b ≡ true
-and-right true b e = e
-and-right false b e = absurd (true≢false (sym e))
-
 few-each : (n : ℕ) (xs : List ℕ) → allFew (take n xs) ≡ true → n ≤ length xs → (i : ℕ) → i < n → getD xs i 0 ≤ 2 ^ 63
 unfolding allFew
 few-each zero xs e l i h = absurd (omega arith)
 few-each (suc n) [] e l i h = absurd (omega arith)
-few-each (suc n) (d ∷ ds) e l zero h = leb-true d (2 ^ 63) (and-left (leb d (2 ^ 63)) (allFew (take n ds)) e)
-few-each (suc n) (d ∷ ds) e l (suc i) h = few-each n ds (and-right (leb d (2 ^ 63)) (allFew (take n ds)) e) (omega arith) i (omega arith)
+few-each (suc n) (d ∷ ds) e l zero h = leb-true d (2 ^ 63) (and-true (leb d (2 ^ 63)) (allFew (take n ds)) e .0)
+few-each (suc n) (d ∷ ds) e l (suc i) h = few-each n ds (and-true (leb d (2 ^ 63)) (allFew (take n ds)) e .1) (omega arith) i (omega arith)
 
 -- the answers, in the order of the tests
 module _ (rank : ℕ) (shape : List ℕ) (ss ds : List ℤ) (s d : ℤ) (sn dn : ℕ) where
@@ -97,26 +90,26 @@ module _ (rank : ℕ) (shape : List ℕ) (ss ds : List ℤ) (s d : ℤ) (sn dn :
   module _ (lh : length shape ≡ rankLimit) (ls : length ss ≡ rankLimit) (ld : length ds ≡ rankLimit) (e : accepted rank shape ss ds s d sn dn ≡ true) where
     ranked : (leb rank rankLimit && (not (hasZero (take rank shape)) && (allFew (take rank shape) && (covers (take rank shape) (take rank ss) s sn && covers (take rank shape) (take rank ds) d dn)))) ≡ true
     unfolding accepted
-    ranked = and-right (leb 1 rank) _ e
+    ranked = and-true (leb 1 rank) _ e .1
 
     pub accepted-some : 0 < rank
     unfolding accepted
-    accepted-some = leb-true 1 rank (and-left (leb 1 rank) _ e)
+    accepted-some = leb-true 1 rank (and-true (leb 1 rank) _ e .0)
 
     pub accepted-cells : AllPos (take rank shape)
-    accepted-cells = some-cells (take rank shape) (not-true _ (and-left (not (hasZero (take rank shape))) _ (and-right (leb rank rankLimit) _ ranked)))
+    accepted-cells = some-cells (take rank shape) (not-true _ (and-true (not (hasZero (take rank shape))) _ (and-true (leb rank rankLimit) _ ranked .1) .0))
 
     pub accepted-window : Window s d shape ss ds rank sn dn
     unfolding covers
     accepted-window =
-        let h : rank ≤ rankLimit = leb-true rank rankLimit (and-left (leb rank rankLimit) _ ranked) in
-        let e₁ = and-right (not (hasZero (take rank shape))) _ (and-right (leb rank rankLimit) _ ranked) in
-        let e₂ = and-right (allFew (take rank shape)) _ e₁ in
-        let f : (i : ℕ) → i < rank → getD shape i 0 ≤ 2 ^ 63 = few-each rank shape (and-left (allFew (take rank shape)) _ e₁) (omega arith) in
+        let h : rank ≤ rankLimit = leb-true rank rankLimit (and-true (leb rank rankLimit) _ ranked .0) in
+        let e₁ = and-true (not (hasZero (take rank shape))) _ (and-true (leb rank rankLimit) _ ranked .1) .1 in
+        let e₂ = and-true (allFew (take rank shape)) _ e₁ .1 in
+        let f : (i : ℕ) → i < rank → getD shape i 0 ≤ 2 ^ 63 = few-each rank shape (and-true (allFew (take rank shape)) _ e₁ .0) (omega arith) in
         record {
           small = h;
-          source = reached s shape ss rank sn 0 (omega arith) (omega arith) f (and-left (covers (take rank shape) (take rank ss) s sn) _ e₂);
-          dest = reached d shape ds rank dn 0 (omega arith) (omega arith) f (and-right (covers (take rank shape) (take rank ss) s sn) _ e₂);
+          source = reached s shape ss rank sn 0 (omega arith) (omega arith) f (and-true (covers (take rank shape) (take rank ss) s sn) _ e₂ .0);
+          dest = reached d shape ds rank dn 0 (omega arith) (omega arith) f (and-true (covers (take rank shape) (take rank ss) s sn) _ e₂ .1);
         }
 
     pub accepted-level : (low : ℕ) → low < rank → Units low shape → SFits w64 s → SFits w64 d → Level (read s) (read d) shape ss ds low rank sn dn

@@ -6,6 +6,7 @@ use Prim.Native.Nat.{ℕ}
 use native.Mathlib.Omega.{arith}
 use lib.ListN.{length, replicate}
 use lib.IntN.{ℤ, pos}
+use Rattle.integer.specs.Tests.{and-true}
 use Rattle.indexing.specs.Coordinates.{rank, tabulate}
 use Rattle.indexing.specs.Start.{without}
 use Rattle.indexing.specs.Scatter.{Scatter, scatterDims, windowDims, batchShape, windowShape, windows}
@@ -28,7 +29,6 @@ use Rattle.replay.specs.declared.WindowReplay.{WindowReplay}
 use Rattle.checks.proofs.Made.{or-done}
 use Rattle.checks.proofs.Held.{length-padded}
 use Rattle.components.specs.Components.{limitAt, unlessNone}
-use Rattle.equality.proofs.Compare.{and-true}
 use Rattle.calls.specs.Calls.{sameView, sameViews, planRefusal, reachIn, boundsRefusal}
 use Rattle.calls.proofs.Same.{same-view-is}
 use Rattle.calls.proofs.Does.{plan-done}

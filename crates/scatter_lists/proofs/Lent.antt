@@ -5,6 +5,7 @@ use mathlib.Core.List.{List}
 use Prim.Native.Nat.{ℕ, min}
 use lib.ListN.{length, take, replicate}
 use lib.IntN.{ℤ, pos}
+use Rattle.integer.specs.Tests.{and-true, and-both}
 use Rattle.indexing.specs.Coordinates.{View, rank, pick, spread, others, tabulate}
 use Rattle.indexing.specs.Scatter.{Scatter, scatterDims, windowDims, batchShape, windowShape, windows}
 use Rattle.indexing.specs.Steps.{vectorStride, updateBatchSteps, updateWindowSteps, landSteps}
@@ -21,7 +22,6 @@ use Rattle.replay.specs.declared.CompiledReplay.{CompiledReplay}
 use Rattle.checks.specs.Values.{valueOfU, offsetOr, totalOr}
 use Rattle.checks.proofs.Held.{never}
 use Rattle.components.specs.Components.{limitAt, unlessNone}
-use Rattle.equality.proofs.Compare.{and-true, and-both}
 use Rattle.calls.specs.Calls.{viewWith, sameView, sameViews, planRefusal, reachIn, boundsRefusal}
 use Rattle.calls.proofs.Same.{same-view-is, view-same}
 use Rattle.scatter_checks.specs.Refusals.{batchWalk, windowWalk, specRefusal, refusalOf, compileRefusal}

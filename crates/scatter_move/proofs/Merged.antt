@@ -6,6 +6,7 @@ use native.Mathlib.Omega.{arith}
 use lib.ListN.{length, getD, take, length-take, length-map, List·getD-map}
 use lib.Seq.{getD-take, length-take-le, ext-getD}
 use lib.IntN.{ℤ, pos, _+ℤ_}
+use Rattle.checks.proofs.Held.{take-map}
 use Rattle.indexing.specs.Coordinates.{product, unravel, dot}
 use Rattle.indexing.specs.Updates.{length-tabulate, getD-tabulate}
 use Rattle.indexing.specs.Odometer.{offsetAt}
@@ -20,11 +21,6 @@ use Rattle.replay.specs.Merging.{AllReset, Meets, IsDone, compiled-done}
 use Rattle.windows.specs.Windows.{placeAt}
 use Rattle.components.proofs.Padded.{padded-entry}
 use Rattle.scatter_move.specs.Prepared.{stepsAt}
-
-take-map : {A B : Type 0} (f : A → B) (n : ℕ) (l : List A) → take n (map f l) ≡ map f (take n l)
-take-map f zero l = refl
-take-map f (suc n) [] = refl
-take-map {A} {B} f (suc n) (x ∷ xs) = ap (λ (r : List B). f x ∷ r) (take-map f n xs)
 
 resets-small : (l : List WindowReplayAxis) → AllReset l → (i : ℕ) → i < length l → getD (extents l) i 0 ≤ 2 ^ 63
 unfolding AllReset

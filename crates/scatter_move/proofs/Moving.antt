@@ -1,10 +1,9 @@
 -- The move of an accepted scatter: its cells lie inside their slices, and what it leaves is the scatter. Assumes nothing.
 use mathlib.Core.Path.{_≡_, refl, sym, ap, ap₂, subst, _∙_}
 use mathlib.Core.Bool.{Bool, true, false, cond}
-use mathlib.Core.List.{List, [], _∷_}
+use mathlib.Core.List.{List}
 use Prim.Native.Nat.{ℕ, zero, suc, _+_, _*_, _-_, _<_, _≤_, _^_}
 use native.Mathlib.Omega.{arith}
-use native.Mathlib.Nat.{zero-mod, zero-div}
 use lib.Dec.{eqb}
 use lib.ListN.{length, getD, take, replicate, length-replicate}
 use lib.IntN.{ℤ, pos, _+ℤ_, _*ℤ_, +ℤ-assoc, +ℤ-idr, *ℤ-zero}
@@ -18,7 +17,8 @@ use Rattle.indexing.specs.Loops.{inOrder, combined-loop}
 use Rattle.indexing.specs.Bounds.{window-below, scatter-start-within}
 use Rattle.indexing.specs.Once.{update-within}
 use Rattle.indexing.specs.Valid.{Covered, ValidScatter}
-use Rattle.indexing.specs.Places.{updates-at, scatter-component-at, lands-at, lands-in, lands-partly-in, updates-in, scatter-starts-in}
+use Rattle.indexing.specs.Places.{updates-at, scatter-component-at, lands-at, lands-in, lands-partly-in, updates-in, scatter-starts-in, sum-same}
+use Rattle.indexing.specs.Linear.{dot-first}
 use Rattle.layout.specs.declared.Answer.the-variants as A
 use Rattle.layout.specs.Answers.{isDone}
 use Rattle.layout.specs.Layouts.{rankLimit, padded}
@@ -31,20 +31,13 @@ use Rattle.indexed_runs.proofs.Starts.{in-wider}
 use Rattle.components.specs.Components.{limitAt, unlessNone}
 use Rattle.components.proofs.Padded.{unless-some}
 use Rattle.calls.proofs.Covers.{no-zero, covered}
-use Rattle.calls.proofs.Sums.{sum-same, clamp-limit, zero-dot, axis-below}
+use Rattle.calls.proofs.Sums.{clamp-limit, zero-dot, axis-below}
 use Rattle.scatter_checks.specs.Refusals.{batchWalk, windowWalk, refusalOf}
 use Rattle.scatter_windows.specs.Scattering.{scatteredBy, Batches, Scattering}
 use Rattle.scatter_plan.proofs.Valid.{valid}
 use Rattle.scatter_move.specs.Prepared.{stepsAt, batchRows, windowRows, scatterNumbers, startBase}
 use Rattle.scatter_move.specs.declared.ScatterNumbers.{ScatterNumbers}
 use Rattle.scatter_move.proofs.Numbers.{batch-walked, window-walked, map-few, small-result, offset-at, stride-at, limit-at}
-
--- the first coordinate adds nothing
-dot-first : (ss : List ℤ) (ds : List ℕ) → dot ss (unravel ds 0) ≡ pos 0
-unfolding dot unravel
-dot-first [] ds = refl
-dot-first (s ∷ ss) [] = refl
-dot-first (s ∷ ss) (d ∷ ds) = rw (zero-mod, zero-div) (ap₂ _+ℤ_ (*ℤ-zero s) (dot-first ss ds))
 
 index-room : (r n : ℕ) (steps : List ℤ) → r ≤ rankLimit → r ≤ length steps → r ≤ length (unlessNone n (replicate rankLimit (pos 0)) steps)
 index-room r n steps h k = go (eqb n 0)

@@ -2,7 +2,7 @@
 use mathlib.Core.Path.{_≡_, refl, sym, ap, _∙_}
 use mathlib.Core.Bool.{Bool, true, false, cond, _&&_}
 use mathlib.Core.List.{List, [], _∷_}
-use Prim.Native.Nat.{ℕ, zero, suc, _+_, _<_, _≤_, zero-le}
+use Prim.Native.Nat.{ℕ, zero, suc, _<_, _≤_, zero-le}
 use native.Mathlib.Omega.{arith}
 use borrow.Author.Tests.{leb-true}
 use lib.Dec.{eqb, leb}
@@ -15,21 +15,14 @@ use Rattle.layout.specs.declared.Answer.{Answer}
 use Rattle.layout.specs.declared.Answer.the-variants as A
 use Rattle.layout.specs.Answers.{isDone}
 use Rattle.axis_lists.specs.Held.{sameList}
-use Rattle.checks.specs.Checks.{vectorAxis, componentsOf, windowsFrom}
+use Rattle.checks.specs.Checks.{componentsOf, windowsFrom}
 use Rattle.checks.proofs.Made.{same-length}
 use Rattle.equality.specs.Same.{sameBy}
 use Rattle.equality.proofs.Compare.{numbers-decide, lists-decide}
 use Rattle.checks.proofs.Lists.{unique-axes}
-use Rattle.checks.proofs.Fits.{same-count}
+use Rattle.checks.proofs.Fits.{same-count, vector-fits}
 use Rattle.scatter_checks.specs.Refusals.{batchRefusal, refusalOf}
 use Rattle.scatter_plan.proofs.Accepted.{passed}
-
-vector-fits : (v n : ℕ) → isDone (vectorAxis v n) ≡ true → v ≤ n
-vector-fits v n e = go (leb v n) refl e
-  where
-    go : (t : Bool) → leb v n ≡ t → isDone (cond t A.Done (A.InvalidAxis v (n + 1))) ≡ true → v ≤ n
-    go true f h = leb-true v n f
-    go false f h = let z : _≡_ {A = ℕ} 0 1 = cc in absurd (omega arith)
 
 -- the same entries one by one
 lists-same : (xs ys : List ℕ) → sameList xs ys ≡ sameBy eqb xs ys

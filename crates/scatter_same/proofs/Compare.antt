@@ -6,12 +6,13 @@ use Prim.Native.Nat.{ℕ}
 use lib.Dec.{eqb}
 use lib.IntN.{ℤ}
 use Rattle.integer.specs.Defs.{eqZ}
+use Rattle.integer.specs.Tests.{and-true, and-both}
 use Rattle.layout.specs.declared.Layout.{Layout}
 use Rattle.axis_lists.specs.declared.Numbers.{Numbers}
 use Rattle.axis_lists.specs.declared.Steps.{Steps}
 use Rattle.axis_lists.specs.Held.{Decides}
 use Rattle.equality.specs.Same.{sameBy}
-use Rattle.equality.proofs.Compare.{and-true, and-both, numbers-decide, ints-decide, lists-decide, layouts-decide, held-decide, steps-decide}
+use Rattle.equality.proofs.Compare.{numbers-decide, ints-decide, lists-decide, layouts-decide, held-decide, steps-decide}
 use Rattle.replay.specs.declared.ReplaySpans.{ReplaySpans}
 use Rattle.replay.specs.declared.WindowReplay.{WindowReplay}
 use Rattle.scatter_plan.specs.declared.ScatterPlan.{ScatterPlan}

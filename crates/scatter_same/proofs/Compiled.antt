@@ -3,6 +3,7 @@ use mathlib.Core.Path.{_≡_, refl, sym, ap, _∙_}
 use mathlib.Core.Bool.{true, false}
 use mathlib.Core.List.{List}
 use lib.IntN.{ℤ}
+use Rattle.integer.specs.Tests.{and-true, and-both}
 use Rattle.indexing.specs.Scatter.{Scatter, scatterDims, windowDims, batchShape, windowShape, windows}
 use Rattle.indexing.specs.Steps.{updateBatchSteps, updateWindowSteps, landSteps}
 use Rattle.layout.specs.declared.Answer.{Answer}
@@ -10,7 +11,6 @@ use Rattle.layout.specs.declared.Answer.the-variants as A
 use Rattle.layout.specs.Answers.{isDone}
 use Rattle.layout.specs.Lists.{uniqueAxes}
 use Rattle.layout.specs.Spans.{totalFrom, spanFrom}
-use Rattle.equality.proofs.Compare.{and-true, and-both}
 use Rattle.replay.specs.Replays.{rowsOf}
 use Rattle.scatter_checks.specs.Refusals.{sizesRefusal, batchWalk, windowWalk, specRefusal, refusalOf}
 use Rattle.scatter_checks.proofs.Found.{done-again}

@@ -13,19 +13,17 @@ use Rattle.indexing.specs.Coordinates.{product, InSlice}
 use Rattle.indexing.specs.Odometer.{AllPos}
 use Rattle.indexing.specs.Fusion.{product-pos}
 use Rattle.indexing.specs.Loops.{inOrder}
+use Rattle.layout.specs.Laws.{no-cells}
 use Rattle.layout.specs.Nested.{hasZero}
 use Rattle.runs.specs.Runs.{cellAt, line, Line}
 use Rattle.runs.proofs.Turns.{none, same-turns}
 use Rattle.runs.proofs.Place.{read, line-zero}
 use Rattle.windows.specs.Windows.{placeAt, windowed, Region, Units}
-use Rattle.windows.proofs.Last.{place-first, no-cells, units-product}
+use Rattle.windows.proofs.Last.{place-first, units-product, only-zero}
 use Rattle.indexed_runs.specs.IndexedRuns.{startAt, Starting, movedAt, Putting}
 use Rattle.scatter_windows.specs.Scattering.{scatteredBy, putBy, Batches, Scattering, BatchPlaces, Landing, PutLevel}
 use Rattle.scatter_windows.proofs.Batches.{over-none, first-batch, over-back, places-back}
 use Rattle.scatter_windows.proofs.Levels.{put, land}
-
-only-zero : (P : ℕ → Type 0) → P 0 → (k : ℕ) → k < 1 → P k
-only-zero P p k h = let z : 0 ≡ k = omega arith in subst P z p
 
 -- ---- windows of one cell, and any number of batch axes
 module _ (starts offsets strides : List ℤ) (limits : List ℕ) (count : ℕ) (t u d : ℤ) (shape : List ℕ) (ts us : List ℤ) (rank sn dn : ℕ)

@@ -10,7 +10,7 @@ use lib.Dec.{eqb, leb, ltb}
 use lib.ListN.{length, drop, getD, drop-of-length-le}
 use lib.Seq.{drop-cons}
 use lib.IntN.{ℤ, pos, natAbs}
-use Rattle.layout.specs.Distinct.{and-both}
+use Rattle.integer.specs.Tests.{and-true}
 use Rattle.layout.specs.Nested.{hasZero, longAxes, insert, ordered, exceeds, nested}
 use Rattle.layout.specs.Sums.{weight, sumAxes, otherAt, othersWeight, axisExceeds}
 
@@ -233,8 +233,8 @@ none-up-to : (limit q : ℕ) (xs : List Axis) → limit ≤ q → exceeds q xs �
 unfolding upTo exceeds
 none-up-to limit q [] h e = refl
 none-up-to limit q (x ∷ xs) h e =
-    let a : q < x .0 = ltb-true q (x .0) (and-both (ltb q (x .0)) _ e .0) in
-    rw (lt-leb (x .0) limit (omega arith)) (omega (arith, none-up-to limit (q + reach x) xs (omega arith) (and-both (ltb q (x .0)) _ e .1)))
+    let a : q < x .0 = ltb-true q (x .0) (and-true (ltb q (x .0)) _ e .0) in
+    rw (lt-leb (x .0) limit (omega arith)) (omega (arith, none-up-to limit (q + reach x) xs (omega arith) (and-true (ltb q (x .0)) _ e .1)))
 
 abbrev apartFrom : ℕ → List Axis → Axis → Bool
 apartFrom p l x = ltb (p + upTo (x .0) l) (x .0 + reach x)

@@ -2,18 +2,19 @@
 use mathlib.Core.Path.{_≡_, refl, sym, ap, ap₂, _∙_}
 use mathlib.Core.Bool.{Bool, true, false, cond, _&&_}
 use mathlib.Core.List.{List, [], _∷_}
-use Prim.Native.Nat.{ℕ, zero, suc, _+_, _*_, _-_, _<_, _≤_, _^_}
+use Prim.Native.Nat.{ℕ, suc, _+_, _*_, _-_, _<_, _≤_, _^_}
 use native.Mathlib.Omega.{arith}
 use borrow.Author.Tests.{lt-ltb, le-ltb, ltb-true, ltb-false, le-leb, lt-leb}
 use lib.Dec.{ltb}
 use lib.IntN.{ℤ, pos, negsuc, negℤ, natAbs, _+ℤ_, _*ℤ_, negℤ-+ℤ}
 use lib.Signed.{leZ, ltZ, _<ℤ_}
+use Rattle.integer.specs.Laws.{minus-above}
 use Rattle.integer.specs.Z.{up, zfacts, eq-by, v, minus, _⊕_}
 use Rattle.integer.specs.Defs.{checkedU, isNeg}
 use Rattle.integer.specs.Machine.{checkedU-yes, checkedU-fits, checkedU-over}
 use Rattle.integer.specs.declared.CheckedU.{CheckedU}
 use Rattle.integer.specs.declared.CheckedU.the-variants as U
-use Rattle.indexing.specs.Reach.{belowZero, aboveZero, lowest, highest}
+use Rattle.indexing.specs.Reach.{belowZero, aboveZero, lowest, highest, below-neg, above-neg}
 use Rattle.layout.specs.declared.Reach.{Reach}
 use Rattle.layout.specs.declared.Reach.the-variants as R
 use Rattle.layout.specs.Spans.{andThenU}
@@ -21,14 +22,6 @@ use Rattle.layout.specs.Nested.{hasZero}
 use Rattle.layout.specs.Sums.{sumAxes, sideAt, sideReach, highBy, lowBy, cellsWithin}
 use Rattle.layout.specs.Reach.{viewReach}
 use Rattle.spans.proofs.Turns.{sum-checked}
-
-below-neg : (n : ℕ) → belowZero (negℤ (pos n)) ≡ negℤ (pos n)
-below-neg zero = refl
-below-neg (suc n) = refl
-
-above-neg : (n : ℕ) → aboveZero (negℤ (pos n)) ≡ pos 0
-above-neg zero = refl
-above-neg (suc n) = refl
 
 below-one : (s : ℤ) (m : ℕ) → belowZero (s *ℤ pos m) ≡ negℤ (pos (cond (isNeg s) (natAbs s * m) 0))
 below-one (pos a) m = refl
@@ -55,9 +48,6 @@ highest-is i (d ∷ ds) [] = refl
 highest-is i (d ∷ ds) (s ∷ ss) = ap₂ _+ℤ_ (above-one s (d - 1)) (highest-is (suc i) ds ss)
 
 -- at − down, as an integer
-apart-high : (at down : ℕ) → down ≤ at → pos at +ℤ negℤ (pos down) ≡ pos (at - down)
-apart-high at down h = eq-by (v (pos at) ⊕ minus (v (pos down))) (v (pos (at - down))) (omega arith)
-
 apart-low : (at down : ℕ) → at < down → pos at +ℤ negℤ (pos down) ≡ negsuc (down - suc at)
 apart-low at down h = eq-by (v (pos at) ⊕ minus (v (pos down))) (v (negsuc (down - suc at))) (omega arith)
 
@@ -67,7 +57,7 @@ spread low high len = cond (leZ (pos 0) low && ltZ (pos high) (pos len)) (R.Cell
 
 module _ (at down above len : ℕ) (n : len < 2 ^ 64) where
   high-cells : down ≤ at → highBy (andThenU (checkedU above) (λ e. checkedU (at + e))) (at - down) len ≡ spread (pos at +ℤ negℤ (pos down)) (at + above) len
-  high-cells h = rw (sum-checked at above, apart-high at down h, le-leb 0 (at - down) (omega arith)) (go (checkedU (at + above)) refl)
+  high-cells h = rw (sum-checked at above, minus-above at down h, le-leb 0 (at - down) (omega arith)) (go (checkedU (at + above)) refl)
     where
       go : (x : CheckedU) → checkedU (at + above) ≡ x → highBy (checkedU (at + above)) (at - down) len ≡ cond (ltb (at + above) len) (R.Cells (at - down) (at + above)) R.Outside
       go (U.Fits t) e = rw e (ap (λ (k : ℕ). cond (ltb k len) (R.Cells (at - down) k) R.Outside) (sym (checkedU-fits (at + above) t e)))

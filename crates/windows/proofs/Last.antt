@@ -1,42 +1,19 @@
 -- The last axis of a walk, and axes of one place in front of it. Over any rank. Assumes nothing.
-use mathlib.Core.Path.{_≡_, refl, sym, ap, ap₂, subst, _∙_}
-use mathlib.Core.Bool.{Bool, true, false, _||_, true≢false}
+use mathlib.Core.Path.{_≡_, sym, ap, ap₂, subst, _∙_}
 use mathlib.Core.List.{List, [], _∷_, _++_}
 use Prim.Native.Nat.{ℕ, zero, suc, _+_, _*_, _/_, _%_, _<_}
-use native.Mathlib.Nat.{mul-suc, mul-assoc, mul-zero, zero-mul, one-mul, mod-eq-of-lt, zero-mod, zero-div, add-mul-mod-self-left, add-mul-div-left, mul-le-mul-left}
+use native.Mathlib.Nat.{mul-suc, mul-assoc, one-mul, mod-eq-of-lt, add-mul-mod-self-left, add-mul-div-left, mul-le-mul-left}
 use native.Mathlib.Omega.{arith}
-use borrow.Author.Tests.{eqb-true, eqb-false}
-use lib.Dec.{eqb}
 use lib.ListN.{length, getD, take}
 use lib.Seq.{take-suc, length-take-le}
-use lib.IntN.{ℤ, pos, _+ℤ_, _*ℤ_, +ℤ-assoc, +ℤ-comm, +ℤ-idr, *ℤ-zero}
+use lib.IntN.{ℤ, pos, _+ℤ_, _*ℤ_, +ℤ-assoc, +ℤ-comm, +ℤ-idr}
 use Rattle.integer.specs.Laws.{+ℤ-ac}
 use Rattle.indexing.specs.Coordinates.{product, unravel, dot}
 use Rattle.indexing.specs.Odometer.{AllPos, offsetAt}
-use Rattle.indexing.specs.Linear.{div-below}
+use Rattle.indexing.specs.Linear.{div-below, dot-first}
 use Rattle.indexing.specs.Fusion.{dot-unit}
-use Rattle.layout.specs.Nested.{hasZero}
 use Rattle.runs.specs.Runs.{line}
 use Rattle.windows.specs.Windows.{placeAt, Units}
-
--- ---- whether there are cells
-pub no-cells : (ds : List ℕ) → hasZero ds ≡ true → product ds ≡ 0
-unfolding hasZero product
-no-cells [] h = absurd (true≢false (sym h))
-no-cells (d ∷ ds) h = go (eqb d 0) refl h (no-cells ds)
-  where
-    go : (t : Bool) → eqb d 0 ≡ t → (t || hasZero ds) ≡ true → (hasZero ds ≡ true → product ds ≡ 0) → d * product ds ≡ 0
-    go true e q f = ap (λ (k : ℕ). k * product ds) (eqb-true d 0 e) ∙ zero-mul (product ds)
-    go false e q f = ap (λ (k : ℕ). d * k) (f q) ∙ mul-zero d
-
-pub some-cells : (ds : List ℕ) → hasZero ds ≡ false → AllPos ds
-unfolding hasZero AllPos
-some-cells [] h = tt
-some-cells (d ∷ ds) h = go (eqb d 0) refl h (some-cells ds)
-  where
-    go : (t : Bool) → eqb d 0 ≡ t → (t || hasZero ds) ≡ false → (hasZero ds ≡ false → AllPos ds) → (0 < d) × AllPos ds
-    go true e q f = absurd (true≢false q)
-    go false e q f = (omega (arith, eqb-false d 0 e), f q)
 
 -- ---- the last axis
 pub digit-below : (c d x n : ℕ) → c < d → x < n → c + d * x < d * n
@@ -109,12 +86,10 @@ unfolding offsetAt
 units-place base low shape ss k h g u l = ap (λ (x : ℤ). base +ℤ x) (units-dot low shape ss k h g u l)
 
 -- ---- the first cell is at the base
-dot-first : (ss : List ℤ) (ds : List ℕ) → dot ss (unravel ds 0) ≡ pos 0
-unfolding dot unravel
-dot-first [] ds = refl
-dot-first (s ∷ ss) [] = refl
-dot-first (s ∷ ss) (d ∷ ds) = rw (zero-mod, zero-div) (ap₂ _+ℤ_ (*ℤ-zero s) (dot-first ss ds))
-
 pub place-first : (base : ℤ) (shape : List ℕ) (strides : List ℤ) (rank : ℕ) → placeAt base shape strides rank 0 ≡ base
 unfolding offsetAt
 place-first base shape strides rank = ap (λ (x : ℤ). base +ℤ x) (dot-first (take rank strides) (take rank shape)) ∙ +ℤ-idr base
+
+-- ---- of one cell
+pub only-zero : (P : ℕ → Type 0) → P 0 → (k : ℕ) → k < 1 → P k
+only-zero P p k h = let z : 0 ≡ k = omega arith in subst P z p

@@ -20,8 +20,8 @@ use Rattle.layout.specs.Reach.{viewReach, bufferBounds}
 use Rattle.layout.specs.Inside.{reach-inside, cell-inside}
 use Rattle.layout.specs.declared.Reach.{Reach}
 use Rattle.layout.specs.declared.Reach.the-variants as R
+use Rattle.layout.specs.Laws.{no-cells}
 use Rattle.windows.specs.Windows.{Region}
-use Rattle.windows.proofs.Last.{no-cells}
 
 module _ (ds : List ℕ) (ss : List ℤ) (base : ℤ) (m : ℕ) where
   none-reached : viewReach ds ss base m ≡ R.NoCells → (k : ℕ) → k < product ds → ⊥

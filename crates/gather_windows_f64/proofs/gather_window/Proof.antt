@@ -2,9 +2,9 @@
 use mathlib.Core.Path.{sym, _∙_}
 use lib.Ieee.{nan}
 use lib.ListN.{take}
+use Rattle.layout.specs.Laws.{some-cells}
 use Rattle.runs.specs.Runs.{ruleF64}
 use Rattle.runs.specs.declared.Rule.the-variants as R
-use Rattle.windows.proofs.Last.{some-cells}
 use Rattle.gather_windows.proofs.Whole.{one-cell, one-end, level-of, level-end, nothing}
 use borrow.Author.Needs.{needs}
 use Rattle.gather_windows_f64.proofs.gather_window.Statement.{statement}

@@ -44,7 +44,7 @@ returns c =
     let fb : SFits w64 b = sfits-of (z .known-told2 .given .0 .1) in
     c .apart .ensures
     ∙ ap₂ (λ (x y : ℤ). asApart (checkedAxis (axisOf (s .args .extent) x y))) (back (s .fits .source)) (back (s .fits .dest))
-    ∙ join-apart (s .args .before) (s .args .extent) (s .args .source) (s .args .dest) (h .before .past-last .result) (h .past-last2 .result) (expected h) (expected2 h) a b (k .before .expected-source .given .1) (z .before .expected-dest .given .1) (sym (c .before .before .same .ensures ∙ ap₂ eqZ (back (s .fits .source)) (back fa)) ∙ not-true _ (c .before .if1 .taken))
+    ∙ join-apart (s .args .before) (s .args .extent) (s .args .source) (s .args .dest) (h .before .past-last .result) (h .past-last2 .result) (expected h) (expected2 h) a b (k .before .expected-source .given .1) (z .before .expected-dest .given .1) (sym (c .before .before .same-i64 .ensures ∙ ap₂ eqZ (back (s .fits .source)) (back fa)) ∙ not-true _ (c .before .if1 .taken))
 
 returns-2 : tie.Need-returns-2
 returns-2 c =
@@ -58,7 +58,7 @@ returns-2 c =
     let fb : SFits w64 b = sfits-of (z .known-told2 .given .0 .1) in
     c .apart2 .ensures
     ∙ ap₂ (λ (x y : ℤ). asApart (checkedAxis (axisOf (s .args .extent) x y))) (back (s .fits .source)) (back (s .fits .dest))
-    ∙ join-apart2 (s .args .before) (s .args .extent) (s .args .source) (s .args .dest) (h .before .past-last .result) (h .past-last2 .result) (expected h) (expected2 h) a b (k .before .expected-source .given .1) (z .before .expected-dest .given .1) (sym (c .before .before .before .before .same .ensures ∙ ap₂ eqZ (back (s .fits .source)) (back fa)) ∙ not-false _ (c .before .before .before .if1 .left)) (sym (c .before .before .same2 .ensures ∙ ap₂ eqZ (back (s .fits .dest)) (back fb)) ∙ not-true _ (c .before .if2 .taken))
+    ∙ join-apart2 (s .args .before) (s .args .extent) (s .args .source) (s .args .dest) (h .before .past-last .result) (h .past-last2 .result) (expected h) (expected2 h) a b (k .before .expected-source .given .1) (z .before .expected-dest .given .1) (sym (c .before .before .before .before .same-i64 .ensures ∙ ap₂ eqZ (back (s .fits .source)) (back fa)) ∙ not-false _ (c .before .before .before .if1 .left)) (sym (c .before .before .same-i642 .ensures ∙ ap₂ eqZ (back (s .fits .dest)) (back fb)) ∙ not-true _ (c .before .if2 .taken))
 
 enum-told : tie.Need-enum-told
 enum-told c = search needs
@@ -78,7 +78,7 @@ returns-3 c =
     let fb : SFits w64 b = sfits-of (z .known-told2 .given .0 .1) in
     c .merge .ensures
     ∙ ap₂ (λ (x y : ℤ). asMerged (checkedAxis (axisOf (s .args .before .extent * s .args .extent) x y))) (back (source-fits s)) (back (dest-fits s))
-    ∙ join-merge (s .args .before) (s .args .extent) (s .args .source) (s .args .dest) (h .before .past-last .result) (h .past-last2 .result) (expected h) (expected2 h) a b (k .before .expected-source .given .1) (z .before .expected-dest .given .1) (sym (c .before .before .before .before .same .ensures ∙ ap₂ eqZ (back (s .fits .source)) (back fa)) ∙ not-false _ (c .before .before .before .if1 .left)) (sym (c .before .before .same2 .ensures ∙ ap₂ eqZ (back (s .fits .dest)) (back fb)) ∙ not-false _ (c .before .if2 .left))
+    ∙ join-merge (s .args .before) (s .args .extent) (s .args .source) (s .args .dest) (h .before .past-last .result) (h .past-last2 .result) (expected h) (expected2 h) a b (k .before .expected-source .given .1) (z .before .expected-dest .given .1) (sym (c .before .before .before .before .same-i64 .ensures ∙ ap₂ eqZ (back (s .fits .source)) (back fa)) ∙ not-false _ (c .before .before .before .if1 .left)) (sym (c .before .before .same-i642 .ensures ∙ ap₂ eqZ (back (s .fits .dest)) (back fb)) ∙ not-false _ (c .before .if2 .left))
 
 returns-4 : tie.Need-returns-4
 returns-4 c =

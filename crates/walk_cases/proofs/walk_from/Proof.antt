@@ -9,11 +9,11 @@ use mir.Syntax.{w64}
 use mir.Val.{SFits, toZ, ofZ}
 use borrow.Author.Tests.{not-false}
 use Rattle.integer.specs.Z.{back}
+use Rattle.layout.specs.Laws.{some-cells}
 use Rattle.layout.specs.Layouts.{rankLimit}
 use Rattle.layout.specs.declared.Answer.the-variants as N
 use Rattle.layout.proofs.First.{done-is}
 use Rattle.replay.specs.declared.CompiledReplay.{CompiledReplay}
-use Rattle.replay.specs.Cells.{all-cells}
 use Rattle.walk.specs.Walks.{coversOf}
 use Rattle.walk.specs.Walking.{Ready, Walking, walking, spans-cover}
 use borrow.Author.Needs.{needs}
@@ -93,7 +93,7 @@ known d =
     let n : r .answer ≡ N.Done = done-is (r .answer) (sym (d .before .before .before .before .before .before .before .before .before .before .before .before .is-done .ensures) ∙ not-false _ (d .before .before .before .before .before .before .before .before .before .before .before .if1 .left)) in
     let z = sym (d .before .before .before .before .before .before .before .before .before .before .has-zero .ensures) ∙ d .before .before .before .before .before .before .before .before .before .if2 .left in
     let t = spans-cover (ds s) (ss s) (ts s) (l .0) (l .1) (l .2) r (m .compile-window-replay .ensures) n (sb s) (db s) e1 e2 in
-    let q : Ready (ds s) (ss s) (ts s) (sb s) (db s) = record { done = ap (λ (x : CompiledReplay). x .answer) (sym (m .compile-window-replay .ensures)) ∙ n; positive = all-cells (ds s) z; source-reach = t .0; dest-reach = t .1 } in
+    let q : Ready (ds s) (ss s) (ts s) (sb s) (db s) = record { done = ap (λ (x : CompiledReplay). x .answer) (sym (m .compile-window-replay .ensures)) ∙ n; positive = some-cells (ds s) z; source-reach = t .0; dest-reach = t .1 } in
     walking (ds s) (ss s) (ts s) (l .0) (l .1) (l .2) r (m .compile-window-replay .ensures) (sb s) (db s) q (r .replay .extents) (d .rows-of .result) refl (d .rows-of .ensures)
 
 places-requires : tie.Need-places-requires
