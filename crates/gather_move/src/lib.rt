@@ -4,8 +4,9 @@ ghost use lib.Ieee.{nan};
 ghost use lib.IntN.{pos};
 ghost use lib.ListN.{length};
 ghost use Rattle.indexing.specs.Gather.{gathered};
-ghost use Rattle.runs.specs.Runs.{ruleI32, ruleF64};
-ghost use Rattle.runs.specs.declared.Rule.the-variants as R;
+ghost use Rattle.rules.specs.Rules.{ruleI32, ruleF64};
+ghost use Rattle.rules.specs.declared.Rule.the-variants as R;
+ghost use Rattle.rules.specs.declared.RuleF64.the-variants as F;
 ghost use Rattle.gather_windows.specs.Gathering.{gatheredBy, Gathering};
 ghost use Rattle.calls.specs.Calls.{Does, asIs};
 ghost use Rattle.gather_move.specs.Prepared.{Cells, Movable};
@@ -68,7 +69,7 @@ pub fn refused(answer: Answer) -> PreparedGather
 // The cells of a gather from the operand's base, the start's base and the place `at` in the part of the destination that is lent on.
 fn run_i32(p: PreparedGather, source: &[i32], starts: &[i64], into: &mut [i32], at: i64)
     requires { ⌜ Gathering (now starts) (p .numbers .offsets) (p .numbers .strides) (p .numbers .limits) (p .numbers .count) (p .operand) (p .index) at (p .numbers .extents) (p .numbers .«window_steps») (p .numbers .«batch_steps») (p .numbers .«dest_steps») (p .numbers .rank) (length (now source)) (length (now into)) ⌝ }
-    ensures { λ _. ⌜ now (into .exit) ≡ gatheredBy (pos 0) (ruleI32 R.Copy) (now (source .entry)) (now (starts .entry)) (p .numbers .offsets) (p .numbers .strides) (p .numbers .limits) (p .numbers .count) (p .operand) (p .index) at (p .numbers .extents) (p .numbers .«window_steps») (p .numbers .«batch_steps») (p .numbers .«dest_steps») (p .numbers .rank) (now (into .entry)) ⌝ }
+    ensures { λ _. ⌜ now (into .exit) ≡ gatheredBy (pos 0) (ruleI32 R.Replace) (now (source .entry)) (now (starts .entry)) (p .numbers .offsets) (p .numbers .strides) (p .numbers .limits) (p .numbers .count) (p .operand) (p .index) at (p .numbers .extents) (p .numbers .«window_steps») (p .numbers .«batch_steps») (p .numbers .«dest_steps») (p .numbers .rank) (now (into .entry)) ⌝ }
 {
     let numbers = p.numbers;
     let extents = numbers.extents;
@@ -138,7 +139,7 @@ pub fn move_i32(p: PreparedGather, source: &[i32], starts: &[i64], into: &mut [i
 // The cells of a gather from the operand's base, the start's base and the place `at` in the part of the destination that is lent on.
 fn run_f64(p: PreparedGather, source: &[f64], starts: &[i64], into: &mut [f64], at: i64)
     requires { ⌜ Gathering (now starts) (p .numbers .offsets) (p .numbers .strides) (p .numbers .limits) (p .numbers .count) (p .operand) (p .index) at (p .numbers .extents) (p .numbers .«window_steps») (p .numbers .«batch_steps») (p .numbers .«dest_steps») (p .numbers .rank) (length (now source)) (length (now into)) ⌝ }
-    ensures { λ _. ⌜ now (into .exit) ≡ gatheredBy nan (ruleF64 R.Copy) (now (source .entry)) (now (starts .entry)) (p .numbers .offsets) (p .numbers .strides) (p .numbers .limits) (p .numbers .count) (p .operand) (p .index) at (p .numbers .extents) (p .numbers .«window_steps») (p .numbers .«batch_steps») (p .numbers .«dest_steps») (p .numbers .rank) (now (into .entry)) ⌝ }
+    ensures { λ _. ⌜ now (into .exit) ≡ gatheredBy nan (ruleF64 F.Replace) (now (source .entry)) (now (starts .entry)) (p .numbers .offsets) (p .numbers .strides) (p .numbers .limits) (p .numbers .count) (p .operand) (p .index) at (p .numbers .extents) (p .numbers .«window_steps») (p .numbers .«batch_steps») (p .numbers .«dest_steps») (p .numbers .rank) (now (into .entry)) ⌝ }
 {
     let numbers = p.numbers;
     let extents = numbers.extents;

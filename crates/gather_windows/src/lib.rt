@@ -7,12 +7,13 @@ ghost use lib.IntN.{pos};
 ghost use lib.ListN.{length};
 ghost use Rattle.indexing.specs.Loops.{inOrder};
 ghost use Rattle.layout.specs.Layouts.{rankLimit};
-ghost use Rattle.runs.specs.Runs.{ruleI32, cellAt, line};
-ghost use Rattle.runs.specs.declared.Rule.the-variants as R;
+ghost use Rattle.rules.specs.Rules.{ruleI32};
+ghost use Rattle.runs.specs.Runs.{cellAt, line};
+ghost use Rattle.rules.specs.declared.Rule.the-variants as R;
 ghost use Rattle.indexed_runs.specs.IndexedRuns.{movedAt, Taking};
 ghost use Rattle.gather_windows.specs.Gathering.{gatheredBy, Gathering, StillAxis, StillAxes, GatherLevel};
 use layout::RAW_FUSED_RANK_LIMIT;
-use runs::Rule;
+use rules::Rule;
 
 // Whether an axis does not move the place that the start is read at.
 fn is_still(extent: u64, step: i64) -> bool
@@ -58,7 +59,7 @@ pub fn gather_run(
     limits: &[u64; RAW_FUSED_RANK_LIMIT],
 )
     requires { ⌜ Taking (now starts) (now offsets) (now strides) (now limits) count s t d ss ts ds n (length (now src)) (length (now dst)) ⌝ }
-    ensures { λ _. ⌜ now (dst .exit) ≡ inOrder (cellAt (pos 0) (ruleI32 R.Copy) (now (src .entry)) (movedAt (now (starts .entry)) (now (offsets .entry)) (now (strides .entry)) (now (limits .entry)) count (line s ss) (line t ts)) (line d ds)) n (now (dst .entry)) ⌝ }
+    ensures { λ _. ⌜ now (dst .exit) ≡ inOrder (cellAt (pos 0) (ruleI32 R.Replace) (now (src .entry)) (movedAt (now (starts .entry)) (now (offsets .entry)) (now (strides .entry)) (now (limits .entry)) count (line s ss) (line t ts)) (line d ds)) n (now (dst .entry)) ⌝ }
 {
     if n == 0 {
         return;
@@ -110,11 +111,11 @@ pub fn gather_axes(
     d: i64,
 )
     requires { ⌜ GatherLevel (now starts) (now offsets) (now strides) (now limits) count s t d (now extents) (now ss) (now ts) (now ds) low wide rank (length (now src)) (length (now dst)) ⌝ }
-    ensures { λ _. ⌜ now (dst .exit) ≡ gatheredBy (pos 0) (ruleI32 R.Copy) (now (src .entry)) (now (starts .entry)) (now (offsets .entry)) (now (strides .entry)) (now (limits .entry)) count s t d (now (extents .entry)) (now (ss .entry)) (now (ts .entry)) (now (ds .entry)) rank (now (dst .entry)) ⌝ }
+    ensures { λ _. ⌜ now (dst .exit) ≡ gatheredBy (pos 0) (ruleI32 R.Replace) (now (src .entry)) (now (starts .entry)) (now (offsets .entry)) (now (strides .entry)) (now (limits .entry)) count s t d (now (extents .entry)) (now (ss .entry)) (now (ts .entry)) (now (ds .entry)) rank (now (dst .entry)) ⌝ }
 {
     if rank <= wide {
         let a = indexed_runs::started(starts, s, t, count, offsets, strides, limits);
-        windows::axes(Rule::Copy, src, dst, extents, ss, ds, low, rank, a, d);
+        windows::axes(Rule::Replace, src, dst, extents, ss, ds, low, rank, a, d);
         return;
     }
     let top = rank - 1;
@@ -189,7 +190,7 @@ pub fn gather_window(
     d: i64,
 )
     requires { ⌜ Gathering (now starts) (now offsets) (now strides) (now limits) count s t d (now extents) (now ss) (now ts) (now ds) rank (length (now src)) (length (now dst)) ⌝ }
-    ensures { λ _. ⌜ now (dst .exit) ≡ gatheredBy (pos 0) (ruleI32 R.Copy) (now (src .entry)) (now (starts .entry)) (now (offsets .entry)) (now (strides .entry)) (now (limits .entry)) count s t d (now (extents .entry)) (now (ss .entry)) (now (ts .entry)) (now (ds .entry)) rank (now (dst .entry)) ⌝ }
+    ensures { λ _. ⌜ now (dst .exit) ≡ gatheredBy (pos 0) (ruleI32 R.Replace) (now (src .entry)) (now (starts .entry)) (now (offsets .entry)) (now (strides .entry)) (now (limits .entry)) count s t d (now (extents .entry)) (now (ss .entry)) (now (ts .entry)) (now (ds .entry)) rank (now (dst .entry)) ⌝ }
 {
     if rank == 0 {
         gather_run(

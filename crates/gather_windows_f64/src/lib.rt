@@ -5,12 +5,13 @@ ghost use mathlib.Core.Path.{_≡_};
 ghost use lib.Ieee.{nan};
 ghost use lib.ListN.{length};
 ghost use Rattle.indexing.specs.Loops.{inOrder};
-ghost use Rattle.runs.specs.Runs.{ruleF64, cellAt, line};
-ghost use Rattle.runs.specs.declared.Rule.the-variants as R;
+ghost use Rattle.rules.specs.Rules.{ruleF64};
+ghost use Rattle.runs.specs.Runs.{cellAt, line};
+ghost use Rattle.rules.specs.declared.RuleF64.the-variants as R;
 ghost use Rattle.indexed_runs.specs.IndexedRuns.{movedAt, Taking};
 ghost use Rattle.gather_windows.specs.Gathering.{gatheredBy, Gathering, GatherLevel};
 use layout::RAW_FUSED_RANK_LIMIT;
-use runs::Rule;
+use rules::RuleF64;
 
 // One run: windows of one cell, whose start is read at each.
 pub fn gather_run(
@@ -30,7 +31,7 @@ pub fn gather_run(
     limits: &[u64; RAW_FUSED_RANK_LIMIT],
 )
     requires { ⌜ Taking (now starts) (now offsets) (now strides) (now limits) count s t d ss ts ds n (length (now src)) (length (now dst)) ⌝ }
-    ensures { λ _. ⌜ now (dst .exit) ≡ inOrder (cellAt nan (ruleF64 R.Copy) (now (src .entry)) (movedAt (now (starts .entry)) (now (offsets .entry)) (now (strides .entry)) (now (limits .entry)) count (line s ss) (line t ts)) (line d ds)) n (now (dst .entry)) ⌝ }
+    ensures { λ _. ⌜ now (dst .exit) ≡ inOrder (cellAt nan (ruleF64 R.Replace) (now (src .entry)) (movedAt (now (starts .entry)) (now (offsets .entry)) (now (strides .entry)) (now (limits .entry)) count (line s ss) (line t ts)) (line d ds)) n (now (dst .entry)) ⌝ }
 {
     if n == 0 {
         return;
@@ -94,11 +95,11 @@ pub fn gather_axes(
     d: i64,
 )
     requires { ⌜ GatherLevel (now starts) (now offsets) (now strides) (now limits) count s t d (now extents) (now ss) (now ts) (now ds) low wide rank (length (now src)) (length (now dst)) ⌝ }
-    ensures { λ _. ⌜ now (dst .exit) ≡ gatheredBy nan (ruleF64 R.Copy) (now (src .entry)) (now (starts .entry)) (now (offsets .entry)) (now (strides .entry)) (now (limits .entry)) count s t d (now (extents .entry)) (now (ss .entry)) (now (ts .entry)) (now (ds .entry)) rank (now (dst .entry)) ⌝ }
+    ensures { λ _. ⌜ now (dst .exit) ≡ gatheredBy nan (ruleF64 R.Replace) (now (src .entry)) (now (starts .entry)) (now (offsets .entry)) (now (strides .entry)) (now (limits .entry)) count s t d (now (extents .entry)) (now (ss .entry)) (now (ts .entry)) (now (ds .entry)) rank (now (dst .entry)) ⌝ }
 {
     if rank <= wide {
         let a = indexed_runs::started(starts, s, t, count, offsets, strides, limits);
-        windows_f64::axes(Rule::Copy, src, dst, extents, ss, ds, low, rank, a, d);
+        windows_f64::axes(RuleF64::Replace, src, dst, extents, ss, ds, low, rank, a, d);
         return;
     }
     let top = rank - 1;
@@ -173,7 +174,7 @@ pub fn gather_window(
     d: i64,
 )
     requires { ⌜ Gathering (now starts) (now offsets) (now strides) (now limits) count s t d (now extents) (now ss) (now ts) (now ds) rank (length (now src)) (length (now dst)) ⌝ }
-    ensures { λ _. ⌜ now (dst .exit) ≡ gatheredBy nan (ruleF64 R.Copy) (now (src .entry)) (now (starts .entry)) (now (offsets .entry)) (now (strides .entry)) (now (limits .entry)) count s t d (now (extents .entry)) (now (ss .entry)) (now (ts .entry)) (now (ds .entry)) rank (now (dst .entry)) ⌝ }
+    ensures { λ _. ⌜ now (dst .exit) ≡ gatheredBy nan (ruleF64 R.Replace) (now (src .entry)) (now (starts .entry)) (now (offsets .entry)) (now (strides .entry)) (now (limits .entry)) count s t d (now (extents .entry)) (now (ss .entry)) (now (ts .entry)) (now (ds .entry)) rank (now (dst .entry)) ⌝ }
 {
     if rank == 0 {
         gather_run(

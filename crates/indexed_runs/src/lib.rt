@@ -7,11 +7,12 @@ ghost use lib.ListN.{length};
 ghost use Rattle.integer.specs.Z.{up};
 ghost use Rattle.indexing.specs.Start.{clamp};
 ghost use Rattle.indexing.specs.Loops.{inOrder};
-ghost use Rattle.runs.specs.Runs.{ruleI32, cellAt, line};
-ghost use Rattle.runs.specs.declared.Rule.the-variants as R;
+ghost use Rattle.rules.specs.Rules.{ruleI32};
+ghost use Rattle.runs.specs.Runs.{cellAt, line};
+ghost use Rattle.rules.specs.declared.Rule.the-variants as R;
 ghost use Rattle.indexed_runs.specs.IndexedRuns.{startAt, Starting, movedAt, Taking, Putting, clampedAt, Clamped, oneAt, Ones};
 use layout::RAW_FUSED_RANK_LIMIT;
-use runs::Rule;
+use rules::Rule;
 
 // s, moved by the components of the start that is read at t: each is clamped, and times its stride.
 pub fn started(
@@ -57,7 +58,7 @@ pub fn take_cells(
     limits: &[u64; RAW_FUSED_RANK_LIMIT],
 )
     requires { ⌜ Taking (now starts) (now offsets) (now strides) (now limits) count s t d ss ts ds n (length (now src)) (length (now dst)) ⌝ }
-    ensures { λ _. ⌜ now (dst .exit) ≡ inOrder (cellAt (pos 0) (ruleI32 R.Copy) (now (src .entry)) (movedAt (now (starts .entry)) (now (offsets .entry)) (now (strides .entry)) (now (limits .entry)) count (line s ss) (line t ts)) (line d ds)) n (now (dst .entry)) ⌝ }
+    ensures { λ _. ⌜ now (dst .exit) ≡ inOrder (cellAt (pos 0) (ruleI32 R.Replace) (now (src .entry)) (movedAt (now (starts .entry)) (now (offsets .entry)) (now (strides .entry)) (now (limits .entry)) count (line s ss) (line t ts)) (line d ds)) n (now (dst .entry)) ⌝ }
 {
     let mut i: usize = 0;
     while i < n {
@@ -103,7 +104,7 @@ pub fn take_strided(
     ds: i64,
 )
     requires { ⌜ Clamped (now starts) t ts base stride d ds limit n (length (now src)) (length (now dst)) ⌝ }
-    ensures { λ _. ⌜ now (dst .exit) ≡ inOrder (cellAt (pos 0) (ruleI32 R.Copy) (now (src .entry)) (clampedAt (now (starts .entry)) (line t ts) base stride limit) (line d ds)) n (now (dst .entry)) ⌝ }
+    ensures { λ _. ⌜ now (dst .exit) ≡ inOrder (cellAt (pos 0) (ruleI32 R.Replace) (now (src .entry)) (clampedAt (now (starts .entry)) (line t ts) base stride limit) (line d ds)) n (now (dst .entry)) ⌝ }
 {
     let mut i: usize = 0;
     while i < n {
@@ -122,7 +123,7 @@ pub fn take_strided(
 // Cell i: of the source where start i says, clamped; of the destination in order.
 fn take_one(src: &[i32], starts: &[i64], dst: &mut [i32], limit: i64, i: usize)
     requires { ⌜ (i < length (now dst)) × Ones (now starts) limit (length (now dst)) (length (now src)) ⌝ }
-    ensures { λ _. ⌜ now (dst .exit) ≡ cellAt (pos 0) (ruleI32 R.Copy) (now (src .entry)) (oneAt (now (starts .entry)) limit) pos i (now (dst .entry)) ⌝ }
+    ensures { λ _. ⌜ now (dst .exit) ≡ cellAt (pos 0) (ruleI32 R.Replace) (now (src .entry)) (oneAt (now (starts .entry)) limit) pos i (now (dst .entry)) ⌝ }
 {
     let x = starts[i];
     let y = clamped(x, limit);
@@ -133,7 +134,7 @@ fn take_one(src: &[i32], starts: &[i64], dst: &mut [i32], limit: i64, i: usize)
 // The first n cells.
 fn take_few(src: &[i32], starts: &[i64], dst: &mut [i32], limit: i64, n: usize)
     requires { ⌜ (n ≤ length (now dst)) × Ones (now starts) limit (length (now dst)) (length (now src)) ⌝ }
-    ensures { λ _. ⌜ now (dst .exit) ≡ inOrder (cellAt (pos 0) (ruleI32 R.Copy) (now (src .entry)) (oneAt (now (starts .entry)) limit) pos) n (now (dst .entry)) ⌝ }
+    ensures { λ _. ⌜ now (dst .exit) ≡ inOrder (cellAt (pos 0) (ruleI32 R.Replace) (now (src .entry)) (oneAt (now (starts .entry)) limit) pos) n (now (dst .entry)) ⌝ }
 {
     let mut i: usize = 0;
     while i < n {
@@ -146,7 +147,7 @@ fn take_few(src: &[i32], starts: &[i64], dst: &mut [i32], limit: i64, n: usize)
 // that are over.
 pub fn take_ones(src: &[i32], starts: &[i64], dst: &mut [i32], limit: i64)
     requires { ⌜ Ones (now starts) limit (length (now dst)) (length (now src)) ⌝ }
-    ensures { λ _. ⌜ now (dst .exit) ≡ inOrder (cellAt (pos 0) (ruleI32 R.Copy) (now (src .entry)) (oneAt (now (starts .entry)) limit) pos) (length (now (dst .entry))) (now (dst .entry)) ⌝ }
+    ensures { λ _. ⌜ now (dst .exit) ≡ inOrder (cellAt (pos 0) (ruleI32 R.Replace) (now (src .entry)) (oneAt (now (starts .entry)) limit) pos) (length (now (dst .entry))) (now (dst .entry)) ⌝ }
 {
     let n = dst.len();
     let mut fours = n / 4;
@@ -174,7 +175,7 @@ pub fn take_row(
     d: i64,
 )
     requires { ⌜ (0 < n) × Clamped (now starts) t (pos 1) base (pos 1) d (pos 1) limit n (length (now src)) (length (now dst)) ⌝ }
-    ensures { λ _. ⌜ now (dst .exit) ≡ inOrder (cellAt (pos 0) (ruleI32 R.Copy) (now (src .entry)) (clampedAt (now (starts .entry)) (line t (pos 1)) base (pos 1) limit) (line d (pos 1))) n (now (dst .entry)) ⌝ }
+    ensures { λ _. ⌜ now (dst .exit) ≡ inOrder (cellAt (pos 0) (ruleI32 R.Replace) (now (src .entry)) (clampedAt (now (starts .entry)) (line t (pos 1)) base (pos 1) limit) (line d (pos 1))) n (now (dst .entry)) ⌝ }
 {
     let l = limit as i64;
     let a = t as usize;
@@ -201,7 +202,7 @@ pub fn take_run(
     ds: i64,
 )
     requires { ⌜ Clamped (now starts) t ts base stride d ds limit n (length (now src)) (length (now dst)) ⌝ }
-    ensures { λ _. ⌜ now (dst .exit) ≡ inOrder (cellAt (pos 0) (ruleI32 R.Copy) (now (src .entry)) (clampedAt (now (starts .entry)) (line t ts) base stride limit) (line d ds)) n (now (dst .entry)) ⌝ }
+    ensures { λ _. ⌜ now (dst .exit) ≡ inOrder (cellAt (pos 0) (ruleI32 R.Replace) (now (src .entry)) (clampedAt (now (starts .entry)) (line t ts) base stride limit) (line d ds)) n (now (dst .entry)) ⌝ }
 {
     if n == 0 {
         return;
@@ -244,7 +245,7 @@ pub fn put_cells(
         let m = started(starts, d, q, count, offsets, strides, limits);
         let b = m as usize;
         let a = (s + ss * k) as usize;
-        let v = runs::apply(rule, dst[b], src[a]);
+        let v = rules::apply(rule, dst[b], src[a]);
         dst[b] = v;
         i += 1;
     }
@@ -277,7 +278,7 @@ pub fn put_strided(
         let c = y as i64;
         let b = (base + stride * c) as usize;
         let a = (s + ss * k) as usize;
-        let v = runs::apply(rule, dst[b], src[a]);
+        let v = rules::apply(rule, dst[b], src[a]);
         dst[b] = v;
         i += 1;
     }
@@ -291,7 +292,7 @@ fn put_one(rule: Rule, src: &[i32], starts: &[i64], dst: &mut [i32], limit: i64,
     let x = starts[i];
     let y = clamped(x, limit);
     let b = y as usize;
-    let v = runs::apply(rule, dst[b], src[i]);
+    let v = rules::apply(rule, dst[b], src[i]);
     dst[b] = v;
 }
 
@@ -327,19 +328,23 @@ fn put_fours(rule: Rule, src: &[i32], starts: &[i64], dst: &mut [i32], limit: i6
     }
 }
 
-// The same. The compiler does not move the question for the rule out of a loop of four cells to a turn, so only one rule goes by
-// it, and the compiler knows which; the others go one to a turn.
+// The same, by a loop of each rule's own: the compiler does not move the question for the rule out of a loop of four cells to a turn.
 pub fn put_ones(rule: Rule, src: &[i32], starts: &[i64], dst: &mut [i32], limit: i64)
     requires { ⌜ Ones (now starts) limit (length (now src)) (length (now dst)) ⌝ }
     ensures { λ _. ⌜ now (dst .exit) ≡ inOrder (cellAt (pos 0) (ruleI32 rule) (now (src .entry)) pos (oneAt (now (starts .entry)) limit)) (length (now (src .entry))) (now (dst .entry)) ⌝ }
 {
     match rule {
-        Rule::Copy => {
-            let n = src.len();
-            put_few(rule, src, starts, dst, limit, n);
-        }
         Rule::Add => {
             put_fours(Rule::Add, src, starts, dst, limit);
+        }
+        Rule::Lowest => {
+            put_fours(Rule::Lowest, src, starts, dst, limit);
+        }
+        Rule::Highest => {
+            put_fours(Rule::Highest, src, starts, dst, limit);
+        }
+        Rule::Replace => {
+            put_fours(Rule::Replace, src, starts, dst, limit);
         }
     }
 }

@@ -6,11 +6,12 @@ ghost use lib.Ieee.{nan};
 ghost use lib.IntN.{pos};
 ghost use lib.ListN.{length};
 ghost use Rattle.indexing.specs.Loops.{inOrder};
-ghost use Rattle.runs.specs.Runs.{ruleF64, cellAt, line};
-ghost use Rattle.runs.specs.declared.Rule.the-variants as R;
+ghost use Rattle.rules.specs.Rules.{ruleF64};
+ghost use Rattle.runs.specs.Runs.{cellAt, line};
+ghost use Rattle.rules.specs.declared.RuleF64.the-variants as R;
 ghost use Rattle.indexed_runs.specs.IndexedRuns.{movedAt, Taking, Putting, clampedAt, Clamped, oneAt, Ones};
 use layout::RAW_FUSED_RANK_LIMIT;
-use runs::Rule;
+use rules::RuleF64;
 
 // n cells: the source's place from s by ss, moved by the start read at t by ts; the destination's from d by ds.
 pub fn take_cells(
@@ -30,7 +31,7 @@ pub fn take_cells(
     limits: &[u64; RAW_FUSED_RANK_LIMIT],
 )
     requires { ⌜ Taking (now starts) (now offsets) (now strides) (now limits) count s t d ss ts ds n (length (now src)) (length (now dst)) ⌝ }
-    ensures { λ _. ⌜ now (dst .exit) ≡ inOrder (cellAt nan (ruleF64 R.Copy) (now (src .entry)) (movedAt (now (starts .entry)) (now (offsets .entry)) (now (strides .entry)) (now (limits .entry)) count (line s ss) (line t ts)) (line d ds)) n (now (dst .entry)) ⌝ }
+    ensures { λ _. ⌜ now (dst .exit) ≡ inOrder (cellAt nan (ruleF64 R.Replace) (now (src .entry)) (movedAt (now (starts .entry)) (now (offsets .entry)) (now (strides .entry)) (now (limits .entry)) count (line s ss) (line t ts)) (line d ds)) n (now (dst .entry)) ⌝ }
 {
     let mut i: usize = 0;
     while i < n {
@@ -60,7 +61,7 @@ pub fn take_strided(
     ds: i64,
 )
     requires { ⌜ Clamped (now starts) t ts base stride d ds limit n (length (now src)) (length (now dst)) ⌝ }
-    ensures { λ _. ⌜ now (dst .exit) ≡ inOrder (cellAt nan (ruleF64 R.Copy) (now (src .entry)) (clampedAt (now (starts .entry)) (line t ts) base stride limit) (line d ds)) n (now (dst .entry)) ⌝ }
+    ensures { λ _. ⌜ now (dst .exit) ≡ inOrder (cellAt nan (ruleF64 R.Replace) (now (src .entry)) (clampedAt (now (starts .entry)) (line t ts) base stride limit) (line d ds)) n (now (dst .entry)) ⌝ }
 {
     let mut i: usize = 0;
     while i < n {
@@ -79,7 +80,7 @@ pub fn take_strided(
 // Cell i: of the source where start i says, clamped; of the destination in order.
 fn take_one(src: &[f64], starts: &[i64], dst: &mut [f64], limit: i64, i: usize)
     requires { ⌜ (i < length (now dst)) × Ones (now starts) limit (length (now dst)) (length (now src)) ⌝ }
-    ensures { λ _. ⌜ now (dst .exit) ≡ cellAt nan (ruleF64 R.Copy) (now (src .entry)) (oneAt (now (starts .entry)) limit) pos i (now (dst .entry)) ⌝ }
+    ensures { λ _. ⌜ now (dst .exit) ≡ cellAt nan (ruleF64 R.Replace) (now (src .entry)) (oneAt (now (starts .entry)) limit) pos i (now (dst .entry)) ⌝ }
 {
     let x = starts[i];
     let y = indexed_runs::clamped(x, limit);
@@ -90,7 +91,7 @@ fn take_one(src: &[f64], starts: &[i64], dst: &mut [f64], limit: i64, i: usize)
 // The first n cells.
 fn take_few(src: &[f64], starts: &[i64], dst: &mut [f64], limit: i64, n: usize)
     requires { ⌜ (n ≤ length (now dst)) × Ones (now starts) limit (length (now dst)) (length (now src)) ⌝ }
-    ensures { λ _. ⌜ now (dst .exit) ≡ inOrder (cellAt nan (ruleF64 R.Copy) (now (src .entry)) (oneAt (now (starts .entry)) limit) pos) n (now (dst .entry)) ⌝ }
+    ensures { λ _. ⌜ now (dst .exit) ≡ inOrder (cellAt nan (ruleF64 R.Replace) (now (src .entry)) (oneAt (now (starts .entry)) limit) pos) n (now (dst .entry)) ⌝ }
 {
     let mut i: usize = 0;
     while i < n {
@@ -103,7 +104,7 @@ fn take_few(src: &[f64], starts: &[i64], dst: &mut [f64], limit: i64, n: usize)
 // that are over.
 pub fn take_ones(src: &[f64], starts: &[i64], dst: &mut [f64], limit: i64)
     requires { ⌜ Ones (now starts) limit (length (now dst)) (length (now src)) ⌝ }
-    ensures { λ _. ⌜ now (dst .exit) ≡ inOrder (cellAt nan (ruleF64 R.Copy) (now (src .entry)) (oneAt (now (starts .entry)) limit) pos) (length (now (dst .entry))) (now (dst .entry)) ⌝ }
+    ensures { λ _. ⌜ now (dst .exit) ≡ inOrder (cellAt nan (ruleF64 R.Replace) (now (src .entry)) (oneAt (now (starts .entry)) limit) pos) (length (now (dst .entry))) (now (dst .entry)) ⌝ }
 {
     let n = dst.len();
     let mut fours = n / 4;
@@ -131,7 +132,7 @@ pub fn take_row(
     d: i64,
 )
     requires { ⌜ (0 < n) × Clamped (now starts) t (pos 1) base (pos 1) d (pos 1) limit n (length (now src)) (length (now dst)) ⌝ }
-    ensures { λ _. ⌜ now (dst .exit) ≡ inOrder (cellAt nan (ruleF64 R.Copy) (now (src .entry)) (clampedAt (now (starts .entry)) (line t (pos 1)) base (pos 1) limit) (line d (pos 1))) n (now (dst .entry)) ⌝ }
+    ensures { λ _. ⌜ now (dst .exit) ≡ inOrder (cellAt nan (ruleF64 R.Replace) (now (src .entry)) (clampedAt (now (starts .entry)) (line t (pos 1)) base (pos 1) limit) (line d (pos 1))) n (now (dst .entry)) ⌝ }
 {
     let l = limit as i64;
     let a = t as usize;
@@ -158,7 +159,7 @@ pub fn take_run(
     ds: i64,
 )
     requires { ⌜ Clamped (now starts) t ts base stride d ds limit n (length (now src)) (length (now dst)) ⌝ }
-    ensures { λ _. ⌜ now (dst .exit) ≡ inOrder (cellAt nan (ruleF64 R.Copy) (now (src .entry)) (clampedAt (now (starts .entry)) (line t ts) base stride limit) (line d ds)) n (now (dst .entry)) ⌝ }
+    ensures { λ _. ⌜ now (dst .exit) ≡ inOrder (cellAt nan (ruleF64 R.Replace) (now (src .entry)) (clampedAt (now (starts .entry)) (line t ts) base stride limit) (line d ds)) n (now (dst .entry)) ⌝ }
 {
     if n == 0 {
         return;
@@ -176,7 +177,7 @@ pub fn take_run(
 
 // n cells by the rule: the source's place from s by ss; the destination's is d, moved by the start read at t by ts.
 pub fn put_cells(
-    rule: Rule,
+    rule: RuleF64,
     src: &[f64],
     starts: &[i64],
     dst: &mut [f64],
@@ -201,7 +202,7 @@ pub fn put_cells(
         let m = indexed_runs::started(starts, d, q, count, offsets, strides, limits);
         let b = m as usize;
         let a = (s + ss * k) as usize;
-        let v = runs_f64::apply(rule, dst[b], src[a]);
+        let v = rules::apply_f64(rule, dst[b], src[a]);
         dst[b] = v;
         i += 1;
     }
@@ -209,7 +210,7 @@ pub fn put_cells(
 
 // n cells by the rule: the source's place from s by ss; the destination's by the start read at t by ts, clamped, times the stride.
 pub fn put_strided(
-    rule: Rule,
+    rule: RuleF64,
     src: &[f64],
     starts: &[i64],
     dst: &mut [f64],
@@ -234,26 +235,26 @@ pub fn put_strided(
         let c = y as i64;
         let b = (base + stride * c) as usize;
         let a = (s + ss * k) as usize;
-        let v = runs_f64::apply(rule, dst[b], src[a]);
+        let v = rules::apply_f64(rule, dst[b], src[a]);
         dst[b] = v;
         i += 1;
     }
 }
 
 // Cell i by the rule: of the source in order; of the destination where start i says, clamped.
-fn put_one(rule: Rule, src: &[f64], starts: &[i64], dst: &mut [f64], limit: i64, i: usize)
+fn put_one(rule: RuleF64, src: &[f64], starts: &[i64], dst: &mut [f64], limit: i64, i: usize)
     requires { ⌜ (i < length (now src)) × Ones (now starts) limit (length (now src)) (length (now dst)) ⌝ }
     ensures { λ _. ⌜ now (dst .exit) ≡ cellAt nan (ruleF64 rule) (now (src .entry)) pos (oneAt (now (starts .entry)) limit) i (now (dst .entry)) ⌝ }
 {
     let x = starts[i];
     let y = indexed_runs::clamped(x, limit);
     let b = y as usize;
-    let v = runs_f64::apply(rule, dst[b], src[i]);
+    let v = rules::apply_f64(rule, dst[b], src[i]);
     dst[b] = v;
 }
 
 // The first n cells.
-fn put_few(rule: Rule, src: &[f64], starts: &[i64], dst: &mut [f64], limit: i64, n: usize)
+fn put_few(rule: RuleF64, src: &[f64], starts: &[i64], dst: &mut [f64], limit: i64, n: usize)
     requires { ⌜ (n ≤ length (now src)) × Ones (now starts) limit (length (now src)) (length (now dst)) ⌝ }
     ensures { λ _. ⌜ now (dst .exit) ≡ inOrder (cellAt nan (ruleF64 rule) (now (src .entry)) pos (oneAt (now (starts .entry)) limit)) n (now (dst .entry)) ⌝ }
 {
@@ -266,7 +267,7 @@ fn put_few(rule: Rule, src: &[f64], starts: &[i64], dst: &mut [f64], limit: i64,
 
 // A cell for each start, by the rule: of the source in order; of the destination where the start says, clamped. Four to a turn,
 // behind those that are over.
-fn put_fours(rule: Rule, src: &[f64], starts: &[i64], dst: &mut [f64], limit: i64)
+fn put_fours(rule: RuleF64, src: &[f64], starts: &[i64], dst: &mut [f64], limit: i64)
     requires { ⌜ Ones (now starts) limit (length (now src)) (length (now dst)) ⌝ }
     ensures { λ _. ⌜ now (dst .exit) ≡ inOrder (cellAt nan (ruleF64 rule) (now (src .entry)) pos (oneAt (now (starts .entry)) limit)) (length (now (src .entry))) (now (dst .entry)) ⌝ }
 {
@@ -284,26 +285,33 @@ fn put_fours(rule: Rule, src: &[f64], starts: &[i64], dst: &mut [f64], limit: i6
     }
 }
 
-// The same. The compiler does not move the question for the rule out of a loop of four cells to a turn, so only one rule goes by
-// it, and the compiler knows which; the others go one to a turn.
-pub fn put_ones(rule: Rule, src: &[f64], starts: &[i64], dst: &mut [f64], limit: i64)
+// The same, by a loop of each rule's own: the compiler does not move the question for the rule out of a loop of four cells to a turn.
+pub fn put_ones(rule: RuleF64, src: &[f64], starts: &[i64], dst: &mut [f64], limit: i64)
     requires { ⌜ Ones (now starts) limit (length (now src)) (length (now dst)) ⌝ }
     ensures { λ _. ⌜ now (dst .exit) ≡ inOrder (cellAt nan (ruleF64 rule) (now (src .entry)) pos (oneAt (now (starts .entry)) limit)) (length (now (src .entry))) (now (dst .entry)) ⌝ }
 {
     match rule {
-        Rule::Copy => {
-            let n = src.len();
-            put_few(rule, src, starts, dst, limit, n);
+        RuleF64::Add => {
+            put_fours(RuleF64::Add, src, starts, dst, limit);
         }
-        Rule::Add => {
-            put_fours(Rule::Add, src, starts, dst, limit);
+        RuleF64::Lowest => {
+            put_fours(RuleF64::Lowest, src, starts, dst, limit);
+        }
+        RuleF64::Highest => {
+            put_fours(RuleF64::Highest, src, starts, dst, limit);
+        }
+        RuleF64::Ceiling(ceiling) => {
+            put_fours(RuleF64::Ceiling(ceiling), src, starts, dst, limit);
+        }
+        RuleF64::Replace => {
+            put_fours(RuleF64::Replace, src, starts, dst, limit);
         }
     }
 }
 
 // n cells by the rule, whose every step is 1: on the parts of the source and the starts that they are, and the destination from the base on.
 pub fn put_row(
-    rule: Rule,
+    rule: RuleF64,
     src: &[f64],
     starts: &[i64],
     dst: &mut [f64],
@@ -328,7 +336,7 @@ pub fn put_row(
 
 // n cells by the rule: by put_row where every step is 1, else by put_strided.
 pub fn put_run(
-    rule: Rule,
+    rule: RuleF64,
     src: &[f64],
     starts: &[i64],
     dst: &mut [f64],

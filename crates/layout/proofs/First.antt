@@ -2,7 +2,7 @@
 use mathlib.Core.Path.{_≡_, refl, sym, _∙_}
 use mathlib.Core.Bool.{Bool, true, false}
 use Rattle.layout.specs.declared.Answer.{Answer}
-use Rattle.layout.specs.declared.Answer.the-variants.{Done, StrideLengthMismatch, RankTooLarge, OffsetOverflow, NonInjectiveOutputLayout, RankMismatch, InvalidAxis, ShapeMismatch, PlanLayoutMismatch, BufferBounds, JobBytes}
+use Rattle.layout.specs.declared.Answer.the-variants.{Done, StrideLengthMismatch, RankTooLarge, OffsetOverflow, NonInjectiveOutputLayout, RankMismatch, InvalidAxis, ShapeMismatch, PlanLayoutMismatch, BufferBounds, JobBytes, UnlistedRule}
 use Rattle.layout.specs.declared.Layout.{Layout}
 use Rattle.layout.specs.Answers.{isDone, orElse}
 use Rattle.layout.specs.Layouts.{refusedLayout, madeBy}
@@ -19,6 +19,7 @@ done-is (ShapeMismatch a b) e = cc
 done-is PlanLayoutMismatch e = cc
 done-is (BufferBounds a b) e = cc
 done-is (JobBytes a) e = cc
+done-is (UnlistedRule a) e = cc
 
 -- r is what the check x answered, and b the flag that was asked of it
 pub stops : {r x : Answer} {b : Bool} (y : Answer) → r ≡ x → b ≡ isDone r → b ≡ false → r ≡ orElse x y

@@ -1,8 +1,9 @@
--- To be believed. Document 01, "The number handed back": the number, a and b of each answer. Definitions only.
+-- To be believed. Document 01, "The number handed back": the number, a and b of each answer. 18 is ours, for a rule that an exported call names by an
+-- unlisted number; 11 to 17 are document 02's. Definitions only.
 use mathlib.Core.Bool.{Bool, true, false, cond}
 use Prim.Native.Nat.{ℕ}
 use Rattle.layout.specs.declared.Answer.{Answer}
-use Rattle.layout.specs.declared.Answer.the-variants.{Done, StrideLengthMismatch, RankTooLarge, OffsetOverflow, NonInjectiveOutputLayout, RankMismatch, InvalidAxis, ShapeMismatch, PlanLayoutMismatch, BufferBounds, JobBytes}
+use Rattle.layout.specs.declared.Answer.the-variants.{Done, StrideLengthMismatch, RankTooLarge, OffsetOverflow, NonInjectiveOutputLayout, RankMismatch, InvalidAxis, ShapeMismatch, PlanLayoutMismatch, BufferBounds, JobBytes, UnlistedRule}
 
 -- "Returned": 0 means done
 abbrev pub numberOf : Answer → ℕ
@@ -17,6 +18,7 @@ numberOf (ShapeMismatch a b) = 7
 numberOf PlanLayoutMismatch = 8
 numberOf (BufferBounds a b) = 9
 numberOf (JobBytes a) = 10
+numberOf (UnlistedRule a) = 18
 
 -- "a and b (0 if unnamed)"
 abbrev pub aOf : Answer → ℕ
@@ -31,6 +33,7 @@ aOf (ShapeMismatch a b) = a
 aOf PlanLayoutMismatch = 0
 aOf (BufferBounds a b) = a
 aOf (JobBytes a) = a
+aOf (UnlistedRule a) = a
 
 abbrev pub bOf : Answer → ℕ
 bOf Done = 0
@@ -44,6 +47,7 @@ bOf (ShapeMismatch a b) = b
 bOf PlanLayoutMismatch = 0
 bOf (BufferBounds a b) = b
 bOf (JobBytes a) = 0
+bOf (UnlistedRule a) = 0
 
 abbrev pub isDone : Answer → Bool
 isDone Done = true
@@ -57,6 +61,7 @@ isDone (ShapeMismatch a b) = false
 isDone PlanLayoutMismatch = false
 isDone (BufferBounds a b) = false
 isDone (JobBytes a) = false
+isDone (UnlistedRule a) = false
 
 -- "first hit counts": the first answer that is not done
 abbrev pub orElse : Answer → Answer → Answer

@@ -22,7 +22,7 @@ use integer::CheckedU;
 // The most axes that a layout can have.
 pub const RAW_FUSED_RANK_LIMIT: usize = 8;
 
-// What a call hands back: that it is done, or one of the ten refusals.
+// What a call hands back: that it is done, or one of the refusals.
 pub enum Answer {
     Done,
     StrideLengthMismatch,
@@ -35,6 +35,7 @@ pub enum Answer {
     PlanLayoutMismatch,
     BufferBounds(u64, u64),
     JobBytes(u64),
+    UnlistedRule(u64),
 }
 
 // The number that is handed back.
@@ -53,6 +54,7 @@ pub fn number(answer: Answer) -> u64
         Answer::PlanLayoutMismatch => 8,
         Answer::BufferBounds(_, _) => 9,
         Answer::JobBytes(_) => 10,
+        Answer::UnlistedRule(_) => 18,
     }
 }
 
@@ -72,6 +74,7 @@ pub fn first_number(answer: Answer) -> u64
         Answer::PlanLayoutMismatch => 0,
         Answer::BufferBounds(a, _) => a,
         Answer::JobBytes(a) => a,
+        Answer::UnlistedRule(a) => a,
     }
 }
 
@@ -91,6 +94,7 @@ pub fn second_number(answer: Answer) -> u64
         Answer::PlanLayoutMismatch => 0,
         Answer::BufferBounds(_, b) => b,
         Answer::JobBytes(_) => 0,
+        Answer::UnlistedRule(_) => 0,
     }
 }
 
@@ -109,6 +113,7 @@ pub fn is_done(answer: Answer) -> bool
         Answer::PlanLayoutMismatch => false,
         Answer::BufferBounds(_, _) => false,
         Answer::JobBytes(_) => false,
+        Answer::UnlistedRule(_) => false,
     }
 }
 

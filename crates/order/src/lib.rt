@@ -1,8 +1,8 @@
-// Two scatters on one grid, and a gather beside a scatter: the runs of demand 3. What they leave is stated of the whole lent slice, for
+// Two scatters on one grid, each by a rule of its own, and a gather beside a scatter: the runs of demand 3. What they leave is stated of the whole lent slice, for
 // every plan, view and slice.
 ghost use mathlib.Core.Path.{_≡_};
 ghost use lib.IntN.{pos};
-ghost use Rattle.indexing.specs.Scatter.{addI32};
+ghost use Rattle.rules.specs.Rules.{ruleI32};
 ghost use Rattle.calls.specs.Calls.{asIs, Scatters};
 ghost use Rattle.gather.specs.Calls as gathers;
 ghost use Rattle.scatter.specs.Calls.{byPlan};
@@ -11,10 +11,12 @@ use gather_plan::GatherPlan;
 use layout::Answer;
 use layout::RAW_FUSED_RANK_LIMIT;
 use layout::View;
+use rules::Rule;
 use scatter_plan::ScatterPlan;
 
 // What a scatter goes by, besides the rows of the plan's walks and the lent slices.
 pub struct PlannedScatter {
+    pub rule: Rule,
     pub plan: ScatterPlan,
     pub index: View,
     pub updates: View,
@@ -45,13 +47,14 @@ pub fn scatter_by(
     updates: &[i32],
     grid: &mut [i32],
 ) -> Answer
-    ensures { λ r. ⌜ Scatters (pos 0) addI32 asIs (byPlan (work .plan) batch window (work .index) (work .updates) (work .dest) (now (starts .entry)) (now (updates .entry))) (now (grid .entry)) (now (grid .exit)) r ⌝ }
+    ensures { λ r. ⌜ Scatters (pos 0) (ruleI32 (work .rule)) asIs (byPlan (work .plan) batch window (work .index) (work .updates) (work .dest) (now (starts .entry)) (now (updates .entry))) (now (grid .entry)) (now (grid .exit)) r ⌝ }
 {
+    let rule = work.rule;
     let plan = work.plan;
     let a = work.index;
     let b = work.updates;
     let c = work.dest;
-    scatter::scatter_i32(plan, batch, window, a, b, c, starts, updates, grid)
+    scatter::scatter_i32(rule, plan, batch, window, a, b, c, starts, updates, grid)
 }
 
 // North and then South on the grid `one`; South and then North on the grid `other`.
@@ -69,7 +72,7 @@ pub fn either_order(
     one: &mut [i32],
     other: &mut [i32],
 ) -> Orders
-    ensures { λ r. ⌜ EitherOrder asIs (byPlan (north .plan) «batch_n» «window_n» (north .index) (north .updates) (north .dest) (now («starts_n» .entry)) (now («updates_n» .entry))) (byPlan (south .plan) «batch_s» «window_s» (south .index) (south .updates) (south .dest) (now («starts_s» .entry)) (now («updates_s» .entry))) (now (one .entry)) (now (other .entry)) (now (one .exit)) (now (other .exit)) (r .«north_first») (r .«south_second») (r .«south_first») (r .«north_second») ⌝ }
+    ensures { λ r. ⌜ EitherOrder asIs (north .rule) (south .rule) (byPlan (north .plan) «batch_n» «window_n» (north .index) (north .updates) (north .dest) (now («starts_n» .entry)) (now («updates_n» .entry))) (byPlan (south .plan) «batch_s» «window_s» (south .index) (south .updates) (south .dest) (now («starts_s» .entry)) (now («updates_s» .entry))) (now (one .entry)) (now (other .entry)) (now (one .exit)) (now (other .exit)) (r .«north_first») (r .«south_second») (r .«south_first») (r .«north_second») ⌝ }
 {
     let north_first = scatter_by(north, batch_n, window_n, starts_n, updates_n, one);
     let south_second = scatter_by(south, batch_s, window_s, starts_s, updates_s, one);
@@ -99,7 +102,7 @@ pub fn gather_beside(
     one: &mut [i32],
     other: &mut [i32],
 ) -> Around
-    ensures { λ r. ⌜ GatherBeside asIs (gathers.byPlan plan operand index dest (now (starts .entry))) (byPlan (south .plan) «batch_s» «window_s» (south .index) (south .updates) (south .dest) (now («starts_s» .entry)) (now («updates_s» .entry))) (now (grid .entry)) (now (grid .exit)) (now (one .entry)) (now (other .entry)) (now (one .exit)) (now (other .exit)) (r .before) (r .south) (r .after) ⌝ }
+    ensures { λ r. ⌜ GatherBeside asIs (south .rule) (gathers.byPlan plan operand index dest (now (starts .entry))) (byPlan (south .plan) «batch_s» «window_s» (south .index) (south .updates) (south .dest) (now («starts_s» .entry)) (now («updates_s» .entry))) (now (grid .entry)) (now (grid .exit)) (now (one .entry)) (now (other .entry)) (now (one .exit)) (now (other .exit)) (r .before) (r .south) (r .after) ⌝ }
 {
     let before = gather::gather_i32(plan, operand, index, dest, grid, starts, one);
     let scattered = scatter_by(south, batch_s, window_s, starts_s, updates_s, grid);

@@ -1,5 +1,4 @@
 pub mod Turns
 pub mod Place
-pub mod Rules
 pub mod Runs
 pub mod Blocks

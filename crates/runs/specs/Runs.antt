@@ -2,21 +2,8 @@
 use mathlib.Core.List.{List}
 use Prim.Native.Nat.{ℕ, _<_, _≤_, _^_}
 use lib.IntN.{ℤ, pos, _+ℤ_, _*ℤ_}
-use lib.Ieee.{Float}
 use Rattle.indexing.specs.Coordinates.{InSlice, elementAt, store}
-use Rattle.indexing.specs.Scatter.{addI32, addF64}
 use Rattle.indexing.specs.Loops.{inOrder}
-use Rattle.runs.specs.declared.Rule.{Rule}
-use Rattle.runs.specs.declared.Rule.the-variants as R
-
--- what a rule makes of the element x of a cell and the source's element u
-abbrev pub ruleI32 : Rule → ℤ → ℤ → ℤ
-ruleI32 R.Copy x u = u
-ruleI32 R.Add x u = addI32 x u
-
-abbrev pub ruleF64 : Rule → Float → Float → Float
-ruleF64 R.Copy x u = u
-ruleF64 R.Add x u = addF64 x u
 
 -- the turn of cell k: what the rule makes of the destination's element at `g k` and the source's at `f k` is stored at `g k`
 abbrev pub cellAt : {A : Type 0} → A → (A → A → A) → List A → (ℕ → ℤ) → (ℕ → ℤ) → ℕ → List A → List A

@@ -4,29 +4,16 @@ ghost use Prim.Native.Nat.{_<_, _≤_};
 ghost use lib.IntN.{pos};
 ghost use lib.ListN.{length};
 ghost use Rattle.indexing.specs.Loops.{inOrder};
-ghost use Rattle.runs.specs.Runs.{ruleI32, cellAt, line, Run, Plane, runAt, blockCells};
-ghost use Rattle.runs.specs.declared.Rule.the-variants as R;
+ghost use Rattle.rules.specs.Rules.{ruleI32};
+ghost use Rattle.runs.specs.Runs.{cellAt, line, Run, Plane, runAt, blockCells};
+ghost use Rattle.rules.specs.declared.Rule.the-variants as R;
+use rules::Rule;
 
 // The most cells that are copied at a time.
 pub const BLOCK: usize = 4096;
 
 // A copy of fewer cells goes element by element.
 pub const FEW: usize = 8;
-
-// What is done at a cell: the source's element replaces what is there, or is added to it.
-pub enum Rule {
-    Copy,
-    Add,
-}
-
-pub fn apply(rule: Rule, x: i32, u: i32) -> i32
-    ensures { λ r. ⌜ r ≡ ruleI32 rule x u ⌝ }
-{
-    match rule {
-        Rule::Copy => u,
-        Rule::Add => integer::wrapping_add_i32(x, u),
-    }
-}
 
 // Two slices of one length, element by element.
 fn each(rule: Rule, src: &[i32], dst: &mut [i32])
@@ -35,7 +22,7 @@ fn each(rule: Rule, src: &[i32], dst: &mut [i32])
 {
     let mut at: usize = 0;
     while at < dst.len() {
-        let v = apply(rule, dst[at], src[at]);
+        let v = rules::apply(rule, dst[at], src[at]);
         dst[at] = v;
         at += 1;
     }
@@ -44,18 +31,18 @@ fn each(rule: Rule, src: &[i32], dst: &mut [i32])
 // A copy of at most BLOCK cells, by way of an array: the compiler makes one move of memory of it.
 fn block(src: &[i32], dst: &mut [i32])
     requires { ⌜ (length (now src) ≡ length (now dst)) × (length (now dst) ≤ blockCells) ⌝ }
-    ensures { λ _. ⌜ now (dst .exit) ≡ inOrder (cellAt (pos 0) (ruleI32 R.Copy) (now (src .entry)) pos pos) (length (now (dst .entry))) (now (dst .entry)) ⌝ }
+    ensures { λ _. ⌜ now (dst .exit) ≡ inOrder (cellAt (pos 0) (ruleI32 R.Replace) (now (src .entry)) pos pos) (length (now (dst .entry))) (now (dst .entry)) ⌝ }
 {
     let n = dst.len();
     let mut held = [0i32; BLOCK];
-    each(Rule::Copy, src, &mut held[0..n]);
-    each(Rule::Copy, &held[0..n], dst);
+    each(Rule::Replace, src, &mut held[0..n]);
+    each(Rule::Replace, &held[0..n], dst);
 }
 
 // A copy, a block at a time.
 fn copies(src: &[i32], dst: &mut [i32])
     requires { ⌜ length (now src) ≡ length (now dst) ⌝ }
-    ensures { λ _. ⌜ now (dst .exit) ≡ inOrder (cellAt (pos 0) (ruleI32 R.Copy) (now (src .entry)) pos pos) (length (now (dst .entry))) (now (dst .entry)) ⌝ }
+    ensures { λ _. ⌜ now (dst .exit) ≡ inOrder (cellAt (pos 0) (ruleI32 R.Replace) (now (src .entry)) pos pos) (length (now (dst .entry))) (now (dst .entry)) ⌝ }
 {
     let n = dst.len();
     let mut at: usize = 0;
@@ -67,21 +54,27 @@ fn copies(src: &[i32], dst: &mut [i32])
     block(&src[at..n], &mut dst[at..n]);
 }
 
-// Two slices of one length: a copy of more than a few cells by blocks, all else element by element.
+// Two slices of one length, by a loop of each rule's own: Replace of more than a few cells by blocks.
 pub fn ones(rule: Rule, src: &[i32], dst: &mut [i32])
     requires { ⌜ length (now src) ≡ length (now dst) ⌝ }
     ensures { λ _. ⌜ now (dst .exit) ≡ inOrder (cellAt (pos 0) (ruleI32 rule) (now (src .entry)) pos pos) (length (now (dst .entry))) (now (dst .entry)) ⌝ }
 {
     match rule {
-        Rule::Copy => {
+        Rule::Add => {
+            each(Rule::Add, src, dst);
+        }
+        Rule::Lowest => {
+            each(Rule::Lowest, src, dst);
+        }
+        Rule::Highest => {
+            each(Rule::Highest, src, dst);
+        }
+        Rule::Replace => {
             if dst.len() < FEW {
-                each(rule, src, dst);
+                each(Rule::Replace, src, dst);
             } else {
                 copies(src, dst);
             }
-        }
-        Rule::Add => {
-            each(rule, src, dst);
         }
     }
 }
@@ -108,7 +101,7 @@ pub fn strided(rule: Rule, src: &[i32], dst: &mut [i32], n: usize, s: i64, d: i6
         let k = i as i64;
         let a = (s + ss * k) as usize;
         let b = (d + ds * k) as usize;
-        let v = apply(rule, dst[b], src[a]);
+        let v = rules::apply(rule, dst[b], src[a]);
         dst[b] = v;
         i += 1;
     }

@@ -20,7 +20,6 @@ use Rattle.layout.specs.Laws.{some-cells}
 use Rattle.layout.specs.Layouts.{rankLimit}
 use Rattle.layout.specs.Nested.{hasZero}
 use Rattle.runs.specs.Runs.{cellAt, line, Run}
-use Rattle.runs.specs.declared.Rule.{Rule}
 use Rattle.runs.proofs.Place.{read}
 use Rattle.windows.specs.Windows.{windowed, Window, Units, Level}
 use Rattle.windows.proofs.Levels.{region-line}
@@ -133,12 +132,12 @@ module _ {A : Type 0} (test : Bool) (turn : ℕ → List A → List A) (times : 
   ran y k e f h = record { is = sym e; leaves = h ∙ ap (λ (m : ℕ). inOrder turn m x) f ∙ sym (ap (λ (t : Bool). cond t (inOrder turn times x) x) e) }
 
 -- the same turns by the parameters themselves
-module _ {A : Type 0} (z : A) (rule : Rule → A → A → A) (src : List A) (r t : Rule) (s d : ℤ) (e : r ≡ t) (fs : SFits w64 s) (fd : SFits w64 d) (i : ℕ) (x y : List A) where
+module _ {A R : Type 0} (z : A) (rule : R → A → A → A) (src : List A) (r t : R) (s d : ℤ) (e : r ≡ t) (fs : SFits w64 s) (fd : SFits w64 d) (i : ℕ) (x y : List A) where
   pub runs-by : (ss ds : ℤ) (n : ℕ) → SFits w64 ss → SFits w64 ds → y ≡ inOrder (λ _ x. inOrder (cellAt z (rule r) src (line (read s) (read ss)) (line (read d) (read ds))) n x) i x
       → y ≡ inOrder (λ _ x. inOrder (cellAt z (rule t) src (line s ss) (line d ds)) n x) i x
   runs-by ss ds n fss fds h =
       h
-      ∙ ap (λ (q : Rule). inOrder (λ _ x. inOrder (cellAt z (rule q) src (line (read s) (read ss)) (line (read d) (read ds))) n x) i x) e
+      ∙ ap (λ (q : R). inOrder (λ _ x. inOrder (cellAt z (rule q) src (line (read s) (read ss)) (line (read d) (read ds))) n x) i x) e
       ∙ ap₂ (λ (a b : ℤ). inOrder (λ _ x. inOrder (cellAt z (rule t) src (line a (read ss)) (line b (read ds))) n x) i x) (back fs) (back fd)
       ∙ ap₂ (λ (a b : ℤ). inOrder (λ _ x. inOrder (cellAt z (rule t) src (line s a) (line d b)) n x) i x) (back fss) (back fds)
 
@@ -146,7 +145,7 @@ module _ {A : Type 0} (z : A) (rule : Rule → A → A → A) (src : List A) (r 
       → y ≡ inOrder (λ _ x. windowed z (rule t) src s d shape ss ds rank x) i x
   windows-by shape ss ds rank h =
       h
-      ∙ ap (λ (q : Rule). inOrder (λ _ x. windowed z (rule q) src (read s) (read d) shape ss ds rank x) i x) e
+      ∙ ap (λ (q : R). inOrder (λ _ x. windowed z (rule q) src (read s) (read d) shape ss ds rank x) i x) e
       ∙ ap₂ (λ (a b : ℤ). inOrder (λ _ x. windowed z (rule t) src a b shape ss ds rank x) i x) (back fs) (back fd)
 
 -- the test of numbers read back

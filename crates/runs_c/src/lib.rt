@@ -7,13 +7,15 @@ ghost use lib.IntN.{pos};
 ghost use lib.ListN.{length, take, replicate};
 ghost use Rattle.indexing.specs.Loops.{inOrder};
 ghost use Rattle.layout.specs.Layouts.{rankLimit};
-ghost use Rattle.runs.specs.Runs.{ruleI32, ruleF64, cellAt, line};
+ghost use Rattle.rules.specs.Rules.{ruleI32, ruleF64};
+ghost use Rattle.runs.specs.Runs.{cellAt, line};
 ghost use Rattle.windows.specs.Windows.{windowed};
-ghost use Rattle.runs_c.specs.Bench.{allFew, covers, accepted, Tested, ruleOf, Ran};
+ghost use Rattle.runs_c.specs.Bench.{allFew, covers, accepted, Tested, addsI32, addsF64, Ran};
 use layout::Layout;
 use layout::RAW_FUSED_RANK_LIMIT;
 use layout::View;
-use runs::Rule;
+use rules::Rule;
+use rules::RuleF64;
 
 // Whether no extent is above 2^63.
 fn all_few(extents: [u64; RAW_FUSED_RANK_LIMIT], rank: usize) -> bool
@@ -82,10 +84,16 @@ fn accepts(
     inside(extents, ds, rank, d, dn)
 }
 
-fn rule_of(add: bool) -> Rule
-    ensures { λ r. ⌜ r ≡ ruleOf add ⌝ }
+fn rule_i32(add: bool) -> Rule
+    ensures { λ r. ⌜ r ≡ addsI32 add ⌝ }
 {
-    if add { Rule::Add } else { Rule::Copy }
+    if add { Rule::Add } else { Rule::Replace }
+}
+
+fn rule_f64(add: bool) -> RuleF64
+    ensures { λ r. ⌜ r ≡ addsF64 add ⌝ }
+{
+    if add { RuleF64::Add } else { RuleF64::Replace }
 }
 
 #[no_mangle]
@@ -100,7 +108,7 @@ pub extern "C" fn bench_run_i32(
     ds: i64,
     times: u64,
 ) -> bool
-    ensures { λ r. ⌜ Ran r (accepted 1 (replicate rankLimit n) (replicate rankLimit ss) (replicate rankLimit ds) s d (length (now (src .entry))) (length (now (dst .entry)))) (λ _ x. inOrder (cellAt (pos 0) (ruleI32 (ruleOf add)) (now (src .entry)) (line s ss) (line d ds)) n x) times (now (dst .entry)) (now (dst .exit)) ⌝ }
+    ensures { λ r. ⌜ Ran r (accepted 1 (replicate rankLimit n) (replicate rankLimit ss) (replicate rankLimit ds) s d (length (now (src .entry))) (length (now (dst .entry)))) (λ _ x. inOrder (cellAt (pos 0) (ruleI32 (addsI32 add)) (now (src .entry)) (line s ss) (line d ds)) n x) times (now (dst .entry)) (now (dst .exit)) ⌝ }
 {
     let extents = [n; RAW_FUSED_RANK_LIMIT];
     let source = [ss; RAW_FUSED_RANK_LIMIT];
@@ -108,7 +116,7 @@ pub extern "C" fn bench_run_i32(
     if !accepts(extents, source, dest, 1, s, d, src.len(), dst.len()) {
         return false;
     }
-    let rule = rule_of(add);
+    let rule = rule_i32(add);
     let mut i: u64 = 0;
     while i < times {
         runs::run(rule, src, dst, n as usize, s, d, ss, ds);
@@ -130,12 +138,12 @@ pub extern "C" fn bench_window_i32(
     d: i64,
     times: u64,
 ) -> bool
-    ensures { λ r. ⌜ Ran r (accepted rank (now (extents .entry)) (now (ss .entry)) (now (ds .entry)) s d (length (now (src .entry))) (length (now (dst .entry)))) (λ _ x. windowed (pos 0) (ruleI32 (ruleOf add)) (now (src .entry)) s d (now (extents .entry)) (now (ss .entry)) (now (ds .entry)) rank x) times (now (dst .entry)) (now (dst .exit)) ⌝ }
+    ensures { λ r. ⌜ Ran r (accepted rank (now (extents .entry)) (now (ss .entry)) (now (ds .entry)) s d (length (now (src .entry))) (length (now (dst .entry)))) (λ _ x. windowed (pos 0) (ruleI32 (addsI32 add)) (now (src .entry)) s d (now (extents .entry)) (now (ss .entry)) (now (ds .entry)) rank x) times (now (dst .entry)) (now (dst .exit)) ⌝ }
 {
     if !accepts(*extents, *ss, *ds, rank, s, d, src.len(), dst.len()) {
         return false;
     }
-    let rule = rule_of(add);
+    let rule = rule_i32(add);
     let mut i: u64 = 0;
     while i < times {
         let low = windows::run_axis(extents, rank);
@@ -157,7 +165,7 @@ pub extern "C" fn bench_run_f64(
     ds: i64,
     times: u64,
 ) -> bool
-    ensures { λ r. ⌜ Ran r (accepted 1 (replicate rankLimit n) (replicate rankLimit ss) (replicate rankLimit ds) s d (length (now (src .entry))) (length (now (dst .entry)))) (λ _ x. inOrder (cellAt nan (ruleF64 (ruleOf add)) (now (src .entry)) (line s ss) (line d ds)) n x) times (now (dst .entry)) (now (dst .exit)) ⌝ }
+    ensures { λ r. ⌜ Ran r (accepted 1 (replicate rankLimit n) (replicate rankLimit ss) (replicate rankLimit ds) s d (length (now (src .entry))) (length (now (dst .entry)))) (λ _ x. inOrder (cellAt nan (ruleF64 (addsF64 add)) (now (src .entry)) (line s ss) (line d ds)) n x) times (now (dst .entry)) (now (dst .exit)) ⌝ }
 {
     let extents = [n; RAW_FUSED_RANK_LIMIT];
     let source = [ss; RAW_FUSED_RANK_LIMIT];
@@ -165,7 +173,7 @@ pub extern "C" fn bench_run_f64(
     if !accepts(extents, source, dest, 1, s, d, src.len(), dst.len()) {
         return false;
     }
-    let rule = rule_of(add);
+    let rule = rule_f64(add);
     let mut i: u64 = 0;
     while i < times {
         runs_f64::run(rule, src, dst, n as usize, s, d, ss, ds);
@@ -187,12 +195,12 @@ pub extern "C" fn bench_window_f64(
     d: i64,
     times: u64,
 ) -> bool
-    ensures { λ r. ⌜ Ran r (accepted rank (now (extents .entry)) (now (ss .entry)) (now (ds .entry)) s d (length (now (src .entry))) (length (now (dst .entry)))) (λ _ x. windowed nan (ruleF64 (ruleOf add)) (now (src .entry)) s d (now (extents .entry)) (now (ss .entry)) (now (ds .entry)) rank x) times (now (dst .entry)) (now (dst .exit)) ⌝ }
+    ensures { λ r. ⌜ Ran r (accepted rank (now (extents .entry)) (now (ss .entry)) (now (ds .entry)) s d (length (now (src .entry))) (length (now (dst .entry)))) (λ _ x. windowed nan (ruleF64 (addsF64 add)) (now (src .entry)) s d (now (extents .entry)) (now (ss .entry)) (now (ds .entry)) rank x) times (now (dst .entry)) (now (dst .exit)) ⌝ }
 {
     if !accepts(*extents, *ss, *ds, rank, s, d, src.len(), dst.len()) {
         return false;
     }
-    let rule = rule_of(add);
+    let rule = rule_f64(add);
     let mut i: u64 = 0;
     while i < times {
         let low = windows::run_axis(extents, rank);

@@ -6,29 +6,21 @@ ghost use lib.Ieee.{nan};
 ghost use lib.IntN.{pos};
 ghost use lib.ListN.{length};
 ghost use Rattle.indexing.specs.Loops.{inOrder};
-ghost use Rattle.runs.specs.Runs.{ruleF64, cellAt, line, Run, Plane, runAt, blockCells};
-ghost use Rattle.runs.specs.declared.Rule.the-variants as R;
+ghost use Rattle.rules.specs.Rules.{ruleF64};
+ghost use Rattle.runs.specs.Runs.{cellAt, line, Run, Plane, runAt, blockCells};
+ghost use Rattle.rules.specs.declared.RuleF64.the-variants as R;
+use rules::RuleF64;
 use runs::BLOCK;
 use runs::FEW;
-use runs::Rule;
-
-pub fn apply(rule: Rule, x: f64, u: f64) -> f64
-    ensures { λ r. ⌜ r ≡ ruleF64 rule x u ⌝ }
-{
-    match rule {
-        Rule::Copy => u,
-        Rule::Add => x + u,
-    }
-}
 
 // Two slices of one length, element by element.
-fn each(rule: Rule, src: &[f64], dst: &mut [f64])
+fn each(rule: RuleF64, src: &[f64], dst: &mut [f64])
     requires { ⌜ length (now src) ≡ length (now dst) ⌝ }
     ensures { λ _. ⌜ now (dst .exit) ≡ inOrder (cellAt nan (ruleF64 rule) (now (src .entry)) pos pos) (length (now (dst .entry))) (now (dst .entry)) ⌝ }
 {
     let mut at: usize = 0;
     while at < dst.len() {
-        let v = apply(rule, dst[at], src[at]);
+        let v = rules::apply_f64(rule, dst[at], src[at]);
         dst[at] = v;
         at += 1;
     }
@@ -37,18 +29,18 @@ fn each(rule: Rule, src: &[f64], dst: &mut [f64])
 // A copy of at most BLOCK cells, by way of an array: the compiler makes one move of memory of it.
 fn block(src: &[f64], dst: &mut [f64])
     requires { ⌜ (length (now src) ≡ length (now dst)) × (length (now dst) ≤ blockCells) ⌝ }
-    ensures { λ _. ⌜ now (dst .exit) ≡ inOrder (cellAt nan (ruleF64 R.Copy) (now (src .entry)) pos pos) (length (now (dst .entry))) (now (dst .entry)) ⌝ }
+    ensures { λ _. ⌜ now (dst .exit) ≡ inOrder (cellAt nan (ruleF64 R.Replace) (now (src .entry)) pos pos) (length (now (dst .entry))) (now (dst .entry)) ⌝ }
 {
     let n = dst.len();
     let mut held = [0.0f64; BLOCK];
-    each(Rule::Copy, src, &mut held[0..n]);
-    each(Rule::Copy, &held[0..n], dst);
+    each(RuleF64::Replace, src, &mut held[0..n]);
+    each(RuleF64::Replace, &held[0..n], dst);
 }
 
 // A copy, a block at a time.
 fn copies(src: &[f64], dst: &mut [f64])
     requires { ⌜ length (now src) ≡ length (now dst) ⌝ }
-    ensures { λ _. ⌜ now (dst .exit) ≡ inOrder (cellAt nan (ruleF64 R.Copy) (now (src .entry)) pos pos) (length (now (dst .entry))) (now (dst .entry)) ⌝ }
+    ensures { λ _. ⌜ now (dst .exit) ≡ inOrder (cellAt nan (ruleF64 R.Replace) (now (src .entry)) pos pos) (length (now (dst .entry))) (now (dst .entry)) ⌝ }
 {
     let n = dst.len();
     let mut at: usize = 0;
@@ -60,27 +52,36 @@ fn copies(src: &[f64], dst: &mut [f64])
     block(&src[at..n], &mut dst[at..n]);
 }
 
-// Two slices of one length: a copy of more than a few cells by blocks, all else element by element.
-pub fn ones(rule: Rule, src: &[f64], dst: &mut [f64])
+// Two slices of one length, by a loop of each rule's own: Replace of more than a few cells by blocks.
+pub fn ones(rule: RuleF64, src: &[f64], dst: &mut [f64])
     requires { ⌜ length (now src) ≡ length (now dst) ⌝ }
     ensures { λ _. ⌜ now (dst .exit) ≡ inOrder (cellAt nan (ruleF64 rule) (now (src .entry)) pos pos) (length (now (dst .entry))) (now (dst .entry)) ⌝ }
 {
     match rule {
-        Rule::Copy => {
+        RuleF64::Add => {
+            each(RuleF64::Add, src, dst);
+        }
+        RuleF64::Lowest => {
+            each(RuleF64::Lowest, src, dst);
+        }
+        RuleF64::Highest => {
+            each(RuleF64::Highest, src, dst);
+        }
+        RuleF64::Ceiling(ceiling) => {
+            each(RuleF64::Ceiling(ceiling), src, dst);
+        }
+        RuleF64::Replace => {
             if dst.len() < FEW {
-                each(rule, src, dst);
+                each(RuleF64::Replace, src, dst);
             } else {
                 copies(src, dst);
             }
-        }
-        Rule::Add => {
-            each(rule, src, dst);
         }
     }
 }
 
 // n cells of stride 1 on both sides, from the places s and d: on the parts of the slices that they are.
-pub fn row(rule: Rule, src: &[f64], dst: &mut [f64], n: usize, s: i64, d: i64)
+pub fn row(rule: RuleF64, src: &[f64], dst: &mut [f64], n: usize, s: i64, d: i64)
     requires { ⌜ (0 < n) × Run s d (pos 1) (pos 1) n (length (now src)) (length (now dst)) ⌝ }
     ensures { λ _. ⌜ now (dst .exit) ≡ inOrder (cellAt nan (ruleF64 rule) (now (src .entry)) (line s (pos 1)) (line d (pos 1))) n (now (dst .entry)) ⌝ }
 {
@@ -92,7 +93,16 @@ pub fn row(rule: Rule, src: &[f64], dst: &mut [f64], n: usize, s: i64, d: i64)
 }
 
 // n cells, from the places s and d by the strides ss and ds.
-pub fn strided(rule: Rule, src: &[f64], dst: &mut [f64], n: usize, s: i64, d: i64, ss: i64, ds: i64)
+pub fn strided(
+    rule: RuleF64,
+    src: &[f64],
+    dst: &mut [f64],
+    n: usize,
+    s: i64,
+    d: i64,
+    ss: i64,
+    ds: i64,
+)
     requires { ⌜ Run s d ss ds n (length (now src)) (length (now dst)) ⌝ }
     ensures { λ _. ⌜ now (dst .exit) ≡ inOrder (cellAt nan (ruleF64 rule) (now (src .entry)) (line s ss) (line d ds)) n (now (dst .entry)) ⌝ }
 {
@@ -101,14 +111,14 @@ pub fn strided(rule: Rule, src: &[f64], dst: &mut [f64], n: usize, s: i64, d: i6
         let k = i as i64;
         let a = (s + ss * k) as usize;
         let b = (d + ds * k) as usize;
-        let v = apply(rule, dst[b], src[a]);
+        let v = rules::apply_f64(rule, dst[b], src[a]);
         dst[b] = v;
         i += 1;
     }
 }
 
 // The same, with a way of its own for strides of 1 on both sides.
-pub fn run(rule: Rule, src: &[f64], dst: &mut [f64], n: usize, s: i64, d: i64, ss: i64, ds: i64)
+pub fn run(rule: RuleF64, src: &[f64], dst: &mut [f64], n: usize, s: i64, d: i64, ss: i64, ds: i64)
     requires { ⌜ Run s d ss ds n (length (now src)) (length (now dst)) ⌝ }
     ensures { λ _. ⌜ now (dst .exit) ≡ inOrder (cellAt nan (ruleF64 rule) (now (src .entry)) (line s ss) (line d ds)) n (now (dst .entry)) ⌝ }
 {
@@ -126,7 +136,7 @@ pub fn run(rule: Rule, src: &[f64], dst: &mut [f64], n: usize, s: i64, d: i64, s
 
 // m rows of n cells each: those of row j from places moved by j times st and dt.
 pub fn rows(
-    rule: Rule,
+    rule: RuleF64,
     src: &[f64],
     dst: &mut [f64],
     n: usize,
@@ -149,7 +159,7 @@ pub fn rows(
 
 // m runs of n cells each, by strides.
 pub fn strided_rows(
-    rule: Rule,
+    rule: RuleF64,
     src: &[f64],
     dst: &mut [f64],
     n: usize,
@@ -174,7 +184,7 @@ pub fn strided_rows(
 
 // The same, with a way of its own for strides of 1 on both sides.
 pub fn plane(
-    rule: Rule,
+    rule: RuleF64,
     src: &[f64],
     dst: &mut [f64],
     n: usize,

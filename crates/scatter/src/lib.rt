@@ -5,7 +5,7 @@ ghost use mathlib.Core.Path.{_≡_};
 ghost use mathlib.Core.Bool.{true};
 ghost use lib.Ieee.{nan};
 ghost use lib.IntN.{pos};
-ghost use Rattle.indexing.specs.Scatter.{addI32, addF64};
+ghost use Rattle.rules.specs.Rules.{ruleI32, ruleF64};
 ghost use Rattle.calls.specs.Calls.{asIs, Scatters};
 ghost use Rattle.scatter_plan.specs.Plan.{heldScatter};
 ghost use Rattle.scatter_same.specs.Same.{isCompiled};
@@ -14,7 +14,8 @@ ghost use Rattle.scatter.specs.Calls.{scatterOf, planFits, callAnswer, b
 use layout::Answer;
 use layout::RAW_FUSED_RANK_LIMIT;
 use layout::View;
-use runs::Rule;
+use rules::Rule;
+use rules::RuleF64;
 use scatter_move::PreparedScatter;
 use scatter_move::ScatterNumbers;
 use scatter_plan::ScatterPlan;
@@ -130,8 +131,9 @@ fn prepare(
     }
 }
 
-// The scatter of a plan on these views: the updates are added.
+// The scatter of a plan on these views: the updates are put on the destination by the rule.
 pub fn scatter_i32(
+    rule: Rule,
     plan: ScatterPlan,
     batch_rows: [[i64; 4]; RAW_FUSED_RANK_LIMIT],
     window_rows: [[i64; 4]; RAW_FUSED_RANK_LIMIT],
@@ -142,7 +144,7 @@ pub fn scatter_i32(
     source: &[i32],
     into: &mut [i32],
 ) -> Answer
-    ensures { λ r. ⌜ Scatters (pos 0) addI32 asIs (byPlan plan «batch_rows» «window_rows» index updates dest (now (starts .entry)) (now (source .entry))) (now (into .entry)) (now (into .exit)) r ⌝ }
+    ensures { λ r. ⌜ Scatters (pos 0) (ruleI32 rule) asIs (byPlan plan «batch_rows» «window_rows» index updates dest (now (starts .entry)) (now (source .entry))) (now (into .entry)) (now (into .exit)) r ⌝ }
 {
     let p = prepare(
         plan,
@@ -155,11 +157,12 @@ pub fn scatter_i32(
         source.len(),
         into.len(),
     );
-    scatter_move::move_i32(Rule::Add, p, starts, source, into)
+    scatter_move::move_i32(rule, p, starts, source, into)
 }
 
 // The same for f64.
 pub fn scatter_f64(
+    rule: RuleF64,
     plan: ScatterPlan,
     batch_rows: [[i64; 4]; RAW_FUSED_RANK_LIMIT],
     window_rows: [[i64; 4]; RAW_FUSED_RANK_LIMIT],
@@ -170,7 +173,7 @@ pub fn scatter_f64(
     source: &[f64],
     into: &mut [f64],
 ) -> Answer
-    ensures { λ r. ⌜ Scatters nan addF64 asIs (byPlan plan «batch_rows» «window_rows» index updates dest (now (starts .entry)) (now (source .entry))) (now (into .entry)) (now (into .exit)) r ⌝ }
+    ensures { λ r. ⌜ Scatters nan (ruleF64 rule) asIs (byPlan plan «batch_rows» «window_rows» index updates dest (now (starts .entry)) (now (source .entry))) (now (into .entry)) (now (into .exit)) r ⌝ }
 {
     let p = prepare(
         plan,
@@ -183,5 +186,5 @@ pub fn scatter_f64(
         source.len(),
         into.len(),
     );
-    scatter_move::move_f64(Rule::Add, p, starts, source, into)
+    scatter_move::move_f64(rule, p, starts, source, into)
 }

@@ -5,7 +5,7 @@ ghost use lib.Ieee.{nan};
 ghost use lib.IntN.{pos};
 ghost use lib.ListN.{length};
 ghost use Rattle.indexing.specs.Scatter.{scattered};
-ghost use Rattle.runs.specs.Runs.{ruleI32, ruleF64};
+ghost use Rattle.rules.specs.Rules.{ruleI32, ruleF64};
 ghost use Rattle.calls.specs.Calls.{Does, asIs};
 ghost use Rattle.scatter_move.specs.Batches.{BatchesFrom, afterBatches};
 ghost use Rattle.scatter_move.specs.Prepared.{stepsAt, Cells, Movable};
@@ -13,7 +13,8 @@ use layout::Answer;
 use layout::RAW_FUSED_RANK_LIMIT;
 use layout::Reach;
 use replay::WindowReplayAxis;
-use runs::Rule;
+use rules::Rule;
+use rules::RuleF64;
 
 // The numbers that the batches and the windows of a scatter are moved with: the merged axes of both walks, with the steps of each on
 // both sides, and the components of a start.
@@ -205,7 +206,7 @@ pub fn move_i32(
 
 // The batches of a scatter from the start's base, the updates' base and the place `at` in the part of the destination that is lent on.
 fn run_f64(
-    rule: Rule,
+    rule: RuleF64,
     p: PreparedScatter,
     rows: [[i64; 4]; RAW_FUSED_RANK_LIMIT],
     starts: &[i64],
@@ -253,7 +254,7 @@ fn run_f64(
 
 // The scatter where the destination has cells, from the index low to the index high: it is lent on as that part.
 fn cells_f64(
-    rule: Rule,
+    rule: RuleF64,
     p: PreparedScatter,
     starts: &[i64],
     source: &[f64],
@@ -274,7 +275,7 @@ fn cells_f64(
 
 // A scatter of f64 that is prepared: where it is refused nothing is done.
 pub fn move_f64(
-    rule: Rule,
+    rule: RuleF64,
     p: PreparedScatter,
     starts: &[i64],
     source: &[f64],

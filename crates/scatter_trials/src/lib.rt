@@ -6,6 +6,7 @@ use changed_scatters::Field;
 use layout::Answer;
 use layout::RAW_FUSED_RANK_LIMIT;
 use layout::View;
+use rules::Rule;
 use scatter_plan::CompiledScatter;
 use scatter_plan::ScatterPlan;
 
@@ -52,6 +53,7 @@ fn call_on(
     into: &mut [i32],
 ) -> Answer {
     scatter::scatter_i32(
+        Rule::Add,
         plan,
         batch,
         window,
@@ -187,6 +189,7 @@ pub fn call_shared(compiled: CompiledScatter, into: &mut [i32]) -> Answer {
     let updates = view(&[2], &[1]);
     let dest = view(&[2], &[0]);
     scatter::scatter_i32(
+        Rule::Add,
         plan,
         batch,
         window,

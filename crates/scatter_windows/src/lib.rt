@@ -6,11 +6,12 @@ ghost use lib.IntN.{pos};
 ghost use lib.ListN.{length};
 ghost use Rattle.indexing.specs.Loops.{inOrder};
 ghost use Rattle.layout.specs.Layouts.{rankLimit};
-ghost use Rattle.runs.specs.Runs.{ruleI32, cellAt, line};
+ghost use Rattle.rules.specs.Rules.{ruleI32};
+ghost use Rattle.runs.specs.Runs.{cellAt, line};
 ghost use Rattle.indexed_runs.specs.IndexedRuns.{Starting, movedAt, Putting};
 ghost use Rattle.scatter_windows.specs.Scattering.{putBy, OneCell, BatchPlaces, PutLevel};
 use layout::RAW_FUSED_RANK_LIMIT;
-use runs::Rule;
+use rules::Rule;
 
 // Whether the axes have one place each.
 pub fn one_cell(extents: &[u64; RAW_FUSED_RANK_LIMIT], rank: usize) -> bool

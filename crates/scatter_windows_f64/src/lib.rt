@@ -5,15 +5,16 @@ ghost use mathlib.Core.Path.{_≡_};
 ghost use lib.Ieee.{nan};
 ghost use lib.ListN.{length};
 ghost use Rattle.indexing.specs.Loops.{inOrder};
-ghost use Rattle.runs.specs.Runs.{ruleF64, cellAt, line};
+ghost use Rattle.rules.specs.Rules.{ruleF64};
+ghost use Rattle.runs.specs.Runs.{cellAt, line};
 ghost use Rattle.indexed_runs.specs.IndexedRuns.{Starting, movedAt, Putting};
 ghost use Rattle.scatter_windows.specs.Scattering.{putBy, BatchPlaces, PutLevel};
 use layout::RAW_FUSED_RANK_LIMIT;
-use runs::Rule;
+use rules::RuleF64;
 
 // One run of windows of one cell: the start of each is read.
 pub fn scatter_run(
-    rule: Rule,
+    rule: RuleF64,
     src: &[f64],
     starts: &[i64],
     dst: &mut [f64],
@@ -72,7 +73,7 @@ pub fn scatter_run(
 
 // The batches of the first `rank` axes, whose windows have one cell. There are some, and the axes before `low` have one place each.
 pub fn scatter_cells(
-    rule: Rule,
+    rule: RuleF64,
     src: &[f64],
     starts: &[i64],
     dst: &mut [f64],
@@ -144,7 +145,7 @@ pub fn scatter_cells(
 
 // The same with any number of axes.
 pub fn scatter_each(
-    rule: Rule,
+    rule: RuleF64,
     src: &[f64],
     starts: &[i64],
     dst: &mut [f64],

@@ -1,5 +1,7 @@
 // A stored scatter, whole: compile, then the call.
 use layout::Answer;
+use rules::Rule;
+use rules::RuleF64;
 use scatter_plan::CompiledScatter;
 use stored_reader::packed;
 use stored_reader::packed::list;
@@ -40,6 +42,7 @@ fn run_i32(
     let dest = views::call_view(head, words, numbers, 2);
     let starts = signed_list(numbers, head, packed::SCATTER_STARTS);
     scatter::scatter_i32(
+        Rule::Add,
         plan,
         batch_rows,
         window_rows,
@@ -89,6 +92,7 @@ fn run_f64(
     let dest = views::call_view(head, words, numbers, 2);
     let starts = signed_list(numbers, head, packed::SCATTER_STARTS);
     scatter::scatter_f64(
+        RuleF64::Add,
         plan,
         batch_rows,
         window_rows,

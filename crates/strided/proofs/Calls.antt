@@ -1,11 +1,13 @@
 -- An exported call, by what prepare gives and the move does. Assumes nothing.
-use mathlib.Core.Path.{_≡_}
+use mathlib.Core.Path.{_≡_, sym, ap, _∙_}
+use mathlib.Core.Bool.{Bool, true, false, cond}
 use mathlib.Core.List.{List}
 use Prim.Native.Nat.{ℕ}
 use lib.ListN.{length}
 use Rattle.indexing.specs.Gather.{gathered}
 use Rattle.indexing.specs.Scatter.{scattered}
 use Rattle.layout.specs.declared.Answer.{Answer}
+use Rattle.layout.specs.Answers.{isDone, orElse}
 use Rattle.calls.specs.Calls.{GatherCall, ScatterCall, Does, Gathers, Scatters, asIs}
 use Rattle.calls.proofs.Does.{by-answer, said}
 use Rattle.gather_move.specs.Prepared as gathers
@@ -15,6 +17,7 @@ use Rattle.scatter_move.specs.Prepared as scatters
 use Rattle.scatter_move.specs.declared.PreparedScatter.{PreparedScatter}
 use Rattle.scatter_move.proofs.Parts as scatter-parts
 use Rattle.strided.specs.Words.{words}
+use Rattle.strided.specs.Named.{ruleRefusal, named}
 
 pub gather-handed : {A : Type 0} (z : A) (call : GatherCall) (p : PreparedGather) (operand before after : List A) (r : Answer) (handed : List ℕ)
     → gathers.Prepares p (call .answer (length operand) (length before)) (call .gather) (length operand) (length (call .starts)) (length before)
@@ -27,3 +30,26 @@ pub scatter-handed : {A : Type 0} (z : A) (rule : A → A → A) (call : Scatter
     → ((k : scatters.Movable p (length (call .starts)) (length (call .updates)) (length before)) → Does asIs (p .answer) (scattered rule z (k .scatter) (call .starts) (call .updates) before) before after r)
     → handed ≡ words r → Scatters z rule words call before after handed
 scatter-handed z rule call p before after r handed q m w = said words w (by-answer (q .answered) (m (scatter-parts.movable q)))
+
+-- ---- a call that names its rule by a number
+module _ {A : Type 0} (z : A) (rule : A → A → A) (most n : ℕ) (call : ScatterCall A) (before after : List A) (handed : List ℕ) where
+  abbrev leaves : List A
+  leaves = scattered rule z (call .scatter) (call .starts) (call .updates) before
+
+  -- one that is not listed
+  pub named-refused : isDone (ruleRefusal most n) ≡ false → after ≡ before → handed ≡ words (ruleRefusal most n) → Scatters z rule words (named most n call) before after handed
+  named-refused d b w =
+      let e : ruleRefusal most n ≡ orElse (ruleRefusal most n) (call .answer (length before)) = ap (λ (t : Bool). cond t (call .answer (length before)) (ruleRefusal most n)) (sym d) in
+      record {
+        answered = w ∙ ap words e;
+        left = b ∙ ap (λ (t : Bool). cond t leaves before) (sym d) ∙ ap (λ (x : Answer). cond (isDone x) leaves before) e;
+      }
+
+  -- one that is
+  pub named-listed : isDone (ruleRefusal most n) ≡ true → Scatters z rule words call before after handed → Scatters z rule words (named most n call) before after handed
+  named-listed d k =
+      let e : call .answer (length before) ≡ orElse (ruleRefusal most n) (call .answer (length before)) = ap (λ (t : Bool). cond t (call .answer (length before)) (ruleRefusal most n)) (sym d) in
+      record {
+        answered = k .answered ∙ ap words e;
+        left = k .left ∙ ap (λ (x : Answer). cond (isDone x) leaves before) e;
+      }

@@ -16,21 +16,24 @@ ghost use Rattle.job.specs.Jobs.{jobFrom};
 ghost use Rattle.job.specs.Format.{elementOf, jobAt};
 ghost use Rattle.job_reader.specs.Held.{readJob};
 ghost use Rattle.job_calls.specs.Jobs.{gatherByJob, scatterByJob};
+ghost use Rattle.rules.specs.Rules.{ruleI32, ruleF64};
 ghost use Rattle.strided.specs.Words.{words};
+ghost use Rattle.strided.specs.Named.{ruleOf, ruleF64Of, rulesI32, rulesF64, ruleRefusal, named};
 ghost use Rattle.strided.specs.Stored.{elementListed, Stored, StoredAs};
 use job::Element;
 use job::MadeJob;
 use layout::Answer;
-use runs::Rule;
+use rules::Rule;
+use rules::RuleF64;
 
 // Of these exports, as strided.h has it: it grows with every change of them. It is in the name below too, so that a program made
 // for another version finds no such function when it is linked.
-pub const VERSION: u64 = 1;
+pub const VERSION: u64 = 2;
 
 // The version of the exports.
 #[no_mangle]
-pub extern "C" fn strided_version_1() -> u64
-    ensures { λ r. ⌜ r ≡ 1 ⌝ }
+pub extern "C" fn strided_version_2() -> u64
+    ensures { λ r. ⌜ r ≡ 2 ⌝ }
 {
     VERSION
 }
@@ -43,6 +46,58 @@ fn words_of(answer: Answer) -> [u64; 3]
     let a = layout::first_number(answer);
     let b = layout::second_number(answer);
     [n, a, b]
+}
+
+// The rules that there are for i32 and for f64: those numbered from 1 up to this one.
+pub const RULES_I32: u64 = 4;
+
+pub const RULES_F64: u64 = 5;
+
+// Whether a rule's number is listed.
+fn check_rule(most: u64, rule: u64) -> Answer
+    ensures { λ r. ⌜ r ≡ ruleRefusal most rule ⌝ }
+{
+    if rule == 0 {
+        return Answer::UnlistedRule(rule);
+    }
+    if most < rule {
+        return Answer::UnlistedRule(rule);
+    }
+    Answer::Done
+}
+
+// The rule by the number that stands for it. Numbers that are not listed are refused by `check_rule`.
+fn rule_of(rule: u64) -> Rule
+    ensures { λ r. ⌜ r ≡ ruleOf rule ⌝ }
+{
+    if rule == 1 {
+        return Rule::Add;
+    }
+    if rule == 2 {
+        return Rule::Lowest;
+    }
+    if rule == 3 {
+        return Rule::Highest;
+    }
+    Rule::Replace
+}
+
+fn rule_f64_of(rule: u64, limit: f64) -> RuleF64
+    ensures { λ r. ⌜ r ≡ ruleF64Of rule limit ⌝ }
+{
+    if rule == 1 {
+        return RuleF64::Add;
+    }
+    if rule == 2 {
+        return RuleF64::Lowest;
+    }
+    if rule == 3 {
+        return RuleF64::Highest;
+    }
+    if rule == 4 {
+        return RuleF64::Replace;
+    }
+    RuleF64::Ceiling(limit)
 }
 
 // The first refusal of a gather's compile as number, a, b; zeros where compile gives a plan.
@@ -229,9 +284,11 @@ pub extern "C" fn strided_raw_gather_f64(
     *answer = words_of(r);
 }
 
-// A scatter of i32 that adds: compile by the first ten arguments, and the call on the three views and their slices. The answer as number, a, b.
+// A scatter of i32 by the rule of a number: compile by the next ten arguments, and the call on the three views and their slices. The
+// answer as number, a, b: 18 before all others for a number that is not listed.
 #[no_mangle]
 pub extern "C" fn strided_raw_scatter_i32(
+    rule: u64,
     index_extents: &[u64],
     index_strides: &[i64],
     updates_extents: &[u64],
@@ -256,8 +313,13 @@ pub extern "C" fn strided_raw_scatter_i32(
     dest: &mut [i32],
     answer: &mut [u64; 3],
 )
-    ensures { λ _. ⌜ Scatters (pos 0) addI32 words (scatters.byLists (scatterFrom (now («index_extents» .entry)) (now («index_strides» .entry)) (now («updates_extents» .entry)) (now («updates_strides» .entry)) (now («dest_extents» .entry)) (now («dest_strides» .entry)) (now («update_window_dims» .entry)) (now («inserted_window_dims» .entry)) (now («scatter_dims_to_operand_dims» .entry)) «index_vector_dim») (viewWith (now («index_view_extents» .entry)) (now («index_view_strides» .entry)) «index_offset») (viewWith (now («updates_view_extents» .entry)) (now («updates_view_strides» .entry)) «updates_offset») (viewWith (now («dest_view_extents» .entry)) (now («dest_view_strides» .entry)) «dest_offset») (now (starts .entry)) (now (updates .entry))) (now (dest .entry)) (now (dest .exit)) (now (answer .exit)) ⌝ }
+    ensures { λ _. ⌜ Scatters (pos 0) (ruleI32 (ruleOf rule)) words (named rulesI32 rule (scatters.byLists (scatterFrom (now («index_extents» .entry)) (now («index_strides» .entry)) (now («updates_extents» .entry)) (now («updates_strides» .entry)) (now («dest_extents» .entry)) (now («dest_strides» .entry)) (now («update_window_dims» .entry)) (now («inserted_window_dims» .entry)) (now («scatter_dims_to_operand_dims» .entry)) «index_vector_dim») (viewWith (now («index_view_extents» .entry)) (now («index_view_strides» .entry)) «index_offset») (viewWith (now («updates_view_extents» .entry)) (now («updates_view_strides» .entry)) «updates_offset») (viewWith (now («dest_view_extents» .entry)) (now («dest_view_strides» .entry)) «dest_offset») (now (starts .entry)) (now (updates .entry)))) (now (dest .entry)) (now (dest .exit)) (now (answer .exit)) ⌝ }
 {
+    let listed = check_rule(RULES_I32, rule);
+    if !layout::is_done(listed) {
+        *answer = words_of(listed);
+        return;
+    }
     let p = scatter_lists::prepare_views(
         index_extents,
         index_strides,
@@ -282,13 +344,17 @@ pub extern "C" fn strided_raw_scatter_i32(
         updates.len(),
         dest.len(),
     );
-    let r = scatter_move::move_i32(Rule::Add, p, starts, updates, dest);
+    let by = rule_of(rule);
+    let r = scatter_move::move_i32(by, p, starts, updates, dest);
     *answer = words_of(r);
 }
 
-// A scatter of f64 that adds: compile by the first ten arguments, and the call on the three views and their slices. The answer as number, a, b.
+// A scatter of f64 by the rule of a number, whose limit Ceiling alone reads: compile by the next ten arguments, and the call on the
+// three views and their slices. The answer as number, a, b: 18 before all others for a number that is not listed.
 #[no_mangle]
 pub extern "C" fn strided_raw_scatter_f64(
+    rule: u64,
+    limit: f64,
     index_extents: &[u64],
     index_strides: &[i64],
     updates_extents: &[u64],
@@ -313,8 +379,13 @@ pub extern "C" fn strided_raw_scatter_f64(
     dest: &mut [f64],
     answer: &mut [u64; 3],
 )
-    ensures { λ _. ⌜ Scatters nan addF64 words (scatters.byLists (scatterFrom (now («index_extents» .entry)) (now («index_strides» .entry)) (now («updates_extents» .entry)) (now («updates_strides» .entry)) (now («dest_extents» .entry)) (now («dest_strides» .entry)) (now («update_window_dims» .entry)) (now («inserted_window_dims» .entry)) (now («scatter_dims_to_operand_dims» .entry)) «index_vector_dim») (viewWith (now («index_view_extents» .entry)) (now («index_view_strides» .entry)) «index_offset») (viewWith (now («updates_view_extents» .entry)) (now («updates_view_strides» .entry)) «updates_offset») (viewWith (now («dest_view_extents» .entry)) (now («dest_view_strides» .entry)) «dest_offset») (now (starts .entry)) (now (updates .entry))) (now (dest .entry)) (now (dest .exit)) (now (answer .exit)) ⌝ }
+    ensures { λ _. ⌜ Scatters nan (ruleF64 (ruleF64Of rule limit)) words (named rulesF64 rule (scatters.byLists (scatterFrom (now («index_extents» .entry)) (now («index_strides» .entry)) (now («updates_extents» .entry)) (now («updates_strides» .entry)) (now («dest_extents» .entry)) (now («dest_strides» .entry)) (now («update_window_dims» .entry)) (now («inserted_window_dims» .entry)) (now («scatter_dims_to_operand_dims» .entry)) «index_vector_dim») (viewWith (now («index_view_extents» .entry)) (now («index_view_strides» .entry)) «index_offset») (viewWith (now («updates_view_extents» .entry)) (now («updates_view_strides» .entry)) «updates_offset») (viewWith (now («dest_view_extents» .entry)) (now («dest_view_strides» .entry)) «dest_offset») (now (starts .entry)) (now (updates .entry)))) (now (dest .entry)) (now (dest .exit)) (now (answer .exit)) ⌝ }
 {
+    let listed = check_rule(RULES_F64, rule);
+    if !layout::is_done(listed) {
+        *answer = words_of(listed);
+        return;
+    }
     let p = scatter_lists::prepare_views(
         index_extents,
         index_strides,
@@ -339,7 +410,8 @@ pub extern "C" fn strided_raw_scatter_f64(
         updates.len(),
         dest.len(),
     );
-    let r = scatter_move::move_f64(Rule::Add, p, starts, updates, dest);
+    let by = rule_f64_of(rule, limit);
+    let r = scatter_move::move_f64(by, p, starts, updates, dest);
     *answer = words_of(r);
 }
 
@@ -548,6 +620,6 @@ pub extern "C" fn strided_scatter_f64(
     ensures { λ _. ⌜ Scatters nan addF64 words (scatterByJob E.F64 (now (job .entry)) (now (starts .entry)) (now (updates .entry))) (now (dest .entry)) (now (dest .exit)) (now (answer .exit)) ⌝ }
 {
     let p = job_calls::prepare_scatter(job, Element::F64, starts.len(), updates.len(), dest.len());
-    let r = scatter_move::move_f64(Rule::Add, p, starts, updates, dest);
+    let r = scatter_move::move_f64(RuleF64::Add, p, starts, updates, dest);
     *answer = words_of(r);
 }

@@ -6,10 +6,10 @@ ghost use Prim.Native.Nat.{_<_, _≤_};
 ghost use lib.IntN.{pos};
 ghost use lib.ListN.{length};
 ghost use Rattle.layout.specs.Layouts.{rankLimit};
-ghost use Rattle.runs.specs.Runs.{ruleI32};
+ghost use Rattle.rules.specs.Rules.{ruleI32};
 ghost use Rattle.windows.specs.Windows.{windowed, Level, RunAxis};
 use layout::RAW_FUSED_RANK_LIMIT;
-use runs::Rule;
+use rules::Rule;
 
 // The axis that runs go along: the first whose extent is not 1, or the last where there is none.
 pub fn run_axis(extents: &[u64; RAW_FUSED_RANK_LIMIT], rank: usize) -> usize

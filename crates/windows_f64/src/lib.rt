@@ -5,14 +5,14 @@
 ghost use mathlib.Core.Path.{_≡_};
 ghost use lib.Ieee.{nan};
 ghost use lib.ListN.{length};
-ghost use Rattle.runs.specs.Runs.{ruleF64};
+ghost use Rattle.rules.specs.Rules.{ruleF64};
 ghost use Rattle.windows.specs.Windows.{windowed, Level};
 use layout::RAW_FUSED_RANK_LIMIT;
-use runs::Rule;
+use rules::RuleF64;
 
 // The cells of the first `rank` axes. There are some, and the axes before `low` have one place each.
 pub fn axes(
-    rule: Rule,
+    rule: RuleF64,
     src: &[f64],
     dst: &mut [f64],
     extents: &[u64; RAW_FUSED_RANK_LIMIT],

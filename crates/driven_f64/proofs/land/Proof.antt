@@ -4,7 +4,7 @@ use native.Mathlib.Omega.{arith}
 use borrow.Author.Needs.{needs}
 use lib.Ieee.{nan}
 use lib.ListN.{length}
-use Rattle.runs.specs.Runs.{ruleF64}
+use Rattle.rules.specs.Rules.{ruleF64}
 use Rattle.driven.proofs.Landed.{start-asks, window-asks, window-end}
 use Rattle.driven_f64.proofs.land.Statement.{statement}
 use Rattle.driven_f64.proofs.land.Tie as tie

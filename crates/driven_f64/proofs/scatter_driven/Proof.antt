@@ -10,7 +10,7 @@ use mir.Syntax.{w64}
 use mir.Val.{toZ}
 use Rattle.indexing.specs.Loops.{inOrder}
 use Rattle.layout.specs.Layouts.{rankLimit}
-use Rattle.runs.specs.Runs.{ruleF64}
+use Rattle.rules.specs.Rules.{ruleF64}
 use Rattle.runs.proofs.Place.{read}
 use Rattle.runs.proofs.Turns.{none}
 use Rattle.windows.specs.Windows.{placeAt}

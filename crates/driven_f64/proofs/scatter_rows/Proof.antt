@@ -4,7 +4,7 @@ use lib.Ieee.{nan}
 use lib.ListN.{take}
 use Rattle.layout.specs.Laws.{some-cells}
 use Rattle.indexing.specs.Odometer.{AllPos}
-use Rattle.runs.specs.Runs.{ruleF64}
+use Rattle.rules.specs.Rules.{ruleF64}
 use Rattle.runs.proofs.Place.{read}
 use Rattle.scatter_windows.proofs.Whole.{not-none, no-batch, no-window, each-asks, each-end, axes-asks, axes-end}
 use borrow.Author.Needs.{needs}

@@ -7,8 +7,8 @@ use lib.Ieee.{nan}
 use lib.IntN.{_-ℤ_}
 use mir.Syntax.{w64}
 use mir.Val.{SFits, toZ}
-use Rattle.runs.specs.Runs.{ruleF64}
-use Rattle.runs.specs.declared.Rule.the-variants as R
+use Rattle.rules.specs.Rules.{ruleF64}
+use Rattle.rules.specs.declared.RuleF64.the-variants as F
 use Rattle.runs.proofs.Place.{read}
 use Rattle.gather_windows.specs.Gathering.{Gathering}
 use Rattle.gather_move.proofs.Parts.{high-in, low-high, low-fits, sub-fits, place-is, part-asks, part-leaves}
@@ -63,7 +63,7 @@ same-length c = search needs
 returns : tie.Need-returns
 returns c =
     let s = c .before .before .before .before .before .before .before .before in
-    λ k. part-leaves (s .args .p) (s .args .low) (s .args .high) (length (s .args .source .now)) (s .args .starts .now) (length (s .args .into .now)) k _ refl _ (place-is (s .args .p) (s .args .low) (s .args .high) (length (s .args .source .now)) (s .args .starts .now) (length (s .args .into .now)) k (dest-fits s) (dest-room s)) nan (ruleF64 R.Copy) (λ x u. refl) (s .args .source .now) (s .args .into .now) refl _ (c .before .before .run-f64 .ensures)
+    λ k. part-leaves (s .args .p) (s .args .low) (s .args .high) (length (s .args .source .now)) (s .args .starts .now) (length (s .args .into .now)) k _ refl _ (place-is (s .args .p) (s .args .low) (s .args .high) (length (s .args .source .now)) (s .args .starts .now) (length (s .args .into .now)) k (dest-fits s) (dest-room s)) nan (ruleF64 F.Replace) (λ x u. refl) (s .args .source .now) (s .args .into .now) refl _ (c .before .before .run-f64 .ensures)
 
 pub cells-f64-spec : {M : Type 1} → statement M
 cells-f64-spec =

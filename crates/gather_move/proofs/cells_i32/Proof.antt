@@ -6,8 +6,8 @@ use lib.Seq.{length-take-le}
 use lib.IntN.{pos, _-ℤ_}
 use mir.Syntax.{w64}
 use mir.Val.{SFits, toZ}
-use Rattle.runs.specs.Runs.{ruleI32}
-use Rattle.runs.specs.declared.Rule.the-variants as R
+use Rattle.rules.specs.Rules.{ruleI32}
+use Rattle.rules.specs.declared.Rule.the-variants as R
 use Rattle.runs.proofs.Place.{read}
 use Rattle.gather_windows.specs.Gathering.{Gathering}
 use Rattle.gather_move.proofs.Parts.{high-in, low-high, low-fits, sub-fits, place-is, part-asks, part-leaves}
@@ -62,7 +62,7 @@ same-length c = search needs
 returns : tie.Need-returns
 returns c =
     let s = c .before .before .before .before .before in
-    λ k. part-leaves (s .args .p) (s .args .low) (s .args .high) (length (s .args .source .now)) (s .args .starts .now) (length (s .args .into .now)) k _ refl _ (place-is (s .args .p) (s .args .low) (s .args .high) (length (s .args .source .now)) (s .args .starts .now) (length (s .args .into .now)) k (dest-fits s) (dest-room s)) (pos 0) (ruleI32 R.Copy) (λ x u. refl) (s .args .source .now) (s .args .into .now) refl _ (c .before .run-i32 .ensures)
+    λ k. part-leaves (s .args .p) (s .args .low) (s .args .high) (length (s .args .source .now)) (s .args .starts .now) (length (s .args .into .now)) k _ refl _ (place-is (s .args .p) (s .args .low) (s .args .high) (length (s .args .source .now)) (s .args .starts .now) (length (s .args .into .now)) k (dest-fits s) (dest-room s)) (pos 0) (ruleI32 R.Replace) (λ x u. refl) (s .args .source .now) (s .args .into .now) refl _ (c .before .run-i32 .ensures)
 
 pub cells-i32-spec : {M : Type 1} → statement M
 cells-i32-spec =

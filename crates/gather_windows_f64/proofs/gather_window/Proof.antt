@@ -3,8 +3,8 @@ use mathlib.Core.Path.{sym, _∙_}
 use lib.Ieee.{nan}
 use lib.ListN.{take}
 use Rattle.layout.specs.Laws.{some-cells}
-use Rattle.runs.specs.Runs.{ruleF64}
-use Rattle.runs.specs.declared.Rule.the-variants as R
+use Rattle.rules.specs.Rules.{ruleF64}
+use Rattle.rules.specs.declared.RuleF64.the-variants as R
 use Rattle.gather_windows.proofs.Whole.{one-cell, one-end, level-of, level-end, nothing}
 use borrow.Author.Needs.{needs}
 use Rattle.gather_windows_f64.proofs.gather_window.Statement.{statement}
@@ -23,12 +23,12 @@ returns c =
     let t1 : tie.Then1 = search in
     let g : tie.After-gather-run = search in
     let a : tie.Start = search in
-    one-end _ _ _ _ _ _ _ _ _ _ _ _ _ _ _ (a .pre) (a .fits .s) (a .fits .t) (a .fits .d) (t1 .if1 .taken) nan (ruleF64 R.Copy) (a .args .src .now) (a .args .dst .now) _ (g .gather-run .ensures)
+    one-end _ _ _ _ _ _ _ _ _ _ _ _ _ _ _ (a .pre) (a .fits .s) (a .fits .t) (a .fits .d) (t1 .if1 .taken) nan (ruleF64 R.Replace) (a .args .src .now) (a .args .dst .now) _ (g .gather-run .ensures)
 
 returns-2 : tie.Need-returns-2
 returns-2 c =
     let a : tie.Start = search in
-    nothing _ _ _ _ _ _ _ _ _ _ _ _ _ _ _ (a .pre) (a .fits .s) (a .fits .t) (a .fits .d) nan (ruleF64 R.Copy) (a .args .src .now) (a .args .dst .now) (sym (c .before .has-zero .ensures) ∙ c .if2 .taken)
+    nothing _ _ _ _ _ _ _ _ _ _ _ _ _ _ _ (a .pre) (a .fits .s) (a .fits .t) (a .fits .d) nan (ruleF64 R.Replace) (a .args .src .now) (a .args .dst .now) (sym (c .before .has-zero .ensures) ∙ c .if2 .taken)
 
 run-axis-requires : tie.Need-run-axis-requires
 run-axis-requires c κs = search needs
@@ -52,7 +52,7 @@ returns-3 c =
     let g : tie.After-gather-axes = search in
     let w : tie.After-still-axes = search in
     let a : tie.Start = search in
-    level-end _ _ _ _ _ _ _ _ _ _ _ _ _ _ _ (a .pre) (a .fits .s) (a .fits .t) (a .fits .d) nan (ruleF64 R.Copy) (a .args .src .now) (a .args .dst .now) _ (g .gather-axes .ensures)
+    level-end _ _ _ _ _ _ _ _ _ _ _ _ _ _ _ (a .pre) (a .fits .s) (a .fits .t) (a .fits .d) nan (ruleF64 R.Replace) (a .args .src .now) (a .args .dst .now) _ (g .gather-axes .ensures)
 
 pub gather-window-spec : {M : Type 1} → statement M
 gather-window-spec =

@@ -6,7 +6,8 @@ use lib.IntN.{pos}
 use mir.Syntax.{w64}
 use mir.Val.{toZ}
 use Rattle.indexing.specs.Loops.{inOrder}
-use Rattle.runs.specs.Runs.{ruleI32, cellAt}
+use Rattle.rules.specs.Rules.{ruleI32}
+use Rattle.runs.specs.Runs.{cellAt}
 use Rattle.runs.proofs.Turns.{none, more}
 use Rattle.indexed_runs.specs.IndexedRuns.{oneAt}
 use Rattle.indexed_runs.proofs.Ones.{ones-left, put-ones-end}

@@ -7,7 +7,8 @@ use lib.IntN.{ℤ, pos}
 use mir.Syntax.{w64}
 use mir.Val.{toZ}
 use Rattle.indexing.specs.Loops.{inOrder}
-use Rattle.runs.specs.Runs.{ruleI32, cellAt}
+use Rattle.rules.specs.Rules.{ruleI32}
+use Rattle.runs.specs.Runs.{cellAt}
 use Rattle.runs.proofs.Place.{read}
 use Rattle.indexed_runs.specs.IndexedRuns.{oneAt, Ones}
 use Rattle.indexed_runs.proofs.Ones.{ones-left, four-turns, put-ones-end}

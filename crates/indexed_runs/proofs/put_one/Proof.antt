@@ -3,8 +3,8 @@ use native.Mathlib.Omega.{arith}
 use borrow.Author.Needs.{needs, sfits-of}
 use lib.ListN.{length, getD}
 use lib.IntN.{pos, natAbs}
-use Rattle.runs.specs.Runs.{ruleI32}
-use Rattle.runs.proofs.Rules.{stored}
+use Rattle.rules.specs.Rules.{ruleI32}
+use Rattle.rules.proofs.Stored.{stored}
 use Rattle.runs.proofs.Place.{read, Index}
 use Rattle.indexed_runs.specs.IndexedRuns.{oneAt}
 use Rattle.indexed_runs.proofs.Ones.{ones-index, ones-is, one-turn}

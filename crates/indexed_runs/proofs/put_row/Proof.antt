@@ -4,7 +4,7 @@ use native.Mathlib.Omega.{arith}
 use borrow.Author.Needs.{needs}
 use lib.ListN.{length}
 use lib.IntN.{pos, natAbs}
-use Rattle.runs.specs.Runs.{ruleI32}
+use Rattle.rules.specs.Rules.{ruleI32}
 use Rattle.runs.proofs.Place.{read, Index, index}
 use Rattle.runs.proofs.Runs.{Part, part-of}
 use Rattle.indexed_runs.proofs.Ones.{part-place, place-in, ones-ask, part-put}

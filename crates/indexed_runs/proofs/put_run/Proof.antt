@@ -1,7 +1,7 @@
 use mathlib.Core.Path.{refl}
 use borrow.Author.Needs.{needs}
 use lib.IntN.{pos}
-use Rattle.runs.specs.Runs.{ruleI32}
+use Rattle.rules.specs.Rules.{ruleI32}
 use Rattle.runs.proofs.Turns.{none}
 use Rattle.indexed_runs.proofs.Places.{put-end}
 use Rattle.indexed_runs.proofs.Ones.{strided-asks, row-asks, put-row-end}

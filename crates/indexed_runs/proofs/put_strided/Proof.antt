@@ -7,10 +7,11 @@ use lib.IntN.{pos, natAbs}
 use mir.Syntax.{w64}
 use mir.Val.{toZ}
 use Rattle.indexing.specs.Loops.{inOrder}
-use Rattle.runs.specs.Runs.{ruleI32, cellAt, line}
+use Rattle.rules.specs.Rules.{ruleI32}
+use Rattle.runs.specs.Runs.{cellAt, line}
 use Rattle.runs.proofs.Turns.{none, cell-more}
 use Rattle.runs.proofs.Place.{read, machine, Step}
-use Rattle.runs.proofs.Rules.{stored}
+use Rattle.rules.proofs.Stored.{stored}
 use Rattle.indexed_runs.specs.IndexedRuns.{clampedAt}
 use Rattle.indexed_runs.proofs.Places.{start-step, plain-step, clamped-step, clamped-is, put-end}
 use Rattle.indexed_runs.proofs.put_strided.Statement.{statement}

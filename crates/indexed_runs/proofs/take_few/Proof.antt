@@ -6,8 +6,9 @@ use lib.IntN.{pos}
 use mir.Syntax.{w64}
 use mir.Val.{toZ}
 use Rattle.indexing.specs.Loops.{inOrder}
-use Rattle.runs.specs.Runs.{ruleI32, cellAt}
-use Rattle.runs.specs.declared.Rule.the-variants as R
+use Rattle.rules.specs.Rules.{ruleI32}
+use Rattle.runs.specs.Runs.{cellAt}
+use Rattle.rules.specs.declared.Rule.the-variants as R
 use Rattle.runs.proofs.Turns.{none, more}
 use Rattle.indexed_runs.specs.IndexedRuns.{oneAt}
 use Rattle.indexed_runs.proofs.Ones.{ones-left, take-ones-end}
@@ -15,7 +16,7 @@ use Rattle.indexed_runs.proofs.take_few.Statement.{statement}
 use Rattle.indexed_runs.proofs.take_few.Tie as tie
 
 abbrev Inv-loop : tie.InvT-loop
-Inv-loop src starts dst₀ limit n i₀ dst i = (i ≤ n) × (length dst ≡ length dst₀) × (dst ≡ inOrder (cellAt (pos 0) (ruleI32 R.Copy) src (oneAt starts (toZ w64 limit)) pos) i dst₀)
+Inv-loop src starts dst₀ limit n i₀ dst i = (i ≤ n) × (length dst ≡ length dst₀) × (dst ≡ inOrder (cellAt (pos 0) (ruleI32 R.Replace) src (oneAt starts (toZ w64 limit)) pos) i dst₀)
 
 abbrev μ-loop : tie.MeasureT-loop
 μ-loop src starts dst₀ limit n i₀ dst i = n - i
@@ -53,7 +54,7 @@ returns : tie.Need-returns Inv-loop μ-loop
 returns c =
     let h = c .before in
     let a : tie.Start Inv-loop μ-loop = search in
-    take-ones-end (pos 0) (ruleI32 R.Copy) (a .args .src .now) (a .args .starts .now) (a .args .limit) (h .loop .i) _ (a .args .dst .now) (h .loop .dst) (a .fits .limit) (omega arith) (h .loop .inv .2)
+    take-ones-end (pos 0) (ruleI32 R.Replace) (a .args .src .now) (a .args .starts .now) (a .args .limit) (h .loop .i) _ (a .args .dst .now) (h .loop .dst) (a .fits .limit) (omega arith) (h .loop .inv .2)
 
 pub take-few-spec : {M : Type 1} → statement M
 take-few-spec =

@@ -7,8 +7,9 @@ use lib.IntN.{ℤ, pos}
 use mir.Syntax.{w64}
 use mir.Val.{toZ}
 use Rattle.indexing.specs.Loops.{inOrder}
-use Rattle.runs.specs.Runs.{ruleI32, cellAt}
-use Rattle.runs.specs.declared.Rule.the-variants as R
+use Rattle.rules.specs.Rules.{ruleI32}
+use Rattle.runs.specs.Runs.{cellAt}
+use Rattle.rules.specs.declared.Rule.the-variants as R
 use Rattle.runs.proofs.Place.{read}
 use Rattle.indexed_runs.specs.IndexedRuns.{oneAt, Ones}
 use Rattle.indexed_runs.proofs.Ones.{ones-left, four-turns, take-ones-end}
@@ -17,7 +18,7 @@ use Rattle.indexed_runs.proofs.take_ones.Tie as tie
 
 abbrev Inv-loop : tie.InvT-loop
 Inv-loop src starts dst₀ limit n fours₀ i₀ dst fours i =
-    (i + 4 * fours ≡ n) × (length dst ≡ n) × ((x : List ℤ) → dst₀ ≡ inOrder (cellAt (pos 0) (ruleI32 R.Copy) src (oneAt starts (toZ w64 limit)) pos) i₀ x → dst ≡ inOrder (cellAt (pos 0) (ruleI32 R.Copy) src (oneAt starts (toZ w64 limit)) pos) i x)
+    (i + 4 * fours ≡ n) × (length dst ≡ n) × ((x : List ℤ) → dst₀ ≡ inOrder (cellAt (pos 0) (ruleI32 R.Replace) src (oneAt starts (toZ w64 limit)) pos) i₀ x → dst ≡ inOrder (cellAt (pos 0) (ruleI32 R.Replace) src (oneAt starts (toZ w64 limit)) pos) i x)
 
 abbrev μ-loop : tie.MeasureT-loop
 μ-loop src starts dst₀ limit n fours₀ i₀ dst fours i = fours
@@ -117,7 +118,7 @@ loop-again c =
     let a = start h in (
       omega (arith, h .loop .inv .0, d .loop-test .taken),
       p4 .take-one4 .kept .1 .1 .0 ∙ p3 .take-one3 .kept .1 .1 .0 ∙ p2 .take-one2 .kept .1 .1 .0 ∙ p1 .take-one .kept .1 .1 .0 ∙ h .loop .inv .1,
-      λ x e. four-turns (cellAt (pos 0) (ruleI32 R.Copy) (a .args .src .now) (oneAt (a .args .starts .now) (read (a .args .limit))) pos) (h .loop .i) x (h .loop .dst) _ _ _ _ (h .loop .inv .2 x e) (p1 .take-one .ensures) (p2 .take-one2 .ensures) (p3 .take-one3 .ensures) (p4 .take-one4 .ensures),
+      λ x e. four-turns (cellAt (pos 0) (ruleI32 R.Replace) (a .args .src .now) (oneAt (a .args .starts .now) (read (a .args .limit))) pos) (h .loop .i) x (h .loop .dst) _ _ _ _ (h .loop .inv .2 x e) (p1 .take-one .ensures) (p2 .take-one2 .ensures) (p3 .take-one3 .ensures) (p4 .take-one4 .ensures),
     )
 
 same-length : tie.Need-same-length Inv-loop μ-loop
@@ -128,7 +129,7 @@ returns c =
     let f : tie.After-take-few Inv-loop μ-loop = search in
     let h = c .before in
     let a = start h in
-    take-ones-end (pos 0) (ruleI32 R.Copy) (a .args .src .now) (a .args .starts .now) (a .args .limit) (h .loop .i) _ (a .args .dst .now) (h .loop .dst) (a .fits .limit) (omega (arith, h .loop .inv .0, c .loop-test .left)) (h .loop .inv .2 (a .args .dst .now) (f .take-few .ensures))
+    take-ones-end (pos 0) (ruleI32 R.Replace) (a .args .src .now) (a .args .starts .now) (a .args .limit) (h .loop .i) _ (a .args .dst .now) (h .loop .dst) (a .fits .limit) (omega (arith, h .loop .inv .0, c .loop-test .left)) (h .loop .inv .2 (a .args .dst .now) (f .take-few .ensures))
 
 pub take-ones-spec : {M : Type 1} → statement M
 take-ones-spec =

@@ -8,7 +8,8 @@ use lib.IntN.{natAbs}
 use mir.Syntax.{w64}
 use mir.Val.{toZ}
 use Rattle.indexing.specs.Loops.{inOrder}
-use Rattle.runs.specs.Runs.{ruleF64, cellAt, line}
+use Rattle.rules.specs.Rules.{ruleF64}
+use Rattle.runs.specs.Runs.{cellAt, line}
 use Rattle.runs.proofs.Turns.{none, cell-more}
 use Rattle.runs.proofs.Place.{read, machine, Step, Index}
 use Rattle.indexed_runs.specs.IndexedRuns.{movedAt}
@@ -73,23 +74,23 @@ add-a c = from (c .before) .fits
 cast-a : tie.Need-cast-a Inv-loop μ-loop
 cast-a c = from (c .before) .cast
 
-mul-apply : tie.Need-mul-apply Inv-loop μ-loop
-mul-apply c = omega (arith, put-at c .below, start (c .before) .good .1 .1 .1 .0 .1)
+mul-apply-f64 : tie.Need-mul-apply-f64 Inv-loop μ-loop
+mul-apply-f64 c = omega (arith, put-at c .below, start (c .before) .good .1 .1 .1 .0 .1)
 
-slice-read-apply : tie.Need-slice-read-apply Inv-loop μ-loop
-slice-read-apply c =
+slice-read-apply-f64 : tie.Need-slice-read-apply-f64 Inv-loop μ-loop
+slice-read-apply-f64 c =
     let s : tie.After-started Inv-loop μ-loop = search in
     let h : tie.At-loop Inv-loop μ-loop = search in
     omega (arith, put-at s .below, h .loop .inv .1)
 
-mul-apply-2 : tie.Need-mul-apply-2 Inv-loop μ-loop
-mul-apply-2 c = omega (arith, from (c .before .before) .below, start (c .before .before) .good .1 .0 .1)
+mul-apply-f64-2 : tie.Need-mul-apply-f64-2 Inv-loop μ-loop
+mul-apply-f64-2 c = omega (arith, from (c .before .before) .below, start (c .before .before) .good .1 .0 .1)
 
-shared-slice-read-apply : tie.Need-shared-slice-read-apply Inv-loop μ-loop
-shared-slice-read-apply c = let d : tie.In-loop Inv-loop μ-loop = search in from d .below
+shared-slice-read-apply-f64 : tie.Need-shared-slice-read-apply-f64 Inv-loop μ-loop
+shared-slice-read-apply-f64 c = let d : tie.In-loop Inv-loop μ-loop = search in from d .below
 
-apply-requires : tie.Need-apply-requires Inv-loop μ-loop
-apply-requires c κs = tt
+apply-f64-requires : tie.Need-apply-f64-requires Inv-loop μ-loop
+apply-f64-requires c κs = tt
 
 mul-dst : tie.Need-mul-dst Inv-loop μ-loop
 mul-dst c = omega (arith, put-at (c .before .before .before) .below, start (c .before .before .before .before) .good .1 .1 .1 .0 .1)
@@ -116,7 +117,7 @@ loop-again c =
       cell-more nan (ruleF64 (a .args .rule)) (a .args .src .now) (line (read (a .args .s)) (read (a .args .ss)))
           (movedAt (a .args .starts .now) (a .args .offsets .now) (a .args .strides .now) (a .args .limits .now) (a .args .count) (λ _. read (a .args .d)) (line (read (a .args .t)) (read (a .args .ts))))
           (a .args .dst .now) (h .loop .dst) (h .loop .i) at to _ (h .loop .inv .2) (from d .index-is)
-          (place-is _ _ _ _ _ _ _ _ _ _ _ _ _ (a .pre) _ (d .loop-test .taken) (index d) (a .fits .d) (dst-room a) _ (q .started .ensures)) (c .apply .ensures),
+          (place-is _ _ _ _ _ _ _ _ _ _ _ _ _ (a .pre) _ (d .loop-test .taken) (index d) (a .fits .d) (dst-room a) _ (q .started .ensures)) (c .apply-f64 .ensures),
     )
 
 same-length : tie.Need-same-length Inv-loop μ-loop
@@ -143,11 +144,11 @@ put-cells-spec =
     mul-a
     add-a
     cast-a
-    mul-apply
-    slice-read-apply
-    mul-apply-2
-    shared-slice-read-apply
-    apply-requires
+    mul-apply-f64
+    slice-read-apply-f64
+    mul-apply-f64-2
+    shared-slice-read-apply-f64
+    apply-f64-requires
     mul-dst
     slice-write-dst
     add-i

@@ -9,7 +9,8 @@ use lib.IntN.{pos}
 use mir.Syntax.{w64}
 use mir.Val.{toZ}
 use Rattle.indexing.specs.Loops.{inOrder}
-use Rattle.runs.specs.Runs.{ruleF64, cellAt}
+use Rattle.rules.specs.Rules.{ruleF64}
+use Rattle.runs.specs.Runs.{cellAt}
 use Rattle.runs.proofs.Place.{read}
 use Rattle.indexed_runs.specs.IndexedRuns.{oneAt, Ones}
 use Rattle.indexed_runs.proofs.Ones.{ones-left, four-turns, put-ones-end}

@@ -5,7 +5,7 @@ use borrow.Author.Needs.{needs, sfits-of}
 use lib.Ieee.{nan}
 use lib.ListN.{length}
 use lib.IntN.{pos, natAbs}
-use Rattle.runs.specs.Runs.{ruleF64}
+use Rattle.rules.specs.Rules.{ruleF64}
 use Rattle.runs.proofs.Place.{read, Index}
 use Rattle.indexed_runs.specs.IndexedRuns.{oneAt}
 use Rattle.indexed_runs.proofs.Ones.{ones-index, ones-is, one-turn}
@@ -35,17 +35,17 @@ clamped-requires c κs = search needs
 cast-b : tie.Need-cast-b
 cast-b c = place c .cast
 
-mul-apply : tie.Need-mul-apply
-mul-apply c = omega (arith, place c .below, at-start c .good .1 .1 .1 .0 .1)
+mul-apply-f64 : tie.Need-mul-apply-f64
+mul-apply-f64 c = omega (arith, place c .below, at-start c .good .1 .1 .1 .0 .1)
 
-slice-read-apply : tie.Need-slice-read-apply
-slice-read-apply c = let l : tie.After-clamped = search in place l .below
+slice-read-apply-f64 : tie.Need-slice-read-apply-f64
+slice-read-apply-f64 c = let l : tie.After-clamped = search in place l .below
 
-mul-apply-2 : tie.Need-mul-apply-2
-mul-apply-2 c = search needs
+mul-apply-f64-2 : tie.Need-mul-apply-f64-2
+mul-apply-f64-2 c = search needs
 
-shared-slice-read-apply : tie.Need-shared-slice-read-apply
-shared-slice-read-apply c = search needs
+shared-slice-read-apply-f64 : tie.Need-shared-slice-read-apply-f64
+shared-slice-read-apply-f64 c = search needs
 
 mul-dst : tie.Need-mul-dst
 mul-dst c = omega (arith, place (c .before .before .before) .below, at-start (c .before .before .before) .good .1 .1 .1 .0 .1)
@@ -61,7 +61,7 @@ returns c = let q = c .before .before .before in
     let a = at-start q in
     let m = natAbs (read (q .clamped .result)) in
     one-turn nan (ruleF64 (a .args .rule)) (a .args .src .now) pos (oneAt (a .args .starts .now) (a .args .limit)) (a .args .dst .now) (a .args .i) (a .args .i) m _ refl (by-start q)
-    (c .apply .ensures)
+    (c .apply-f64 .ensures)
 
 pub put-one-spec : {M : Type 1} → statement M
 put-one-spec =
@@ -71,10 +71,10 @@ put-one-spec =
     shared-slice-copy-out-x
     clamped-requires
     cast-b
-    mul-apply
-    slice-read-apply
-    mul-apply-2
-    shared-slice-read-apply
+    mul-apply-f64
+    slice-read-apply-f64
+    mul-apply-f64-2
+    shared-slice-read-apply-f64
     (λ c κs. tt)
     mul-dst
     slice-write-dst

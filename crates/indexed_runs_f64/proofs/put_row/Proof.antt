@@ -6,7 +6,7 @@ use borrow.Author.Needs.{needs}
 use lib.Ieee.{nan}
 use lib.ListN.{length}
 use lib.IntN.{natAbs}
-use Rattle.runs.specs.Runs.{ruleF64}
+use Rattle.rules.specs.Rules.{ruleF64}
 use Rattle.runs.proofs.Place.{read, Index, index}
 use Rattle.runs.proofs.Runs.{Part, part-of}
 use Rattle.indexed_runs.proofs.Ones.{part-place, place-in, ones-ask, part-put}

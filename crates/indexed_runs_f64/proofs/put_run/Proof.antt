@@ -2,7 +2,7 @@
 use mathlib.Core.Path.{refl}
 use borrow.Author.Needs.{needs}
 use lib.Ieee.{nan}
-use Rattle.runs.specs.Runs.{ruleF64}
+use Rattle.rules.specs.Rules.{ruleF64}
 use Rattle.runs.proofs.Turns.{none}
 use Rattle.indexed_runs.proofs.Places.{put-end}
 use Rattle.indexed_runs.proofs.Ones.{strided-asks, row-asks, put-row-end}

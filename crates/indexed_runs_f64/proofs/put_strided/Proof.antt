@@ -9,7 +9,8 @@ use lib.IntN.{pos, natAbs}
 use mir.Syntax.{w64}
 use mir.Val.{toZ}
 use Rattle.indexing.specs.Loops.{inOrder}
-use Rattle.runs.specs.Runs.{ruleF64, cellAt, line}
+use Rattle.rules.specs.Rules.{ruleF64}
+use Rattle.runs.specs.Runs.{cellAt, line}
 use Rattle.runs.proofs.Turns.{none, cell-more}
 use Rattle.runs.proofs.Place.{read, machine, Step}
 use Rattle.indexed_runs.specs.IndexedRuns.{clampedAt}
@@ -88,24 +89,24 @@ add-a c = plain-at (c .before .before) .fits
 cast-a : tie.Need-cast-a Inv-loop μ-loop
 cast-a c = plain-at (c .before .before) .cast
 
-mul-apply : tie.Need-mul-apply Inv-loop μ-loop
-mul-apply c = omega (arith, clamped-at c .below, start (c .before .before) .good .1 .1 .1 .0 .1)
+mul-apply-f64 : tie.Need-mul-apply-f64 Inv-loop μ-loop
+mul-apply-f64 c = omega (arith, clamped-at c .below, start (c .before .before) .good .1 .1 .1 .0 .1)
 
-slice-read-apply : tie.Need-slice-read-apply Inv-loop μ-loop
-slice-read-apply c =
+slice-read-apply-f64 : tie.Need-slice-read-apply-f64 Inv-loop μ-loop
+slice-read-apply-f64 c =
     let l : tie.After-clamp-window-start Inv-loop μ-loop = search in
     let h : tie.At-loop Inv-loop μ-loop = search in
     omega (arith, clamped-at l .below, h .loop .inv .1)
 
-mul-apply-2 : tie.Need-mul-apply-2 Inv-loop μ-loop
-mul-apply-2 c = omega (arith, plain-at (c .before .before .before) .below, start (c .before .before .before) .good .1 .0 .1)
+mul-apply-f64-2 : tie.Need-mul-apply-f64-2 Inv-loop μ-loop
+mul-apply-f64-2 c = omega (arith, plain-at (c .before .before .before) .below, start (c .before .before .before) .good .1 .0 .1)
 
-shared-slice-read-apply :
-    tie.Need-shared-slice-read-apply Inv-loop μ-loop
-shared-slice-read-apply c = let d : tie.In-loop Inv-loop μ-loop = search in plain-at d .below
+shared-slice-read-apply-f64 :
+    tie.Need-shared-slice-read-apply-f64 Inv-loop μ-loop
+shared-slice-read-apply-f64 c = let d : tie.In-loop Inv-loop μ-loop = search in plain-at d .below
 
-apply-requires : tie.Need-apply-requires Inv-loop μ-loop
-apply-requires c κs = tt
+apply-f64-requires : tie.Need-apply-f64-requires Inv-loop μ-loop
+apply-f64-requires c κs = tt
 
 mul-dst : tie.Need-mul-dst Inv-loop μ-loop
 mul-dst c = omega (arith, clamped-at (c .before .before .before) .below, start (c .before .before .before .before .before) .good .1 .1 .1 .0 .1)
@@ -128,7 +129,7 @@ loop-again c = let q = c .before .before .before in
     let to = natAbs (machine (a .args .base) (a .args .stride) (q .clamp-window-start .result)) in (
       omega arith,
       length-set (h .loop .dst) _ _ ∙ h .loop .inv .1,
-      cell-more nan (ruleF64 (a .args .rule)) (a .args .src .now) (line (read (a .args .s)) (read (a .args .ss))) (clampedAt (a .args .starts .now) (line (read (a .args .t)) (read (a .args .ts))) (read (a .args .base)) (read (a .args .stride)) (a .args .limit)) (a .args .dst .now) (h .loop .dst) (h .loop .i) from to _ (h .loop .inv .2) (plain-at d .index-is) (by-start q) (c .apply .ensures),
+      cell-more nan (ruleF64 (a .args .rule)) (a .args .src .now) (line (read (a .args .s)) (read (a .args .ss))) (clampedAt (a .args .starts .now) (line (read (a .args .t)) (read (a .args .ts))) (read (a .args .base)) (read (a .args .stride)) (a .args .limit)) (a .args .dst .now) (h .loop .dst) (h .loop .i) from to _ (h .loop .inv .2) (plain-at d .index-is) (by-start q) (c .apply-f64 .ensures),
     )
 
 same-length : tie.Need-same-length Inv-loop μ-loop
@@ -161,11 +162,11 @@ put-strided-spec =
     mul-a
     add-a
     cast-a
-    mul-apply
-    slice-read-apply
-    mul-apply-2
-    shared-slice-read-apply
-    apply-requires
+    mul-apply-f64
+    slice-read-apply-f64
+    mul-apply-f64-2
+    shared-slice-read-apply-f64
+    apply-f64-requires
     mul-dst
     slice-write-dst
     add-i

@@ -8,8 +8,9 @@ use lib.IntN.{pos}
 use mir.Syntax.{w64}
 use mir.Val.{toZ}
 use Rattle.indexing.specs.Loops.{inOrder}
-use Rattle.runs.specs.Runs.{ruleF64, cellAt}
-use Rattle.runs.specs.declared.Rule.the-variants as R
+use Rattle.rules.specs.Rules.{ruleF64}
+use Rattle.runs.specs.Runs.{cellAt}
+use Rattle.rules.specs.declared.RuleF64.the-variants as R
 use Rattle.runs.proofs.Turns.{none, more}
 use Rattle.indexed_runs.specs.IndexedRuns.{oneAt}
 use Rattle.indexed_runs.proofs.Ones.{ones-left, take-ones-end}
@@ -17,7 +18,7 @@ use Rattle.indexed_runs_f64.proofs.take_few.Statement.{statement}
 use Rattle.indexed_runs_f64.proofs.take_few.Tie as tie
 
 abbrev Inv-loop : tie.InvT-loop
-Inv-loop src starts dst₀ limit n i₀ dst i = (i ≤ n) × (length dst ≡ length dst₀) × (dst ≡ inOrder (cellAt nan (ruleF64 R.Copy) src (oneAt starts (toZ w64 limit)) pos) i dst₀)
+Inv-loop src starts dst₀ limit n i₀ dst i = (i ≤ n) × (length dst ≡ length dst₀) × (dst ≡ inOrder (cellAt nan (ruleF64 R.Replace) src (oneAt starts (toZ w64 limit)) pos) i dst₀)
 
 abbrev μ-loop : tie.MeasureT-loop
 μ-loop src starts dst₀ limit n i₀ dst i = n - i
@@ -55,7 +56,7 @@ returns : tie.Need-returns Inv-loop μ-loop
 returns c =
     let h = c .before in
     let a : tie.Start Inv-loop μ-loop = search in
-    take-ones-end nan (ruleF64 R.Copy) (a .args .src .now) (a .args .starts .now) (a .args .limit) (h .loop .i) _ (a .args .dst .now) (h .loop .dst) (a .fits .limit) (omega arith) (h .loop .inv .2)
+    take-ones-end nan (ruleF64 R.Replace) (a .args .src .now) (a .args .starts .now) (a .args .limit) (h .loop .i) _ (a .args .dst .now) (h .loop .dst) (a .fits .limit) (omega arith) (h .loop .inv .2)
 
 pub take-few-spec : {M : Type 1} → statement M
 take-few-spec =

@@ -5,8 +5,8 @@ use borrow.Author.Needs.{needs, sfits-of}
 use lib.Ieee.{nan}
 use lib.ListN.{length}
 use lib.IntN.{pos, natAbs}
-use Rattle.runs.specs.Runs.{ruleF64}
-use Rattle.runs.specs.declared.Rule.the-variants as R
+use Rattle.rules.specs.Rules.{ruleF64}
+use Rattle.rules.specs.declared.RuleF64.the-variants as R
 use Rattle.runs.proofs.Place.{read, Index}
 use Rattle.indexed_runs.specs.IndexedRuns.{oneAt}
 use Rattle.indexed_runs.proofs.Ones.{ones-index, ones-is, one-turn}
@@ -54,7 +54,7 @@ same-length c = search needs
 returns : tie.Need-returns
 returns c = let q = c .before in
     let a = at-start q in
-    one-turn nan (ruleF64 R.Copy) (a .args .src .now) (oneAt (a .args .starts .now) (a .args .limit)) pos (a .args .dst .now) (a .args .i) (natAbs (read (q .clamped .result))) (a .args .i) _ (by-start q) refl refl
+    one-turn nan (ruleF64 R.Replace) (a .args .src .now) (oneAt (a .args .starts .now) (a .args .limit)) pos (a .args .dst .now) (a .args .i) (natAbs (read (q .clamped .result))) (a .args .i) _ (by-start q) refl refl
 
 pub take-one-spec : {M : Type 1} → statement M
 take-one-spec =

@@ -2,8 +2,8 @@
 use mathlib.Core.Path.{refl}
 use borrow.Author.Needs.{needs}
 use lib.Ieee.{nan}
-use Rattle.runs.specs.Runs.{ruleF64}
-use Rattle.runs.specs.declared.Rule.the-variants as R
+use Rattle.rules.specs.Rules.{ruleF64}
+use Rattle.rules.specs.declared.RuleF64.the-variants as R
 use Rattle.runs.proofs.Turns.{none}
 use Rattle.indexed_runs.proofs.Places.{take-end}
 use Rattle.indexed_runs.proofs.Ones.{strided-asks, row-asks, take-row-end}
@@ -27,7 +27,7 @@ returns-2 c =
     let k : tie.After-take-row = search in
     let t : tie.Then4 = search in
     let a : tie.Start = search in
-    take-row-end (a .args .ts) (a .args .stride) (a .args .ds) (a .fits .ts) (a .fits .stride) (a .fits .ds) (t .before .before .if2 .taken) (t .before .if3 .taken) (t .if4 .taken) nan (ruleF64 R.Copy) (a .args .src .now) (a .args .starts .now) (a .args .t) (a .args .base) (a .args .d) (a .args .limit) (a .args .n) (a .args .dst .now) _ (a .fits .t) (a .fits .base) (a .fits .d) (k .take-row .ensures)
+    take-row-end (a .args .ts) (a .args .stride) (a .args .ds) (a .fits .ts) (a .fits .stride) (a .fits .ds) (t .before .before .if2 .taken) (t .before .if3 .taken) (t .if4 .taken) nan (ruleF64 R.Replace) (a .args .src .now) (a .args .starts .now) (a .args .t) (a .args .base) (a .args .d) (a .args .limit) (a .args .n) (a .args .dst .now) _ (a .fits .t) (a .fits .base) (a .fits .d) (k .take-row .ensures)
 
 take-strided-requires : tie.Need-take-strided-requires
 take-strided-requires c κs =
@@ -41,7 +41,7 @@ returns-3 : tie.Need-returns-3
 returns-3 c =
     let t : tie.After-take-strided = search in
     let a : tie.Start = search in
-    take-end nan (ruleF64 R.Copy) (a .args .src .now) (a .args .starts .now) (a .args .t) (a .args .ts) (a .args .base) (a .args .stride) (a .args .d) (a .args .ds) (a .args .limit) (a .args .n) (a .args .n) (a .args .dst .now) (t .take-strided .last .1 .1 .0) (a .fits .t) (a .fits .ts) (a .fits .base) (a .fits .stride) (a .fits .d) (a .fits .ds) refl (t .take-strided .ensures)
+    take-end nan (ruleF64 R.Replace) (a .args .src .now) (a .args .starts .now) (a .args .t) (a .args .ts) (a .args .base) (a .args .stride) (a .args .d) (a .args .ds) (a .args .limit) (a .args .n) (a .args .n) (a .args .dst .now) (t .take-strided .last .1 .1 .0) (a .fits .t) (a .fits .ts) (a .fits .base) (a .fits .stride) (a .fits .d) (a .fits .ds) refl (t .take-strided .ensures)
 
 pub take-run-spec : {M : Type 1} → statement M
 take-run-spec =

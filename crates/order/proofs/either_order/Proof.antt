@@ -13,7 +13,7 @@ same-length-2 c = search needs
 returns : tie.Need-returns
 returns c =
     let s = c .before .before .before .before .before .before .before .before .before .before .before .before in
-    in-either-order asIs _ _ (s .args .one .now) (s .args .other .now) _ _ _ _ _ _ _ _
+    in-either-order asIs _ _ _ _ (s .args .one .now) (s .args .other .now) _ _ _ _ _ _ _ _
     (c .before .before .before .before .before .before .before .before .before .before .scatter-by .ensures) (c .before .before .before .before .before .before .before .scatter-by2 .ensures) (c .before .before .before .before .scatter-by3 .ensures) (c .before .scatter-by4 .ensures)
 
 pub either-order-spec : {M : Type 1} → statement M

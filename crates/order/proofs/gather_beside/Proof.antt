@@ -16,7 +16,7 @@ same-length-3 c = search needs
 returns : tie.Need-returns
 returns c =
     let s = c .before .before .before .before .before .before .before .before .before .before .before in
-    beside asIs _ _ (s .args .grid .now) _ (s .args .one .now) (s .args .other .now) _ _ _ _ _
+    beside asIs _ _ _ (s .args .grid .now) _ (s .args .one .now) (s .args .other .now) _ _ _ _ _
     (c .before .before .before .before .before .before .before .before .gather-i32 .ensures) (c .before .before .before .before .before .scatter-by .ensures) (c .before .gather-i322 .ensures)
 
 pub gather-beside-spec : {M : Type 1} → statement M

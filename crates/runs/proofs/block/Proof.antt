@@ -4,8 +4,9 @@ use native.Mathlib.Omega.{arith}
 use borrow.Author.Needs.{needs}
 use lib.ListN.{length, replicate}
 use lib.IntN.{pos}
-use Rattle.runs.specs.Runs.{ruleI32, blockCells}
-use Rattle.runs.specs.declared.Rule.the-variants as R
+use Rattle.rules.specs.Rules.{ruleI32}
+use Rattle.runs.specs.Runs.{blockCells}
+use Rattle.rules.specs.declared.Rule.the-variants as R
 use Rattle.runs.proofs.Blocks.{by-way, room}
 use Rattle.runs.proofs.block.Statement.{statement}
 use Rattle.runs.proofs.block.Tie as tie
@@ -45,7 +46,7 @@ returns c =
     let b : tie.After-each = search in
     let a : tie.Start = search in
     let n = length (a .args .dst .now) in
-    by-way (pos 0) (ruleI32 R.Copy) (λ x u. refl) (a .args .src .now) (a .args .dst .now) (replicate blockCells (pos 0)) (b .each .last .1 .1 .0) _ (n - 0) (omega arith) (a .pre .0) (a .pre .1) (b .each .ensures) (e2 .each2 .ensures)
+    by-way (pos 0) (ruleI32 R.Replace) (λ x u. refl) (a .args .src .now) (a .args .dst .now) (replicate blockCells (pos 0)) (b .each .last .1 .1 .0) _ (n - 0) (omega arith) (a .pre .0) (a .pre .1) (b .each .ensures) (e2 .each2 .ensures)
 
 pub block-spec : {M : Type 1} → statement M
 block-spec =

@@ -5,9 +5,10 @@ use borrow.Author.Needs.{needs, sfits-of}
 use lib.ListN.{length, getD, length-set}
 use lib.IntN.{pos}
 use Rattle.indexing.specs.Loops.{inOrder}
-use Rattle.runs.specs.Runs.{ruleI32, cellAt}
+use Rattle.rules.specs.Rules.{ruleI32}
+use Rattle.runs.specs.Runs.{cellAt}
 use Rattle.runs.proofs.Turns.{none, cell-more}
-use Rattle.runs.proofs.Rules.{stored}
+use Rattle.rules.proofs.Stored.{stored}
 use Rattle.runs.proofs.each.Statement.{statement}
 use Rattle.runs.proofs.each.Tie as tie
 

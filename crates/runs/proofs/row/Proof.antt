@@ -2,7 +2,7 @@ use Prim.Native.Nat.{ℕ, _+_, _-_}
 use native.Mathlib.Omega.{arith}
 use lib.ListN.{length}
 use lib.IntN.{pos, natAbs}
-use Rattle.runs.specs.Runs.{ruleI32}
+use Rattle.rules.specs.Rules.{ruleI32}
 use Rattle.runs.proofs.Place.{read}
 use Rattle.runs.proofs.Runs.{Part, part-of, part-run}
 use borrow.Author.Needs.{needs}

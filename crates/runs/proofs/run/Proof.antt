@@ -1,6 +1,6 @@
 use mathlib.Core.Path.{refl}
 use lib.IntN.{pos}
-use Rattle.runs.specs.Runs.{ruleI32}
+use Rattle.rules.specs.Rules.{ruleI32}
 use Rattle.runs.proofs.Turns.{none}
 use Rattle.runs.proofs.Runs.{row-asks, row-end, ends}
 use borrow.Author.Needs.{needs}

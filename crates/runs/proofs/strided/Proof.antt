@@ -7,10 +7,11 @@ use lib.IntN.{pos}
 use mir.Syntax.{w64}
 use mir.Val.{toZ}
 use Rattle.indexing.specs.Loops.{inOrder}
-use Rattle.runs.specs.Runs.{ruleI32, cellAt, line}
+use Rattle.rules.specs.Rules.{ruleI32}
+use Rattle.runs.specs.Runs.{cellAt, line}
 use Rattle.runs.proofs.Turns.{none}
 use Rattle.runs.proofs.Place.{Step, step}
-use Rattle.runs.proofs.Rules.{stored}
+use Rattle.rules.proofs.Stored.{stored}
 use Rattle.runs.proofs.Runs.{turn, ends}
 use Rattle.runs.proofs.strided.Statement.{statement}
 use Rattle.runs.proofs.strided.Tie as tie

@@ -9,7 +9,7 @@ use lib.ListN.{length}
 use mir.Syntax.{w64}
 use mir.Val.{toZ}
 use Rattle.indexing.specs.Loops.{inOrder}
-use Rattle.runs.specs.Runs.{ruleF64}
+use Rattle.rules.specs.Rules.{ruleF64}
 use Rattle.runs.proofs.Place.{read}
 use Rattle.runs.proofs.Turns.{none, more}
 use Rattle.windows.specs.Windows.{windowed, Level}
@@ -42,8 +42,8 @@ accepts-requires c κs = tt
 returns : tie.Need-returns Inv-loop μ-loop
 returns c = refused _ _ _ _ (test-is (c .before) ∙ not-true _ (c .if1 .taken))
 
-rule-of-requires : tie.Need-rule-of-requires Inv-loop μ-loop
-rule-of-requires c κs = tt
+rule-f64-requires : tie.Need-rule-f64-requires Inv-loop μ-loop
+rule-f64-requires c κs = tt
 
 loop-holds : tie.Need-loop-holds Inv-loop μ-loop
 loop-holds c = (omega arith, refl, none _ 0 _ refl)
@@ -85,10 +85,10 @@ same-length c = c .before .loop .inv .1
 returns-2 : tie.Need-returns-2 Inv-loop μ-loop
 returns-2 c =
     let e : tie.Else1 Inv-loop μ-loop = search in
-    let r : tie.After-rule-of Inv-loop μ-loop = search in
+    let r : tie.After-rule-f64 Inv-loop μ-loop = search in
     let h = c .before in
     let a = start (e .before) in
-    ran _ _ _ _ (h .loop .dst) (h .loop .i) (passed e) (omega arith) (windows-by nan ruleF64 (a .args .src .now) _ _ (a .args .s) (a .args .d) (r .rule-of .ensures) (a .fits .s) (a .fits .d) (h .loop .i) (a .args .dst .now) (h .loop .dst) (a .args .extents .now) (a .args .ss .now) (a .args .ds .now) (a .args .rank) (h .loop .inv .2))
+    ran _ _ _ _ (h .loop .dst) (h .loop .i) (passed e) (omega arith) (windows-by nan ruleF64 (a .args .src .now) _ _ (a .args .s) (a .args .d) (r .rule-f64 .ensures) (a .fits .s) (a .fits .d) (h .loop .i) (a .args .dst .now) (h .loop .dst) (a .args .extents .now) (a .args .ss .now) (a .args .ds .now) (a .args .rank) (h .loop .inv .2))
 
 pub bench-window-f64-spec : {M : Type 1} → statement M
 bench-window-f64-spec =
@@ -98,7 +98,7 @@ bench-window-f64-spec =
     μ-loop
     accepts-requires
     returns
-    rule-of-requires
+    rule-f64-requires
     loop-holds
     run-axis-requires
     axes-requires

@@ -5,8 +5,9 @@ use native.Mathlib.Omega.{arith}
 use borrow.Author.Needs.{needs}
 use lib.Ieee.{binary64, nan, ofBits}
 use lib.ListN.{length, replicate}
-use Rattle.runs.specs.Runs.{ruleF64, blockCells}
-use Rattle.runs.specs.declared.Rule.the-variants as R
+use Rattle.rules.specs.Rules.{ruleF64}
+use Rattle.runs.specs.Runs.{blockCells}
+use Rattle.rules.specs.declared.RuleF64.the-variants as R
 use Rattle.runs.proofs.Blocks.{by-way, room}
 use Rattle.runs_f64.proofs.block.Statement.{statement}
 use Rattle.runs_f64.proofs.block.Tie as tie
@@ -46,7 +47,7 @@ returns c =
     let b : tie.After-each = search in
     let a : tie.Start = search in
     let n = length (a .args .dst .now) in
-    by-way nan (ruleF64 R.Copy) (λ x u. refl) (a .args .src .now) (a .args .dst .now) (replicate blockCells (ofBits binary64 0)) (b .each .last .1 .1 .0) _ (n - 0) (omega arith) (a .pre .0) (a .pre .1) (b .each .ensures) (e2 .each2 .ensures)
+    by-way nan (ruleF64 R.Replace) (λ x u. refl) (a .args .src .now) (a .args .dst .now) (replicate blockCells (ofBits binary64 0)) (b .each .last .1 .1 .0) _ (n - 0) (omega arith) (a .pre .0) (a .pre .1) (b .each .ensures) (e2 .each2 .ensures)
 
 pub block-spec : {M : Type 1} → statement M
 block-spec =

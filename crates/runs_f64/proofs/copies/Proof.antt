@@ -7,15 +7,16 @@ use lib.Ieee.{nan}
 use lib.ListN.{length}
 use lib.IntN.{pos}
 use Rattle.indexing.specs.Loops.{inOrder}
-use Rattle.runs.specs.Runs.{ruleF64, cellAt, blockCells}
-use Rattle.runs.specs.declared.Rule.the-variants as R
+use Rattle.rules.specs.Rules.{ruleF64}
+use Rattle.runs.specs.Runs.{cellAt, blockCells}
+use Rattle.rules.specs.declared.RuleF64.the-variants as R
 use Rattle.runs.proofs.Turns.{none, length-cells}
 use Rattle.runs.proofs.Blocks.{block-more}
 use Rattle.runs_f64.proofs.copies.Statement.{statement}
 use Rattle.runs_f64.proofs.copies.Tie as tie
 
 abbrev Inv-loop : tie.InvT-loop
-Inv-loop src dst₀ n at₀ dst at = (at ≤ length dst₀) × (length dst ≡ length dst₀) × (dst ≡ inOrder (cellAt nan (ruleF64 R.Copy) src pos pos) at dst₀)
+Inv-loop src dst₀ n at₀ dst at = (at ≤ length dst₀) × (length dst ≡ length dst₀) × (dst ≡ inOrder (cellAt nan (ruleF64 R.Replace) src pos pos) at dst₀)
 
 abbrev μ-loop : tie.MeasureT-loop
 μ-loop src dst₀ n at₀ dst at = length dst₀ - at
@@ -67,8 +68,8 @@ loop-again c =
     let h : tie.At-loop Inv-loop μ-loop = search in
     let a : tie.Start Inv-loop μ-loop = search in
     let at = h .loop .at in
-    let e = block-more nan (ruleF64 R.Copy) (a .args .src .now) (a .args .dst .now) (h .loop .dst) (b .block .last .1 .0) at blockCells (at + blockCells - at) (omega arith) (omega arith) (h .loop .inv .2) (b .block .ensures) in
-    (omega arith, ap length e ∙ length-cells nan (ruleF64 R.Copy) (a .args .src .now) pos pos (at + blockCells) (a .args .dst .now), e)
+    let e = block-more nan (ruleF64 R.Replace) (a .args .src .now) (a .args .dst .now) (h .loop .dst) (b .block .last .1 .0) at blockCells (at + blockCells - at) (omega arith) (omega arith) (h .loop .inv .2) (b .block .ensures) in
+    (omega arith, ap length e ∙ length-cells nan (ruleF64 R.Replace) (a .args .src .now) pos pos (at + blockCells) (a .args .dst .now), e)
 
 mul-block-3 : tie.Need-mul-block-3 Inv-loop μ-loop
 mul-block-3 c = search needs
@@ -108,8 +109,8 @@ returns c =
     let at = h .loop .at in
     let n = length (a .args .dst .now) in
     let e : at + (n - at) ≡ n = omega arith in
-    block-more nan (ruleF64 R.Copy) (a .args .src .now) (a .args .dst .now) (h .loop .dst) (b2 .block2 .last .1 .0) at (n - at) (n - at) refl (omega arith) (h .loop .inv .2) (b2 .block2 .ensures)
-    ∙ ap (λ (m : ℕ). inOrder (cellAt nan (ruleF64 R.Copy) (a .args .src .now) pos pos) m (a .args .dst .now)) e
+    block-more nan (ruleF64 R.Replace) (a .args .src .now) (a .args .dst .now) (h .loop .dst) (b2 .block2 .last .1 .0) at (n - at) (n - at) refl (omega arith) (h .loop .inv .2) (b2 .block2 .ensures)
+    ∙ ap (λ (m : ℕ). inOrder (cellAt nan (ruleF64 R.Replace) (a .args .src .now) pos pos) m (a .args .dst .now)) e
 
 pub copies-spec : {M : Type 1} → statement M
 copies-spec =

@@ -7,7 +7,8 @@ use lib.Ieee.{nan}
 use lib.ListN.{length, length-set}
 use lib.IntN.{pos}
 use Rattle.indexing.specs.Loops.{inOrder}
-use Rattle.runs.specs.Runs.{ruleF64, cellAt}
+use Rattle.rules.specs.Rules.{ruleF64}
+use Rattle.runs.specs.Runs.{cellAt}
 use Rattle.runs.proofs.Turns.{none, cell-more}
 use Rattle.runs_f64.proofs.each.Statement.{statement}
 use Rattle.runs_f64.proofs.each.Tie as tie
@@ -23,20 +24,20 @@ loop-holds c =
     let a : tie.Start Inv-loop μ-loop = search in
     (omega arith, refl, none _ 0 (a .args .dst .now) refl)
 
-mul-apply : tie.Need-mul-apply Inv-loop μ-loop
-mul-apply c = search needs
+mul-apply-f64 : tie.Need-mul-apply-f64 Inv-loop μ-loop
+mul-apply-f64 c = search needs
 
-slice-read-apply : tie.Need-slice-read-apply Inv-loop μ-loop
-slice-read-apply c = omega arith
+slice-read-apply-f64 : tie.Need-slice-read-apply-f64 Inv-loop μ-loop
+slice-read-apply-f64 c = omega arith
 
-mul-apply-2 : tie.Need-mul-apply-2 Inv-loop μ-loop
-mul-apply-2 c = search needs
+mul-apply-f64-2 : tie.Need-mul-apply-f64-2 Inv-loop μ-loop
+mul-apply-f64-2 c = search needs
 
-shared-slice-read-apply : tie.Need-shared-slice-read-apply Inv-loop μ-loop
-shared-slice-read-apply c = omega arith
+shared-slice-read-apply-f64 : tie.Need-shared-slice-read-apply-f64 Inv-loop μ-loop
+shared-slice-read-apply-f64 c = omega arith
 
-apply-requires : tie.Need-apply-requires Inv-loop μ-loop
-apply-requires c κs = tt
+apply-f64-requires : tie.Need-apply-f64-requires Inv-loop μ-loop
+apply-f64-requires c κs = tt
 
 mul-dst : tie.Need-mul-dst Inv-loop μ-loop
 mul-dst c = search needs
@@ -58,7 +59,7 @@ loop-again c =
       omega arith,
       length-set (h .loop .dst) _ _ ∙ h .loop .inv .1,
       cell-more nan (ruleF64 (a .args .rule)) (a .args .src .now) pos pos (a .args .dst .now) (h .loop .dst) i i i _ (h .loop .inv .2) refl refl
-          (c .apply .ensures),
+          (c .apply-f64 .ensures),
     )
 
 same-length : tie.Need-same-length Inv-loop μ-loop
@@ -78,11 +79,11 @@ each-spec =
     Inv-loop
     μ-loop
     loop-holds
-    mul-apply
-    slice-read-apply
-    mul-apply-2
-    shared-slice-read-apply
-    apply-requires
+    mul-apply-f64
+    slice-read-apply-f64
+    mul-apply-f64-2
+    shared-slice-read-apply-f64
+    apply-f64-requires
     mul-dst
     slice-write-dst
     add-at

@@ -1,7 +1,7 @@
 -- Written by tests/twins from crates/runs/proofs/plane/Proof.antt.
 use mathlib.Core.Path.{refl}
 use lib.Ieee.{nan}
-use Rattle.runs.specs.Runs.{ruleF64}
+use Rattle.rules.specs.Rules.{ruleF64}
 use Rattle.runs.proofs.Runs.{rows-ask, rows-end, runs-end}
 use borrow.Author.Needs.{needs}
 use Rattle.runs_f64.proofs.plane.Statement.{statement}

@@ -4,7 +4,7 @@ use native.Mathlib.Omega.{arith}
 use lib.Ieee.{nan}
 use lib.ListN.{length}
 use lib.IntN.{natAbs}
-use Rattle.runs.specs.Runs.{ruleF64}
+use Rattle.rules.specs.Rules.{ruleF64}
 use Rattle.runs.proofs.Place.{read}
 use Rattle.runs.proofs.Runs.{Part, part-of, part-run}
 use borrow.Author.Needs.{needs}

@@ -1,7 +1,7 @@
 -- Written by tests/twins from crates/runs/proofs/run/Proof.antt.
 use mathlib.Core.Path.{refl}
 use lib.Ieee.{nan}
-use Rattle.runs.specs.Runs.{ruleF64}
+use Rattle.rules.specs.Rules.{ruleF64}
 use Rattle.runs.proofs.Turns.{none}
 use Rattle.runs.proofs.Runs.{row-asks, row-end, ends}
 use borrow.Author.Needs.{needs}

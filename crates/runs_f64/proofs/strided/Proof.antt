@@ -7,7 +7,8 @@ use lib.ListN.{length, length-set}
 use mir.Syntax.{w64}
 use mir.Val.{toZ}
 use Rattle.indexing.specs.Loops.{inOrder}
-use Rattle.runs.specs.Runs.{ruleF64, cellAt, line}
+use Rattle.rules.specs.Rules.{ruleF64}
+use Rattle.runs.specs.Runs.{cellAt, line}
 use Rattle.runs.proofs.Turns.{none}
 use Rattle.runs.proofs.Place.{Step, step}
 use Rattle.runs.proofs.Runs.{turn, ends}
@@ -55,26 +56,26 @@ add-b c = to c .fits
 cast-b : tie.Need-cast-b Inv-loop μ-loop
 cast-b c = to c .cast
 
-mul-apply : tie.Need-mul-apply Inv-loop μ-loop
-mul-apply c = let a : tie.Start Inv-loop μ-loop = search in omega (arith, to c .below, a .good .1 .1 .0 .1)
+mul-apply-f64 : tie.Need-mul-apply-f64 Inv-loop μ-loop
+mul-apply-f64 c = let a : tie.Start Inv-loop μ-loop = search in omega (arith, to c .below, a .good .1 .1 .0 .1)
 
-slice-read-apply : tie.Need-slice-read-apply Inv-loop μ-loop
-slice-read-apply c =
+slice-read-apply-f64 : tie.Need-slice-read-apply-f64 Inv-loop μ-loop
+slice-read-apply-f64 c =
     let d : tie.In-loop Inv-loop μ-loop = search in
     let h : tie.At-loop Inv-loop μ-loop = search in
     omega (arith, to d .below, h .loop .inv .1)
 
-mul-apply-2 : tie.Need-mul-apply-2 Inv-loop μ-loop
-mul-apply-2 c =
+mul-apply-f64-2 : tie.Need-mul-apply-f64-2 Inv-loop μ-loop
+mul-apply-f64-2 c =
     let a : tie.Start Inv-loop μ-loop = search in
     let d = c .before in
     omega (arith, from d .below, a .good .1 .0 .1)
 
-shared-slice-read-apply : tie.Need-shared-slice-read-apply Inv-loop μ-loop
-shared-slice-read-apply c = let d : tie.In-loop Inv-loop μ-loop = search in from d .below
+shared-slice-read-apply-f64 : tie.Need-shared-slice-read-apply-f64 Inv-loop μ-loop
+shared-slice-read-apply-f64 c = let d : tie.In-loop Inv-loop μ-loop = search in from d .below
 
-apply-requires : tie.Need-apply-requires Inv-loop μ-loop
-apply-requires c κs = tt
+apply-f64-requires : tie.Need-apply-f64-requires Inv-loop μ-loop
+apply-f64-requires c κs = tt
 
 mul-dst : tie.Need-mul-dst Inv-loop μ-loop
 mul-dst c =
@@ -99,7 +100,7 @@ loop-again c =
       omega arith,
       length-set (h .loop .dst) _ _ ∙ h .loop .inv .1,
       turn nan (ruleF64 (a .args .rule)) (a .args .src .now) (a .args .s) (a .args .d) (a .args .ss) (a .args .ds) (a .args .dst .now) (h .loop .dst) (h .loop .i) _ _ _ (h .loop .inv .2) (from d) (to d)
-          (c .apply .ensures),
+          (c .apply-f64 .ensures),
     )
 
 same-length : tie.Need-same-length Inv-loop μ-loop
@@ -125,11 +126,11 @@ strided-spec =
     mul-b
     add-b
     cast-b
-    mul-apply
-    slice-read-apply
-    mul-apply-2
-    shared-slice-read-apply
-    apply-requires
+    mul-apply-f64
+    slice-read-apply-f64
+    mul-apply-f64-2
+    shared-slice-read-apply-f64
+    apply-f64-requires
     mul-dst
     slice-write-dst
     add-i

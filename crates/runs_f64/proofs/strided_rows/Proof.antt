@@ -7,7 +7,8 @@ use lib.ListN.{length}
 use mir.Syntax.{w64}
 use mir.Val.{toZ}
 use Rattle.indexing.specs.Loops.{inOrder}
-use Rattle.runs.specs.Runs.{ruleF64, runAt, Line}
+use Rattle.rules.specs.Rules.{ruleF64}
+use Rattle.runs.specs.Runs.{runAt, Line}
 use Rattle.runs.proofs.Turns.{none}
 use Rattle.runs.proofs.Place.{read, machine}
 use Rattle.runs.proofs.Runs.{Move, move-source, move-dest, runs-more, runs-end}

@@ -2,7 +2,7 @@ use mathlib.Core.Path.{sym, _∙_}
 use lib.IntN.{pos}
 use borrow.Author.Needs.{needs}
 use borrow.Author.Tests.{not-true, not-false}
-use Rattle.runs.specs.Runs.{ruleI32}
+use Rattle.rules.specs.Rules.{ruleI32}
 use Rattle.calls.proofs.Does.{refused, done}
 use Rattle.scatter_move.proofs.Empty.{without-cells, never}
 use Rattle.scatter_move.proofs.move_i32.Statement.{statement}

@@ -2,7 +2,7 @@ use lib.Ieee.{nan}
 use mir.Syntax.{w64}
 use mir.Val.{SFits}
 use Rattle.integer.specs.Z.{back}
-use Rattle.runs.specs.Runs.{ruleF64}
+use Rattle.rules.specs.Rules.{ruleF64}
 use Rattle.scatter_move.proofs.Parts.{back-end}
 use borrow.Author.Needs.{needs}
 use Rattle.scatter_move.proofs.run_f64.Statement.{statement}

@@ -2,7 +2,7 @@ use lib.IntN.{pos}
 use mir.Syntax.{w64}
 use mir.Val.{SFits}
 use Rattle.integer.specs.Z.{back}
-use Rattle.runs.specs.Runs.{ruleI32}
+use Rattle.rules.specs.Rules.{ruleI32}
 use Rattle.scatter_move.proofs.Parts.{back-end}
 use borrow.Author.Needs.{needs}
 use Rattle.scatter_move.proofs.run_i32.Statement.{statement}

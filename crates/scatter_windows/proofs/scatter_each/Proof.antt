@@ -1,5 +1,5 @@
 use lib.IntN.{pos}
-use Rattle.runs.specs.Runs.{ruleI32}
+use Rattle.rules.specs.Rules.{ruleI32}
 use Rattle.scatter_windows.proofs.Whole.{one-batch, one-end, put-level, put-end}
 use borrow.Author.Needs.{needs}
 use Rattle.scatter_windows.proofs.scatter_each.Statement.{statement}

@@ -1,6 +1,6 @@
 -- Written by tests/twins from crates/scatter_windows/proofs/scatter_each/Proof.antt.
 use lib.Ieee.{nan}
-use Rattle.runs.specs.Runs.{ruleF64}
+use Rattle.rules.specs.Rules.{ruleF64}
 use Rattle.scatter_windows.proofs.Whole.{one-batch, one-end, put-level, put-end}
 use borrow.Author.Needs.{needs}
 use Rattle.scatter_windows_f64.proofs.scatter_each.Statement.{statement}

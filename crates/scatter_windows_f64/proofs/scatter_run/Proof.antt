@@ -4,7 +4,7 @@ use native.Mathlib.Omega.{arith}
 use borrow.Author.Needs.{needs, sfits-of}
 use lib.Ieee.{nan}
 use Rattle.integer.specs.Z.{back}
-use Rattle.runs.specs.Runs.{ruleF64}
+use Rattle.rules.specs.Rules.{ruleF64}
 use Rattle.runs.proofs.Turns.{none}
 use Rattle.indexed_runs.proofs.Puts.{puts-end}
 use Rattle.scatter_windows.proofs.Single.{at-sum, single-asks, single-end}

@@ -9,7 +9,7 @@ use lib.IntN.{pos}
 use mir.Syntax.{w64}
 use mir.Val.{SFits, toZ}
 use Rattle.indexing.specs.Loops.{inOrder}
-use Rattle.runs.specs.Runs.{ruleI32}
+use Rattle.rules.specs.Rules.{ruleI32}
 use Rattle.runs.proofs.Turns.{none}
 use Rattle.runs.proofs.Place.{machine, Step}
 use Rattle.windows.specs.Windows.{Level}
