@@ -15,7 +15,21 @@
 
    A view is a layout (extents and strides of equal length, in elements, at most STRIDED_RANK_LIMIT axes) with an offset into
    its slice. Coordinates go first axis fastest. Axis lists are those of StableHLO's gather and scatter. Starts are clamped, in
-   a gather and in a scatter. An i32 sum wraps modulo 2^32; f64 adds round one by one, in order.
+   a gather and in a scatter.
+
+   A scatter takes its updates in order, and the rule says what an element becomes of what it holds and of each update that lands
+   on it:
+   - STRIDED_ADD: the sum. An i32 sum wraps modulo 2^32; an f64 sum rounds once.
+   - STRIDED_LOWEST: the update where it is less than what is held; otherwise what is held stays.
+   - STRIDED_HIGHEST: the update where it is greater than what is held; otherwise what is held stays.
+   - STRIDED_REPLACE: the update. The last one that lands on an element stays there.
+   - STRIDED_CEILING, for f64 alone, with a limit: the sum, or the limit where the sum is greater than it. This is done at every
+     update, not once at the end.
+   A comparison with NaN is false: under Lowest and Highest what is held stays where it or the update is NaN, and under Ceiling the
+   sum stands where it or the limit is NaN. +0 and -0 are neither less nor greater than each other. What stays, and what takes its
+   place, keeps its bits; which NaN a sum gives is left open.
+   A call by lists names its rule. One that is not listed for the element is refused before everything else, and changes nothing.
+   The functions that run a stored job mean Add.
 
    No function takes a plan: a call compiles what it is given, lists or a stored job, and runs it. So the half of 8 that
    refuses a plan which compile did not make has no place here; it is in the calls with a plan, for Rattle programs. */
@@ -32,10 +46,10 @@ extern "C" {
 /* The version of these functions, which grows with every change of them, and which the function returns. An archive of another
    version has no function of this name, and a program that includes this header does not link with it (with GCC and Clang; with
    other compilers, if it calls the function). */
-#define STRIDED_VERSION 1
-uint64_t strided_version_1(void);
+#define STRIDED_VERSION 2
+uint64_t strided_version_2(void);
 #if defined(__GNUC__)
-__attribute__((used)) static uint64_t (*const strided_version_wanted)(void) = strided_version_1;
+__attribute__((used)) static uint64_t (*const strided_version_wanted)(void) = strided_version_2;
 #endif
 
 #define STRIDED_RANK_LIMIT 8
@@ -53,11 +67,15 @@ enum {
     STRIDED_SHAPE_MISMATCH = 7,         /* a and b: the ranks of the given and of the expected shape */
     STRIDED_PLAN_LAYOUT_MISMATCH = 8,   /* a call's layout is not the one that is compiled for */
     STRIDED_BUFFER_BOUNDS = 9,          /* a: the view, from 1; or a: 0, b: the bytes that a writer needs */
-    STRIDED_JOB_BYTES = 10              /* a: the place in a stored job, from 0 */
+    STRIDED_JOB_BYTES = 10,             /* a: the place in a stored job, from 0 */
+    STRIDED_UNLISTED_RULE = 18          /* a: the rule as it was given; before every other refusal */
 };
 
 /* The element of a stored job. */
 enum { STRIDED_I32 = 1, STRIDED_F64 = 2 };
+
+/* The rule of a scatter: what an element becomes of what it holds and an update. STRIDED_CEILING is listed for f64 alone. */
+enum { STRIDED_ADD = 1, STRIDED_LOWEST = 2, STRIDED_HIGHEST = 3, STRIDED_REPLACE = 4, STRIDED_CEILING = 5 };
 
 /* ---- stored jobs: a gather or a scatter with its views, as bytes */
 
@@ -95,7 +113,8 @@ void strided_write_scatter_job(
     uint64_t index_vector_dim,
     uint8_t *out, size_t out_count, uint64_t answer[3]);
 
-/* Read a job, compile it and call it. A job of another kind or element is refused by 10, at byte 5 or 6; none is refused by 8. */
+/* Read a job, compile it and call it; a scatter adds. A job of another kind or element is refused by 10, at byte 5 or 6; none is
+   refused by 8. */
 void strided_gather_i32(
     const uint8_t *job, size_t job_count, const int32_t *operand, size_t operand_count,
     const int64_t *starts, size_t starts_count, int32_t *destination, size_t destination_count, uint64_t answer[3]);
@@ -140,7 +159,7 @@ void strided_scatter_refusal(
     uint64_t answer[3]);
 
 /* Compile by the first three layouts and the lists, then call on the three views. A view whose layout is not the one that was
-   compiled for it is refused by 8. */
+   compiled for it is refused by 8. A scatter goes by its rule; the limit is read by STRIDED_CEILING alone, and may be any f64. */
 void strided_raw_gather_i32(
     const uint64_t *operand_extents, size_t operand_extents_count,
     const int64_t *operand_strides, size_t operand_strides_count,
@@ -188,6 +207,7 @@ void strided_raw_gather_f64(
     uint64_t answer[3]);
 
 void strided_raw_scatter_i32(
+    uint64_t rule,
     const uint64_t *index_extents, size_t index_extents_count,
     const int64_t *index_strides, size_t index_strides_count,
     const uint64_t *updates_extents, size_t updates_extents_count,
@@ -210,6 +230,7 @@ void strided_raw_scatter_i32(
     uint64_t answer[3]);
 
 void strided_raw_scatter_f64(
+    uint64_t rule, double limit,
     const uint64_t *index_extents, size_t index_extents_count,
     const int64_t *index_strides, size_t index_strides_count,
     const uint64_t *updates_extents, size_t updates_extents_count,

@@ -1,8 +1,10 @@
 /* The library as a C program links it: document 01's window read and cuts added and StableHLO's gather, raw and by stored jobs,
-   in i32 and f64, with refusals on the way. Prints each check that fails; the exit status is 0 where none does. */
+   in i32 and f64, with refusals on the way; scatters by each rule. Prints each check that fails; the exit status is 0 where none
+   does. */
 #include "strided.h"
 
 #include <inttypes.h>
+#include <math.h>
 #include <stdio.h>
 #include <string.h>
 
@@ -99,7 +101,7 @@ static void cuts_added(void) {
     strided_scatter_refusal(SLICE(three), SLICE(one), SLICE(three), SLICE(one), SLICE(five), SLICE(one), none, 0,
                             SLICE(axis_0), SLICE(axis_0), 2, answer);
     answered(answer, STRIDED_INVALID_AXIS, 2, 2, "a vector axis past the index's rank");
-    strided_raw_scatter_i32(SLICE(three), SLICE(one), SLICE(three), SLICE(one), SLICE(five), SLICE(one), none, 0,
+    strided_raw_scatter_i32(STRIDED_ADD, SLICE(three), SLICE(one), SLICE(three), SLICE(one), SLICE(five), SLICE(one), none, 0,
                             SLICE(axis_0), SLICE(axis_0), 1, SLICE(three), SLICE(one), 0, SLICE(three), SLICE(one), 0,
                             SLICE(five), SLICE(one), 0, SLICE(cut_starts), SLICE(updates), SLICE(grid), answer);
     answered(answer, STRIDED_DONE, 0, 0, "the cuts added");
@@ -155,11 +157,11 @@ static void cuts_added_f64(void) {
     const double updates[] = {3, 4, 5}, expected[] = {7, 0, 0, 0, 5};
     double grid[] = {0, 0, 0, 0, 0};
     uint64_t answer[3];
-    strided_raw_scatter_f64(SLICE(three), SLICE(one), SLICE(three), SLICE(one), SLICE(five), SLICE(one), none, 0,
+    strided_raw_scatter_f64(STRIDED_ADD, 0, SLICE(three), SLICE(one), SLICE(three), SLICE(one), SLICE(five), SLICE(one), none, 0,
                             SLICE(axis_0), SLICE(axis_0), 1, SLICE(five), SLICE(one), 0, SLICE(three), SLICE(one), 0,
                             SLICE(five), SLICE(one), 0, SLICE(cut_starts), SLICE(updates), SLICE(grid), answer);
     answered(answer, STRIDED_PLAN_LAYOUT_MISMATCH, 0, 0, "a call's index of another layout");
-    strided_raw_scatter_f64(SLICE(three), SLICE(one), SLICE(three), SLICE(one), SLICE(five), SLICE(one), none, 0,
+    strided_raw_scatter_f64(STRIDED_ADD, 0, SLICE(three), SLICE(one), SLICE(three), SLICE(one), SLICE(five), SLICE(one), none, 0,
                             SLICE(axis_0), SLICE(axis_0), 1, SLICE(three), SLICE(one), 0, SLICE(three), SLICE(one), 0,
                             SLICE(five), SLICE(one), 0, SLICE(cut_starts), SLICE(updates), SLICE(grid), answer);
     answered(answer, STRIDED_DONE, 0, 0, "the cuts added in f64");
@@ -181,14 +183,109 @@ static void window_read_by_i32_job(void) {
     check(memcmp(destination, expected, sizeof expected) == 0, "the window read by a job of i32 gives 40 50 10 20");
 }
 
+/* Three updates at the starts 0, 0 and 9, which is clamped to 4, by a rule. The vector axis is 1; any other is refused. */
+static void put_i32(uint64_t rule, uint64_t vector, const int32_t updates[3], int32_t grid[5], uint64_t answer[3]) {
+    strided_raw_scatter_i32(rule, SLICE(three), SLICE(one), SLICE(three), SLICE(one), SLICE(five), SLICE(one), none, 0,
+                            SLICE(axis_0), SLICE(axis_0), vector, SLICE(three), SLICE(one), 0, SLICE(three), SLICE(one), 0,
+                            SLICE(five), SLICE(one), 0, SLICE(cut_starts), updates, 3, grid, 5, answer);
+}
+
+static void put_f64(uint64_t rule, double limit, uint64_t vector, const double updates[3], double grid[5], uint64_t answer[3]) {
+    strided_raw_scatter_f64(rule, limit, SLICE(three), SLICE(one), SLICE(three), SLICE(one), SLICE(five), SLICE(one), none, 0,
+                            SLICE(axis_0), SLICE(axis_0), vector, SLICE(three), SLICE(one), 0, SLICE(three), SLICE(one), 0,
+                            SLICE(five), SLICE(one), 0, SLICE(cut_starts), updates, 3, grid, 5, answer);
+}
+
+static const struct {
+    uint64_t rule;
+    int32_t expected[5];
+    const char *what;
+} by_rules[] = {
+    {STRIDED_ADD, {29, 20, 30, 40, 110}, "added"},
+    {STRIDED_LOWEST, {7, 20, 30, 40, 50}, "the lowest"},
+    {STRIDED_HIGHEST, {12, 20, 30, 40, 60}, "the highest"},
+    {STRIDED_REPLACE, {7, 20, 30, 40, 60}, "replaced"},
+};
+
+static void put_by_each_rule(void) {
+    const int32_t updates[] = {12, 7, 60};
+    const double soundings[] = {12, 7, 60};
+    uint64_t answer[3];
+    for (size_t i = 0; i < COUNT(by_rules); i++) {
+        int32_t grid[] = {10, 20, 30, 40, 50};
+        double depths[] = {10, 20, 30, 40, 50};
+        put_i32(by_rules[i].rule, 1, updates, grid, answer);
+        answered(answer, STRIDED_DONE, 0, 0, by_rules[i].what);
+        check(memcmp(grid, by_rules[i].expected, sizeof grid) == 0, by_rules[i].what);
+        put_f64(by_rules[i].rule, -1, 1, soundings, depths, answer);
+        answered(answer, STRIDED_DONE, 0, 0, by_rules[i].what);
+        for (int cell = 0; cell < 5; cell++) {
+            check(depths[cell] == by_rules[i].expected[cell], by_rules[i].what);
+        }
+    }
+}
+
+static void put_under_a_ceiling(void) {
+    const double updates[] = {9, -2, 3}, expected[] = {3, 99, 99, 99, 4.5};
+    double grid[] = {1, 99, 99, 99, 1.5}, nan_grid[] = {1, 99, 99, 99, NAN};
+    uint64_t answer[3];
+    put_f64(STRIDED_CEILING, 5, 1, updates, grid, answer);
+    answered(answer, STRIDED_DONE, 0, 0, "under a ceiling");
+    check(memcmp(grid, expected, sizeof grid) == 0, "a ceiling holds at every update, and where nothing lands the cell stays");
+    put_f64(STRIDED_CEILING, NAN, 1, updates, nan_grid, answer);
+    check(nan_grid[0] == 8 && isnan(nan_grid[4]), "a limit that is NaN holds nothing back, and a sum that is NaN stands");
+}
+
+static void put_with_nan_and_zeros(void) {
+    const double updates[] = {NAN, NAN, 0.0}, before[] = {1, 2, 3, 4, -0.0};
+    double grid[] = {1, 2, 3, 4, -0.0};
+    uint64_t answer[3];
+    put_f64(STRIDED_LOWEST, 0, 1, updates, grid, answer);
+    put_f64(STRIDED_HIGHEST, 0, 1, updates, grid, answer);
+    answered(answer, STRIDED_DONE, 0, 0, "NaN and zeros");
+    check(memcmp(grid, before, sizeof grid) == 0, "neither NaN nor a zero of the other sign is lower or higher");
+    put_f64(STRIDED_REPLACE, 0, 1, updates, grid, answer);
+    check(isnan(grid[0]) && !signbit(grid[4]), "NaN and zeros replace");
+    put_f64(STRIDED_LOWEST, 0, 1, before, grid, answer);
+    check(isnan(grid[0]), "a NaN that is held stays");
+}
+
+/* Rules that are not listed, alone and beside a vector axis that is refused too. */
+static void unlisted_rules(void) {
+    const uint64_t rules[] = {0, STRIDED_CEILING, 6, UINT64_MAX};
+    const int32_t updates[] = {12, 7, 60}, before[] = {10, 20, 30, 40, 50};
+    const double soundings[] = {12, 7, 60}, depths_before[] = {10, 20, 30, 40, 50};
+    int32_t grid[] = {10, 20, 30, 40, 50};
+    double depths[] = {10, 20, 30, 40, 50};
+    uint64_t answer[3];
+    for (uint64_t vector = 1; vector < 3; vector++) {
+        for (size_t i = 0; i < COUNT(rules); i++) {
+            put_i32(rules[i], vector, updates, grid, answer);
+            answered(answer, STRIDED_UNLISTED_RULE, rules[i], 0, "a rule that is not listed for i32");
+            if (rules[i] != STRIDED_CEILING) {
+                put_f64(rules[i], 1, vector, soundings, depths, answer);
+                answered(answer, STRIDED_UNLISTED_RULE, rules[i], 0, "a rule that is not listed for f64");
+            }
+        }
+    }
+    put_i32(STRIDED_REPLACE, 2, updates, grid, answer);
+    answered(answer, STRIDED_INVALID_AXIS, 2, 2, "a rule that is listed, and a vector axis past the index's rank");
+    check(memcmp(grid, before, sizeof grid) == 0, "a refused rule changes no i32");
+    check(memcmp(depths, depths_before, sizeof depths) == 0, "a refused rule changes no f64");
+}
+
 int main(void) {
-    check(strided_version_1() == STRIDED_VERSION, "the archive is of the header's version");
+    check(strided_version_2() == STRIDED_VERSION && STRIDED_VERSION == 2, "the archive is of the header's version");
     window_read();
     window_read_by_job();
     window_read_by_i32_job();
     cuts_added();
     cuts_added_by_job();
     cuts_added_f64();
+    put_by_each_rule();
+    put_under_a_ceiling();
+    put_with_nan_and_zeros();
+    unlisted_rules();
     printed_gather();
     printf("C program: %d checks, %d failed\n", checks, failures);
     return failures != 0;

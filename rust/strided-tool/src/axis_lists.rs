@@ -1,4 +1,4 @@
-//! The axis lists as options, for calls without a stored job.
+//! The axis lists and the rule as options, for calls without a stored job.
 
 use std::str::FromStr;
 
@@ -6,6 +6,7 @@ use clap::Args;
 use strided::{GatherSpec, ScatterSpec};
 
 use crate::job_text::axes;
+use crate::rule::RuleName;
 
 /// Numbers with commas between them.
 #[derive(Clone, Debug, Default, Eq, PartialEq)]
@@ -45,7 +46,7 @@ pub struct GatherLists {
     vector: Vector,
 }
 
-// A scatter's lists.
+// A scatter's lists and its rule.
 #[derive(Args)]
 #[command(next_help_heading = "Without a job")]
 pub struct ScatterLists {
@@ -61,6 +62,10 @@ pub struct ScatterLists {
     /// The axis of the components.
     #[command(flatten)]
     vector: Vector,
+    /// How updates are put on the grid: add, lowest, highest, replace or, on a grid of f64, ceiling:LIMIT; left out: add
+    // A job beside it is refused in other words than clap has.
+    #[arg(long, value_name = "RULE")]
+    pub rule: Option<RuleName>,
 }
 
 // What both have.

@@ -41,7 +41,7 @@ pub enum Command {
     Job(JobCommand),
     /// Read windows of a grid at given starts
     Gather(GatherArgs),
-    /// Add updates to a grid at given starts
+    /// Put updates on a grid at given starts: add them, or go by another rule
     Scatter(ScatterArgs),
     /// Draw a grid of two axes, or a window of it, as PNG
     Show(ShowArgs),
@@ -173,10 +173,20 @@ Without one, extents and order come from the files, and StableHLO's axis lists f
 The output is written beside and takes its name at the end, so that a failure leaves an old file as it was.
 An old file is locked from before the grid is read: of runs on one file at once, each waits for the one before.
 
+A stored job adds. Without one --rule says what a cell becomes of what it holds and each update that lands on it:
+  add             the sum; of i32 it wraps
+  lowest          the update where it is less; otherwise the cell stays
+  highest         the update where it is greater; otherwise the cell stays
+  replace         the update
+  ceiling:LIMIT   of f64: the sum, or LIMIT where the sum is greater, at every update
+A comparison with NaN is false.
+
 Example:
   strided scatter --job cut.job --starts at.npy --updates cuts.npy --grid bed.npy --out bed.npy
   strided scatter --update-window-dims 1,2 --scatter-dims-to-operand-dims 0,1 --index-vector-dim 1 \\
-    --starts at.npy --updates cuts.npy --grid bed.npy --out bed.npy")]
+    --starts at.npy --updates cuts.npy --grid bed.npy --out bed.npy
+  strided scatter --rule lowest --inserted-window-dims 0,1 --scatter-dims-to-operand-dims 0,1 \\
+    --index-vector-dim 1 --starts at.npy --updates soundings.npy --grid bed.npy --out bed.npy")]
 pub struct ScatterArgs {
     /// The stored job; without it the axis lists are given
     #[arg(long, value_name = "JOB")]
@@ -187,7 +197,7 @@ pub struct ScatterArgs {
     /// The updates, of the grid's element
     #[arg(long, value_name = "NPY")]
     pub updates: PathBuf,
-    /// The grid that they are added to, i32 or f64, as the job is
+    /// The grid that they are put on, i32 or f64, as the job is
     #[arg(long, value_name = "NPY")]
     pub grid: PathBuf,
     /// The grid afterwards; it may be the file of --grid
@@ -196,7 +206,7 @@ pub struct ScatterArgs {
     /// Files of any shape and order lend their elements in memory order, by the job's layouts
     #[arg(long, conflicts_with = "index_vector_dim")]
     pub any_shape: bool,
-    /// Add also more than 2^36 updates, which take a minute and more
+    /// Do also a scatter of more than 2^36 updates, which takes a minute and more
     #[arg(long)]
     pub yes: bool,
     /// How the output is locked.

@@ -10,6 +10,7 @@ mod output;
 mod picture;
 mod progress;
 mod refusal;
+mod rule;
 mod window;
 
 use std::io::{self, Write};

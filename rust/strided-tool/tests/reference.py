@@ -44,7 +44,20 @@ def gather(operand, index, dest, spec):
         dest[cell] = operand[tuple(s + o for s, o in zip(start, offset))]
 
 
-def scatter(index, updates, dest, spec):
+def combined(held, update, rule):
+    """What an element becomes of an update by a rule, as --rule has it. A comparison with NaN is false."""
+    name, _, limit = rule.partition(":")
+    if name == "replace":
+        return update
+    if name == "lowest":
+        return update if update < held else held
+    if name == "highest":
+        return update if update > held else held
+    total = held + update
+    return np.float64(limit) if name == "ceiling" and total > np.float64(limit) else total
+
+
+def scatter(index, updates, dest, spec, rule="add"):
     window_axes = spec["update_window_dims"]
     kept = others(dest.ndim, spec["inserted_window_dims"])
     batch_axes = others(updates.ndim, window_axes)
@@ -62,7 +75,7 @@ def scatter(index, updates, dest, spec):
                 update[axis] = entry
             cell = tuple(s + o for s, o in zip(start, spread(dest.ndim, kept, window)))
             with np.errstate(over="ignore", invalid="ignore"):
-                dest[cell] = dest[cell] + updates[tuple(update)]
+                dest[cell] = combined(dest[cell], updates[tuple(update)], rule)
 
 
 class View:
@@ -178,6 +191,12 @@ def random_scatter(random, element):
     spec = {"update_window_dims": window_dims, "inserted_window_dims": inserted,
             "scatter_dims_to_operand_dims": mapping, "index_vector_dim": vector}
     return spec, View(random, index, "i64"), View(random, updates, element), View(random, extents, element)
+
+
+def options(spec):
+    """The axis lists as options."""
+    return sum((["--" + name.replace("_", "-"), ",".join(map(str, entries)) if isinstance(entries, list) else entries]
+                for name, entries in spec.items() if entries != []), [])
 
 
 def job_text(kind, element, names, views, spec):

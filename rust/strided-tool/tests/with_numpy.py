@@ -8,7 +8,7 @@ import sys
 import numpy as np
 
 from harness import TOOL, check, content, done, finish, found, path, put, refused, run
-from reference import gather, job_text, random_gather, random_scatter, scatter
+from reference import gather, job_text, options, random_gather, random_scatter, scatter
 
 SHAPES = [(), (0,), (5,), (3, 4), (2, 3, 4), (2, 0, 3), (1, 7)]
 
@@ -166,8 +166,7 @@ def by_job(what, kind, views, wanted):
 
 def by_lists(what, kind, arrays, wanted, spec):
     """The call without a job, on files that are in either order."""
-    lists = sum((["--" + name.replace("_", "-"), ",".join(map(str, entries)) if isinstance(entries, list) else entries]
-                 for name, entries in spec.items() if entries != []), [])
+    lists = options(spec)
     orders = [np.asfortranarray if len(what) + place & 1 else np.ascontiguousarray for place in range(3)]
     files = [order(array).reshape(array.shape, order="A") for order, array in zip(orders, arrays)]
     arguments = saved(kind, files)

@@ -1,7 +1,7 @@
 //! The calls that there are for each type of element.
 
 use crate::ffi::{self, steps, words};
-use crate::{GatherPlan, Result, ScatterPlan, StridedError, StridedMut, StridedRef};
+use crate::{Element, GatherPlan, Result, ScatterPlan, StridedError, StridedMut, StridedRef};
 
 /// The calls that there are for each type of element. A user cannot name this
 /// trait, so that [`Element`](crate::Element) stays with `i32` and `f64`.
@@ -26,11 +26,19 @@ pub trait Calls: Sized {
         dest: &mut StridedMut<'_, Self>,
         starts: &StridedRef<'_, i64>,
         updates: &StridedRef<'_, Self>,
-    ) -> Result<()>;
+        rule: <Self as Element>::Rule,
+    ) -> Result<()>
+    where
+        Self: Element;
 }
 
+/// The calls of one type of element: the functions' names, and how the last of
+/// them takes a rule.
 macro_rules! calls {
-    ($element:ty, $gather:ident, $scatter:ident, $raw_gather:ident, $raw_scatter:ident) => {
+    (
+        $element:ty, $gather:ident, $scatter:ident, $raw_gather:ident, $raw_scatter:ident,
+        $rule:ident => ($($of_rule:expr),+)
+    ) => {
         impl Calls for $element {
             fn gather_job(
                 job: &[u8],
@@ -88,8 +96,10 @@ macro_rules! calls {
                 dest: &mut StridedMut<'_, Self>,
                 starts: &StridedRef<'_, i64>,
                 updates: &StridedRef<'_, Self>,
+                $rule: <Self as Element>::Rule,
             ) -> Result<()> {
                 StridedError::check(ffi::$raw_scatter(
+                    $($of_rule,)+
                     words(&plan.index.dims),
                     steps(&plan.index.strides),
                     words(&plan.updates.dims),
@@ -123,12 +133,14 @@ calls!(
     strided_gather_i32,
     strided_scatter_i32,
     strided_raw_gather_i32,
-    strided_raw_scatter_i32
+    strided_raw_scatter_i32,
+    rule => (rule.number())
 );
 calls!(
     f64,
     strided_gather_f64,
     strided_scatter_f64,
     strided_raw_gather_f64,
-    strided_raw_scatter_f64
+    strided_raw_scatter_f64,
+    rule => (rule.number(), rule.limit())
 );

@@ -1,6 +1,9 @@
 //! The two types of element.
 
+use core::fmt::Debug;
+
 use crate::calls::Calls;
+use crate::{Rule, RuleF64};
 
 /// The type of the elements of a grid, as a stored job names it.
 #[derive(Clone, Copy, Debug, Eq, Hash, PartialEq)]
@@ -39,12 +42,18 @@ impl ElementType {
 pub trait Element: Copy + Calls {
     /// Which of the two it is.
     const TYPE: ElementType;
+
+    /// The rules by which updates of this type are put on a grid: [`Rule`] for
+    /// `i32`, [`RuleF64`] for `f64`.
+    type Rule: Copy + Debug + Default + PartialEq + From<Rule>;
 }
 
 impl Element for i32 {
     const TYPE: ElementType = ElementType::I32;
+    type Rule = Rule;
 }
 
 impl Element for f64 {
     const TYPE: ElementType = ElementType::F64;
+    type Rule = RuleF64;
 }

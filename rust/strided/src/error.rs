@@ -80,6 +80,12 @@ pub enum StridedError {
         /// The place of the first byte of the field that is wrong, from 0.
         place: u64,
     },
+    /// 18: a rule is not listed for the element. Only the functions of
+    /// [`ffi`](crate::ffi), which take a rule as a number, can be refused so.
+    UnlistedRule {
+        /// The number as it was given.
+        rule: u64,
+    },
     /// A refusal that this version of the crate has no name for.
     Unknown {
         /// Its number.
@@ -122,6 +128,7 @@ impl StridedError {
             Self::PlanLayoutMismatch => [8, 0, 0],
             Self::BufferBounds { view, bytes_needed } => [9, view, bytes_needed],
             Self::JobBytes { place } => [10, place, 0],
+            Self::UnlistedRule { rule } => [18, rule, 0],
             Self::Unknown { number, a, b } => [number, a, b],
         }
     }
@@ -142,28 +149,27 @@ impl StridedError {
             [8, 0, 0] => Self::PlanLayoutMismatch,
             [9, view, bytes_needed] => Self::BufferBounds { view, bytes_needed },
             [10, place, 0] => Self::JobBytes { place },
+            [18, rule, 0] => Self::UnlistedRule { rule },
             _ => Self::Unknown { number, a, b },
         })
     }
 }
 
+const LENGTHS: &str = "the extents and strides of a layout differ in length";
+const OVERFLOW: &str = "a product, span, step or reset of the layouts does not fit in 64 bits";
+const NOT_NESTED: &str =
+    "the destination is not nested: two of its coordinates might name one element";
+const OTHER_LAYOUT: &str = "the layout of a view is not the one the plan was compiled for";
+
 impl fmt::Display for StridedError {
     fn fmt(&self, f: &mut fmt::Formatter<'_>) -> fmt::Result {
         match self {
-            Self::StrideLengthMismatch => {
-                write!(f, "the extents and strides of a layout differ in length")
-            }
+            Self::StrideLengthMismatch => f.write_str(LENGTHS),
             Self::RankTooLarge { rank, limit } => {
                 write!(f, "a layout has rank {rank}, above the limit of {limit}")
             }
-            Self::OffsetOverflow => write!(
-                f,
-                "a product, span, step or reset of the layouts does not fit in 64 bits"
-            ),
-            Self::NonInjectiveOutputLayout => write!(
-                f,
-                "the destination is not nested: two of its coordinates might name one element"
-            ),
+            Self::OffsetOverflow => f.write_str(OVERFLOW),
+            Self::NonInjectiveOutputLayout => f.write_str(NOT_NESTED),
             Self::RankMismatch { count, against } => {
                 write!(f, "two counts disagree: {count} against {against}")
             }
@@ -175,9 +181,7 @@ impl fmt::Display for StridedError {
                 f,
                 "the shape that was given, of rank {given}, is not the expected one, of rank {expected}"
             ),
-            Self::PlanLayoutMismatch => {
-                write!(f, "the layout of a view is not the one the plan was compiled for")
-            }
+            Self::PlanLayoutMismatch => f.write_str(OTHER_LAYOUT),
             Self::BufferBounds { view: 0, bytes_needed } => {
                 write!(f, "a stored job needs room for {bytes_needed} bytes")
             }
@@ -189,6 +193,9 @@ impl fmt::Display for StridedError {
                 f,
                 "the bytes store no job of this kind and element: the field at byte {place} is wrong"
             ),
+            Self::UnlistedRule { rule } => {
+                write!(f, "there is no rule {rule} for elements of this type")
+            }
             Self::Unknown { number, a, b } => {
                 write!(f, "refusal {number} ({a}, {b}), which has no name here")
             }
@@ -224,6 +231,14 @@ mod tests {
         };
         assert_eq!(refusal, named);
         let words = "refusal 11 (40, 0), which has no name here";
+        assert_eq!(refusal.to_string(), words);
+    }
+
+    #[test]
+    fn a_rule_that_is_not_listed() {
+        let refusal = StridedError::check([18, 5, 0]).unwrap_err();
+        assert_eq!(refusal, StridedError::UnlistedRule { rule: 5 });
+        let words = "there is no rule 5 for elements of this type";
         assert_eq!(refusal.to_string(), words);
     }
 

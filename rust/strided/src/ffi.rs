@@ -44,10 +44,10 @@ const NO_ANSWER: Answer = [u64::MAX; 3];
 /// no archive of another version than this crate is for.
 pub fn strided_version() -> u64 {
     extern "C" {
-        fn strided_version_1() -> u64;
+        fn strided_version_2() -> u64;
     }
     // SAFETY: it takes nothing, and returns a number.
-    unsafe { strided_version_1() }
+    unsafe { strided_version_2() }
 }
 
 /// Extents, axes or sizes, as the library takes them.
@@ -155,10 +155,10 @@ exports! {
     /// Reads a stored gather of `f64`, compiles it and calls it.
     fn strided_gather_f64(job: &[u8], operand: &[f64], starts: &[i64], destination: &mut [f64]);
 
-    /// Reads a stored scatter of `i32`, compiles it and calls it.
+    /// Reads a stored scatter of `i32`, compiles it and calls it. It adds.
     fn strided_scatter_i32(job: &[u8], starts: &[i64], updates: &[i32], destination: &mut [i32]);
 
-    /// Reads a stored scatter of `f64`, compiles it and calls it.
+    /// Reads a stored scatter of `f64`, compiles it and calls it. It adds.
     fn strided_scatter_f64(job: &[u8], starts: &[i64], updates: &[f64], destination: &mut [f64]);
 
     /// The first refusal of a gather's compile.
@@ -247,8 +247,10 @@ exports! {
     );
 
     /// Compiles a scatter of `i32` by the first three layouts and the lists, and calls it on
-    /// the three views.
+    /// the three views. The rule is 1 to add, 2 for the lowest, 3 for the highest, 4 to replace;
+    /// any other is refused by 18, before everything else.
     fn strided_raw_scatter_i32(
+        rule: u64,
         index_extents: &[u64],
         index_strides: &[i64],
         updates_extents: &[u64],
@@ -274,8 +276,11 @@ exports! {
     );
 
     /// Compiles a scatter of `f64` by the first three layouts and the lists, and calls it on
-    /// the three views.
+    /// the three views. The rule is one of those of `i32`, or 5 for a ceiling, which alone reads
+    /// the limit; any other is refused by 18, before everything else.
     fn strided_raw_scatter_f64(
+        rule: u64,
+        limit: f64,
         index_extents: &[u64],
         index_strides: &[i64],
         updates_extents: &[u64],

@@ -42,7 +42,8 @@ pub struct GatherJob {
     pub spec: GatherSpec,
 }
 
-/// A scatter with its views, as a job holds it.
+/// A scatter with its views, as a job holds it. A job has no rule: stored and
+/// run, it adds.
 ///
 /// ```
 /// use strided::{ElementType, ScatterJob, ScatterSpec, ViewLayout};
@@ -134,7 +135,8 @@ impl GatherJob {
 
 impl ScatterJob {
     /// Compiles the job's plan. The offsets, which a plan has none of, are
-    /// those of the views that it is executed with.
+    /// those of the views that it is executed with; and so is the rule, of
+    /// which a job has none.
     ///
     /// # Errors
     ///
@@ -353,7 +355,9 @@ pub fn gather_job<T: Element>(
 }
 
 /// Reads a stored scatter, compiles it and calls it, as
-/// [`ScatterPlan::execute`] does, on the slices of its three views.
+/// [`ScatterPlan::execute`] does, on the slices of its three views. A stored
+/// scatter adds; for another rule [`Job::from_bytes`] gives the job, whose plan
+/// [`execute_updates`](ScatterPlan::execute_updates) takes.
 ///
 /// # Errors
 ///

@@ -1,9 +1,10 @@
 //! Gather and scatter on strided grids, by a proved library.
 //!
-//! A gather reads windows of a grid at given starts; a scatter adds updates to
-//! a grid at given starts. Each grid is a view: extents, strides and an offset,
-//! in elements, over a slice. The axis lists are those of StableHLO's gather
-//! and scatter. Starts are clamped so that a window lies inside its grid.
+//! A gather reads windows of a grid at given starts; a scatter puts updates on
+//! a grid at given starts: it adds them, or goes by another rule. Each grid is a
+//! view: extents, strides and an offset, in elements, over a slice. The axis
+//! lists are those of StableHLO's gather and scatter. Starts are clamped so that
+//! a window lies inside its grid.
 //!
 //! The work is done by the C library `libstrided.a`, whose answers and elements
 //! are proved equal to written definitions. This crate adds names and borrows,
@@ -61,11 +62,41 @@
 //! # Ok::<(), strided::StridedError>(())
 //! ```
 //!
+//! # Rules
+//!
+//! [`ScatterPlan::execute_updates`] takes a [`Rule`], which says what an element
+//! becomes of what it holds and of each update that lands on it: their sum, the
+//! lower, the higher, or the update. Of `f64` there is one more, a
+//! [ceiling](RuleF64::Ceiling) with its limit. [`ScatterPlan::execute`] adds.
+//!
+//! ```
+//! # use strided::{ScatterPlan, ScatterSpec, StridedMut, StridedRef};
+//! # let spec = ScatterSpec {
+//! #     update_window_dims: vec![],
+//! #     inserted_window_dims: vec![0],
+//! #     scatter_dims_to_operand_dims: vec![0],
+//! #     index_vector_dim: 1,
+//! # };
+//! # let plan = ScatterPlan::compile(&[3], &[1], &[3], &[1], &[5], &[1], spec)?;
+//! use strided::Rule;
+//!
+//! // The scatter above, on a grid that holds 4 everywhere.
+//! let mut grid = [4.0; 5];
+//! plan.execute_updates(
+//!     &mut StridedMut::new(&mut grid, &[5], &[1], 0),
+//!     &StridedRef::new(&[0, 0, 9], &[3], &[1], 0),
+//!     &StridedRef::new(&[3.0, 4.0, 5.0], &[3], &[1], 0),
+//!     Rule::Lowest,
+//! )?;
+//! assert_eq!(grid, [3.0, 4.0, 4.0, 4.0, 4.0]);
+//! # Ok::<(), strided::StridedError>(())
+//! ```
+//!
 //! # Stored jobs
 //!
 //! A [`Job`] is a gather or a scatter with its views. [`Job::to_bytes`] stores
 //! it and [`Job::from_bytes`] reads it; [`gather_job`] and [`scatter_job`] run
-//! the bytes as they are.
+//! the bytes as they are. A stored scatter adds.
 //!
 //! # Refusals
 //!
@@ -86,8 +117,8 @@
 //!
 //! An element is an `i32`, whose sums wrap modulo 2^32, or an `f64`, whose sums
 //! round one by one in the order of the updates. A gather copies elements bit
-//! for bit, those of a NaN too; which NaN a sum gives is left open. Starts are
-//! `i64`.
+//! for bit, those of a NaN too, and so does a rule that takes one of two; which
+//! NaN a sum gives is left open. Starts are `i64`.
 //!
 //! # Why the calls are sound
 //!
@@ -126,6 +157,7 @@ mod error;
 pub mod ffi;
 mod job;
 mod plan;
+mod rule;
 mod spec;
 mod stored;
 mod view;
@@ -134,6 +166,7 @@ pub use element::{Element, ElementType};
 pub use error::{Result, StridedError};
 pub use job::{check_job, gather_job, scatter_job, GatherJob, Job, ScatterJob};
 pub use plan::{GatherPlan, ScatterPlan};
+pub use rule::{Rule, RuleF64};
 pub use spec::{GatherSpec, ScatterSpec};
 pub use view::{StridedMut, StridedRef, ViewLayout};
 

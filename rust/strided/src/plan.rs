@@ -163,8 +163,9 @@ impl GatherPlan {
     }
 }
 
-/// A scatter that has been compiled for three layouts. The updates are added
-/// to what the destination holds.
+/// A scatter that has been compiled for three layouts. The updates are put on
+/// what the destination holds: [`execute`](Self::execute) adds them, and
+/// [`execute_updates`](Self::execute_updates) goes by a rule.
 ///
 /// It keeps the layouts and the spec; a call compiles them again, inside the
 /// proved library, and neither call nor compile inside it allocates.
@@ -261,7 +262,8 @@ impl ScatterPlan {
 
     /// Adds each update to the element it lands on, batch by batch and, inside
     /// a window, cell by cell, first axis fastest. Starts are clamped so that
-    /// each window lies inside the destination; none is skipped.
+    /// each window lies inside the destination; none is skipped. It is
+    /// [`execute_updates`](Self::execute_updates) by [`Rule::Add`](crate::Rule).
     ///
     /// The time goes by the number of update coordinates, which a stride of 0
     /// lets be larger than any slice.
@@ -298,6 +300,72 @@ impl ScatterPlan {
         scatter_indices: &StridedRef<'_, i64>,
         updates: &StridedRef<'_, T>,
     ) -> Result<()> {
-        T::raw_scatter(self, dest, scatter_indices, updates)
+        self.execute_updates(dest, scatter_indices, updates, T::Rule::default())
+    }
+
+    /// Puts each update on the element it lands on by a rule, in the order and
+    /// at the places of [`execute`](Self::execute). `f64` takes a
+    /// [`Rule`](crate::Rule) as well as a [`RuleF64`](crate::RuleF64); what
+    /// each of them does stands there.
+    ///
+    /// # Errors
+    ///
+    /// As [`execute`](Self::execute), whatever the rule.
+    ///
+    /// ```
+    /// use strided::{Rule, RuleF64, ScatterPlan, ScatterSpec, StridedMut, StridedRef};
+    ///
+    /// // Two soundings of two cells each, at the starts 0 and 1 of a grid of three.
+    /// let spec = ScatterSpec {
+    ///     update_window_dims: vec![0],
+    ///     inserted_window_dims: vec![],
+    ///     scatter_dims_to_operand_dims: vec![0],
+    ///     index_vector_dim: 1,
+    /// };
+    /// let plan = ScatterPlan::compile(&[2], &[1], &[2, 2], &[1, 2], &[3], &[1], spec)?;
+    /// let starts = StridedRef::new(&[0, 1], &[2], &[1], 0);
+    ///
+    /// let mut depths = [900, 900, 900];
+    /// plan.execute_updates(
+    ///     &mut StridedMut::new(&mut depths, &[3], &[1], 0),
+    ///     &starts,
+    ///     &StridedRef::new(&[870, 880, 860, 910], &[2, 2], &[1, 2], 0),
+    ///     Rule::Lowest,
+    /// )?;
+    /// assert_eq!(depths, [870, 860, 900]);
+    ///
+    /// let mut spoil = [0.0, 0.0, 0.0];
+    /// plan.execute_updates(
+    ///     &mut StridedMut::new(&mut spoil, &[3], &[1], 0),
+    ///     &starts,
+    ///     &StridedRef::new(&[1.5, 2.0, 2.0, 1.0], &[2, 2], &[1, 2], 0),
+    ///     RuleF64::Ceiling(3.0),
+    /// )?;
+    /// assert_eq!(spoil, [1.5, 3.0, 1.0]);
+    /// # Ok::<(), strided::StridedError>(())
+    /// ```
+    ///
+    /// A ceiling is no rule of `i32`:
+    ///
+    /// ```compile_fail
+    /// # use strided::{RuleF64, ScatterPlan, StridedMut, StridedRef};
+    /// # fn of_i32(plan: &ScatterPlan, starts: &StridedRef<'_, i64>) -> strided::Result<()> {
+    /// let mut depths = [900, 900, 900];
+    /// plan.execute_updates(
+    ///     &mut StridedMut::new(&mut depths, &[3], &[1], 0),
+    ///     starts,
+    ///     &StridedRef::new(&[870, 880, 860, 910], &[2, 2], &[1, 2], 0),
+    ///     RuleF64::Ceiling(3.0),
+    /// )
+    /// # }
+    /// ```
+    pub fn execute_updates<T: Element>(
+        &self,
+        dest: &mut StridedMut<'_, T>,
+        scatter_indices: &StridedRef<'_, i64>,
+        updates: &StridedRef<'_, T>,
+        rule: impl Into<T::Rule>,
+    ) -> Result<()> {
+        T::raw_scatter(self, dest, scatter_indices, updates, rule.into())
     }
 }

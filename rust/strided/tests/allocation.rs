@@ -2,7 +2,7 @@
 
 use std::alloc::{GlobalAlloc, Layout, System};
 use std::cell::Cell;
-use strided::{GatherPlan, GatherSpec, ScatterPlan, ScatterSpec, StridedMut, StridedRef};
+use strided::{GatherPlan, GatherSpec, RuleF64, ScatterPlan, ScatterSpec, StridedMut, StridedRef};
 
 thread_local! {
     static COUNT: Cell<usize> = const { Cell::new(0) };
@@ -73,4 +73,14 @@ fn scatter() {
         .unwrap();
     });
     assert_eq!((grid, count), ([7.0, 0.0, 0.0, 0.0, 5.0], 0));
+    let count = allocations(|| {
+        plan.execute_updates(
+            &mut StridedMut::new(&mut grid, &[5], &[1], 0),
+            &StridedRef::new(&[0, 1, 9], &[3], &[1], 0),
+            &StridedRef::new(&[3.0, 4.0, 5.0], &[3], &[1], 0),
+            RuleF64::Ceiling(8.0),
+        )
+        .unwrap();
+    });
+    assert_eq!((grid, count), ([8.0, 4.0, 0.0, 0.0, 8.0], 0));
 }

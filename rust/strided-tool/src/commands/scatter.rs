@@ -8,15 +8,17 @@ use super::lent::{fit, Lent};
 use super::stored::Stored;
 use super::{element_of, Report};
 use crate::cli::ScatterArgs;
-use crate::failure::Outcome;
+use crate::failure::{Failure, Outcome};
 use crate::npy::{self, shape_in_words, Item};
 use crate::output::{self, Output};
 use crate::progress;
+use crate::rule::{RuleName, TypedRule};
 
-/// More updates than this are added where the user has said so: at a nanosecond each they take more than a minute.
+/// A scatter of more updates than this is done where the user has said so: at a nanosecond each it takes more than a minute.
 const MANY: u128 = 1 << 36;
 
 pub fn run(args: &ScatterArgs, report: &mut Report) -> Outcome<()> {
+    let rule = rule_of(args)?;
     let mut inputs = vec![
         ("--starts", args.starts.as_path()),
         ("--updates", &args.updates),
@@ -26,16 +28,44 @@ pub fn run(args: &ScatterArgs, report: &mut Report) -> Outcome<()> {
     let output = Output::claim(&args.out, args.lock.patience())?;
     let stored = args.job.as_deref().map(stored_scatter).transpose()?;
     let files = Files::open(args)?;
-    let stored = stored.map_or_else(|| files.by_lists(args), Ok)?;
+    let element = match &stored {
+        Some(stored) => stored.job.element(),
+        None => element_of(&args.grid, files.grid.header())?,
+    };
+    let typed = rule.of(element).ok_or_else(|| not_of_i32(args, rule))?;
+    let stored = stored.map_or_else(|| files.by_lists(args, element), Ok)?;
     let Job::Scatter(job) = &stored.job else {
         return Err(stored.unusable("it is not a scatter"));
     };
     files.fit(&stored, args.any_shape)?;
     may_take_long(&stored, job, args.yes)?;
-    match job.element {
-        ElementType::I32 => scatter::<i32>(args, files, &stored, job, output, report),
-        ElementType::F64 => scatter::<f64>(args, files, &stored, job, output, report),
+    let call = Call {
+        stored: &stored,
+        job,
+        rule,
+    };
+    match typed {
+        TypedRule::I32(typed) => scatter::<i32>(args, files, &call, typed, output, report),
+        TypedRule::F64(typed) => scatter::<f64>(args, files, &call, typed, output, report),
     }
+}
+
+/// The rule of the call. A stored job has none, so that one beside it is refused.
+fn rule_of(args: &ScatterArgs) -> Outcome<RuleName> {
+    match (&args.job, args.lists.rule) {
+        (Some(job), Some(rule)) => Err(Failure::of_file(
+            job,
+            format_args!("a stored job adds, and --rule {rule} cannot be used with --job; nothing was done\ngive the axis lists in place of the job: `strided job show` prints them"),
+        )),
+        (_, rule) => Ok(rule.unwrap_or_default()),
+    }
+}
+
+fn not_of_i32(args: &ScatterArgs, rule: RuleName) -> Failure {
+    Failure::of_file(
+        &args.grid,
+        format_args!("it holds i32, and {rule} is a rule for f64 alone; nothing was done\ngive another rule, or convert grid and updates in NumPy with .astype('<f8')"),
+    )
 }
 
 /// A stored scatter that the library would run.
@@ -72,9 +102,9 @@ impl<'a> Files<'a> {
     }
 
     /// The job of the axis lists, with extents and order from the files.
-    fn by_lists(&self, args: &ScatterArgs) -> Outcome<Stored> {
+    fn by_lists(&self, args: &ScatterArgs, element: ElementType) -> Outcome<Stored> {
         let job = Job::Scatter(ScatterJob {
-            element: element_of(&args.grid, self.grid.header())?,
+            element,
             index: self.starts.layout()?,
             updates: self.updates.layout()?,
             dest: self.grid.layout()?,
@@ -91,7 +121,7 @@ fn may_take_long(stored: &Stored, job: &ScatterJob, yes: bool) -> Outcome<()> {
         return Ok(());
     }
     Err(stored.unusable(format_args!(
-        "it has {count} updates ({}), which at a nanosecond each take {}; nothing was done\n--yes adds them all the same",
+        "it has {count} updates ({}), which at a nanosecond each take {}; nothing was done\n--yes does it all the same",
         shape_in_words(&job.updates.dims),
         time_in_words(count / 1_000_000_000)
     )))
@@ -112,20 +142,48 @@ fn time_in_words(seconds: u128) -> String {
     format!("{} {name}", seconds.div_ceil(*unit))
 }
 
+/// A scatter as it is called.
+struct Call<'a> {
+    stored: &'a Stored,
+    job: &'a ScatterJob,
+    rule: RuleName,
+}
+
+impl Call<'_> {
+    /// Runs a stored job by its bytes, which add, and a call by lists by its rule.
+    fn run<T: Element>(
+        &self,
+        starts: &[i64],
+        updates: &[T],
+        grid: &mut [T],
+        rule: T::Rule,
+    ) -> strided::Result<()> {
+        if self.stored.is_file {
+            return strided::scatter_job(&self.stored.bytes, starts, updates, grid);
+        }
+        self.job.compile()?.execute_updates(
+            &mut self.job.dest.view_mut(grid),
+            &self.job.index.view(starts),
+            &self.job.updates.view(updates),
+            rule,
+        )
+    }
+}
+
 fn scatter<T: Element + Item>(
     args: &ScatterArgs,
     files: Files<'_>,
-    stored: &Stored,
-    job: &ScatterJob,
+    call: &Call<'_>,
+    rule: T::Rule,
     output: Output,
     report: &mut Report,
 ) -> Outcome<()> {
     let starts = files.starts.load::<i64>()?;
     let changes = files.updates.load::<T>()?;
     let mut grid = files.grid.load::<T>()?;
-    let count = updates(job);
-    progress::timed(&format!("adding {count} updates"), || {
-        strided::scatter_job(&stored.bytes, &starts.data, &changes.data, &mut grid.data)
+    let count = updates(call.job);
+    progress::timed(&call.rule.doing(&format!("{count} updates")), || {
+        call.run(&starts.data, &changes.data, &mut grid.data, rule)
     })
     .map_err(|error| {
         let lent = [
@@ -133,14 +191,13 @@ fn scatter<T: Element + Item>(
             (args.updates.display().to_string(), changes.data.len()),
             (args.grid.display().to_string(), grid.data.len()),
         ];
-        stored.refused(error, Some(lent))
+        call.stored.refused(error, Some(lent))
     })?;
     let name = args.out.display().to_string();
     output.write(|file| npy::write(&grid, &name, file))?;
-    report.say(&format!(
-        "added {count} updates ({}) to the grid {}; it is in {name}",
-        shape_in_words(&job.updates.dims),
-        args.grid.display()
-    ));
+    let shape = shape_in_words(&call.job.updates.dims);
+    let updates = format!("{count} updates ({shape})");
+    let done = call.rule.done(&updates, &args.grid.display().to_string());
+    report.say(&format!("{done}; it is in {name}"));
     Ok(())
 }

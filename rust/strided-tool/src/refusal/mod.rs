@@ -52,6 +52,7 @@ fn name(error: &StridedError) -> Option<&'static str> {
         StridedError::PlanLayoutMismatch => "PlanLayoutMismatch",
         StridedError::BufferBounds { .. } => "BufferBounds",
         StridedError::JobBytes { .. } => "JobBytes",
+        StridedError::UnlistedRule { .. } => "UnlistedRule",
         _ => return None,
     })
 }

@@ -4,8 +4,8 @@
 use crate::cases::{bits, cells, summed, view, Cell, GatherCase, ScatterCase};
 use crate::random::Random;
 use strided::{
-    gather_job, scatter_job, Element, GatherJob, GatherSpec, Job, Result, ScatterJob, ScatterSpec,
-    StridedError, ViewLayout,
+    gather_job, scatter_job, Element, GatherJob, GatherSpec, Job, Result, Rule, ScatterJob,
+    ScatterPlan, ScatterSpec, StridedError, ViewLayout,
 };
 
 const CASES: usize = 15_000;
@@ -129,7 +129,7 @@ fn gather<T: Cell>(
     answer
 }
 
-/// As [`gather`].
+/// As [`gather`]. By any rule the answer is the same.
 fn scatter<T: Cell>(
     random: &mut Random,
     job: &ScatterJob,
@@ -137,21 +137,19 @@ fn scatter<T: Cell>(
     starts: &[i64],
     [updates_len, dest_len]: [usize; 2],
 ) -> Result<()> {
-    let compiled = job.compile();
-    if compiled.is_ok() && job.updates.dims.iter().product::<usize>() > MOST_UPDATES {
+    let plan = job.compile();
+    if plan.is_ok() && job.updates.dims.iter().product::<usize>() > MOST_UPDATES {
         return Ok(());
     }
     let updates = cells::<T>(random, updates_len);
     let before = cells::<T>(random, dest_len);
-    let mut dest = before.clone();
-    let answer = compiled.and_then(|plan| {
-        plan.execute(
-            &mut views.dest.view_mut(&mut dest),
-            &views.index.view(starts),
-            &views.updates.view(&updates),
-        )
-    });
-    assert!(answer.is_ok() || bits(&dest) == bits(&before), "{job:?}");
+    let [mut dest, mut other] = [before.clone(), before.clone()];
+    let answer = put(&plan, views, starts, &updates, &mut dest, Rule::Add.into());
+    let by_rule = put(&plan, views, starts, &updates, &mut other, T::rule(random));
+    assert_eq!(by_rule, answer, "{job:?}");
+    for dest in [&dest, &other] {
+        assert!(answer.is_ok() || bits(dest) == bits(&before), "{job:?}");
+    }
     if job == views {
         let mut job = job.clone();
         job.element = T::TYPE;
@@ -163,6 +161,23 @@ fn scatter<T: Cell>(
         }
     }
     answer
+}
+
+/// Executes a plan, where there is one, with the views of `views`.
+fn put<T: Cell>(
+    plan: &Result<ScatterPlan>,
+    views: &ScatterJob,
+    starts: &[i64],
+    updates: &[T],
+    dest: &mut [T],
+    rule: T::Rule,
+) -> Result<()> {
+    plan.clone()?.execute_updates(
+        &mut views.dest.view_mut(dest),
+        &views.index.view(starts),
+        &views.updates.view(updates),
+        rule,
+    )
 }
 
 /// The job's bytes, where its lists are short enough for it to be stored.

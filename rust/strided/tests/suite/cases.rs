@@ -2,12 +2,19 @@
 
 use crate::random::Random;
 use core::fmt::Debug;
-use strided::{Element, ElementType, GatherJob, GatherSpec, ScatterJob, ScatterSpec, ViewLayout};
+use strided::{
+    Element, ElementType, GatherJob, GatherSpec, Rule, RuleF64, ScatterJob, ScatterSpec, ViewLayout,
+};
 
 /// What the tests do with elements by themselves.
 pub trait Cell: Element + Debug {
     fn random(random: &mut Random) -> Self;
-    fn plus(self, update: Self) -> Self;
+    /// One of the rules.
+    fn rule(random: &mut Random) -> Self::Rule;
+    /// What the element becomes of an update by a rule.
+    fn combined(self, update: Self, rule: Self::Rule) -> Self;
+    /// Whether the rule adds, so that it may give any NaN.
+    fn adds(rule: Self::Rule) -> bool;
     /// The bits; NaNs, of which an add may give any, have the same.
     fn summed(self) -> u64;
     /// The bits, those of a NaN too.
@@ -22,8 +29,21 @@ impl Cell for i32 {
         }
     }
 
-    fn plus(self, update: Self) -> Self {
-        self.wrapping_add(update)
+    fn rule(random: &mut Random) -> Rule {
+        random.pick(&RULES)
+    }
+
+    fn combined(self, update: Self, rule: Rule) -> Self {
+        match rule {
+            Rule::Add => self.wrapping_add(update),
+            Rule::Lowest => self.min(update),
+            Rule::Highest => self.max(update),
+            Rule::Replace => update,
+        }
+    }
+
+    fn adds(rule: Rule) -> bool {
+        rule == Rule::Add
     }
 
     fn summed(self) -> u64 {
@@ -47,8 +67,27 @@ impl Cell for f64 {
         }
     }
 
-    fn plus(self, update: Self) -> Self {
-        self + update
+    fn rule(random: &mut Random) -> RuleF64 {
+        match random.below(RULES.len() + 1) {
+            0 => RuleF64::Ceiling(Self::random(random)),
+            place => RULES[place - 1].into(),
+        }
+    }
+
+    fn combined(self, update: Self, rule: RuleF64) -> Self {
+        let sum = self + update;
+        match rule {
+            RuleF64::Lowest if update < self => update,
+            RuleF64::Highest if update > self => update,
+            RuleF64::Lowest | RuleF64::Highest => self,
+            RuleF64::Replace => update,
+            RuleF64::Ceiling(limit) if sum > limit => limit,
+            RuleF64::Add | RuleF64::Ceiling(_) => sum,
+        }
+    }
+
+    fn adds(rule: RuleF64) -> bool {
+        matches!(rule, RuleF64::Add | RuleF64::Ceiling(_))
     }
 
     fn summed(self) -> u64 {
@@ -62,6 +101,9 @@ impl Cell for f64 {
         self.to_bits()
     }
 }
+
+/// The rules that both types have.
+pub const RULES: [Rule; 4] = [Rule::Add, Rule::Lowest, Rule::Highest, Rule::Replace];
 
 pub fn cells<T: Cell>(random: &mut Random, len: usize) -> Vec<T> {
     random.list(len, T::random)

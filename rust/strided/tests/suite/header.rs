@@ -3,6 +3,7 @@
 //! pointer and a count.
 
 use std::collections::BTreeMap;
+use strided::StridedError;
 
 const HEADER: &str = include_str!("../../../../include/strided.h");
 const DECLARED: &str = include_str!("../../src/ffi.rs");
@@ -31,12 +32,63 @@ fn one_version_everywhere() {
 
 /// Each version with a digest of the header as the compiler reads it. A change
 /// of the functions gets a new version and a line here.
-const VERSIONS: [(u64, u64); 1] = [(1, 0xa413_22fe_9128_3adc)];
+const VERSIONS: [(u64, u64); 2] = [(1, 0xa413_22fe_9128_3adc), (2, 0x1062_c459_c057_e190)];
 
 #[test]
 fn a_change_of_the_functions_has_a_new_version() {
     let now = (super::archive::repository::VERSION, digest(&code(HEADER)));
     assert_eq!(VERSIONS.last(), Some(&now));
+}
+
+#[track_caller]
+fn numbered(refusal: StridedError, name: &str) {
+    assert_eq!(refusal.number(), number_of(name));
+}
+
+#[test]
+fn refusals_without_values_have_the_numbers_of_the_header() {
+    numbered(StridedError::StrideLengthMismatch, "STRIDE_LENGTH_MISMATCH");
+    numbered(StridedError::OffsetOverflow, "OFFSET_OVERFLOW");
+    numbered(
+        StridedError::NonInjectiveOutputLayout,
+        "NON_INJECTIVE_OUTPUT",
+    );
+    numbered(StridedError::PlanLayoutMismatch, "PLAN_LAYOUT_MISMATCH");
+}
+
+#[test]
+fn refusals_with_values_have_the_numbers_of_the_header() {
+    let (rank, limit) = (9, 8);
+    numbered(StridedError::RankTooLarge { rank, limit }, "RANK_TOO_LARGE");
+    let (count, against) = (2, 1);
+    numbered(
+        StridedError::RankMismatch { count, against },
+        "RANK_MISMATCH",
+    );
+    let (axis, rank) = (3, 1);
+    numbered(StridedError::InvalidAxis { axis, rank }, "INVALID_AXIS");
+    let (given, expected) = (1, 2);
+    numbered(
+        StridedError::ShapeMismatch { given, expected },
+        "SHAPE_MISMATCH",
+    );
+    let (view, bytes_needed) = (3, 0);
+    numbered(
+        StridedError::BufferBounds { view, bytes_needed },
+        "BUFFER_BOUNDS",
+    );
+    numbered(StridedError::JobBytes { place: 5 }, "JOB_BYTES");
+    numbered(StridedError::UnlistedRule { rule: 5 }, "UNLISTED_RULE");
+}
+
+/// The number that an enum of the header gives to a name, without what all of
+/// them begin with.
+pub fn number_of(name: &str) -> u64 {
+    let (_, rest) = HEADER
+        .split_once(&format!("STRIDED_{name} = "))
+        .expect(name);
+    let digits = rest.split(|c: char| !c.is_ascii_digit()).next();
+    digits.and_then(|digits| digits.parse().ok()).expect(name)
 }
 
 /// Without comments, and with one space where there are some.

@@ -12,4 +12,6 @@ mod package;
 mod random;
 mod reference;
 mod refusals;
+mod rules;
 mod times;
+mod two_ships;

@@ -2,7 +2,7 @@
 //! strided-rs's gather and scatter make public.
 
 use std::path::{Path, PathBuf};
-use strided::{GatherPlan, GatherSpec, StridedMut, StridedRef};
+use strided::{GatherPlan, GatherSpec, Rule, ScatterPlan, ScatterSpec, StridedMut, StridedRef};
 
 const PAGE: &str = include_str!("../../../README.md");
 
@@ -174,4 +174,25 @@ fn a_slice_by_one_start() {
     )
     .unwrap();
     assert_eq!(window, [1, 2, 11, 12]);
+}
+
+/// What the table gives in place of a dynamic update of a slice.
+#[test]
+fn a_window_overwritten_at_one_start() {
+    let spec = ScatterSpec {
+        update_window_dims: vec![0, 1],
+        inserted_window_dims: vec![],
+        scatter_dims_to_operand_dims: vec![0, 1],
+        index_vector_dim: 0,
+    };
+    let plan = ScatterPlan::compile(&[2], &[1], &[2, 2], &[1, 2], &[3, 3], &[1, 3], spec).unwrap();
+    let mut grid = [0, 1, 2, 10, 11, 12, 20, 21, 22];
+    plan.execute_updates(
+        &mut StridedMut::new(&mut grid, &[3, 3], &[1, 3], 0),
+        &StridedRef::new(&[9, -1], &[2], &[1], 0),
+        &StridedRef::new(&[-1, -2, -3, -4], &[2, 2], &[1, 2], 0),
+        Rule::Replace,
+    )
+    .unwrap();
+    assert_eq!(grid, [0, -1, -2, 10, -3, -4, 20, 21, 22]);
 }

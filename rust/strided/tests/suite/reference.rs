@@ -2,7 +2,7 @@
 
 use crate::cases::{bits, cells, summed, Cell, GatherCase, ScatterCase};
 use crate::random::Random;
-use strided::{gather_job, scatter_job, GatherJob, Job, ScatterJob, ViewLayout};
+use strided::{gather_job, scatter_job, GatherJob, Job, Rule, ScatterJob, ViewLayout};
 
 const CASES: usize = 4000;
 
@@ -61,7 +61,8 @@ fn scatters<T: Cell>(seed: u64) {
         let before = cells::<T>(&mut random, call.dest_len);
 
         let mut expected = before.clone();
-        plain_scatter(&call.job, &call.starts, &updates, &mut expected);
+        let add = Rule::Add.into();
+        plain_scatter(&call.job, &call.starts, &updates, &mut expected, add);
 
         let mut dest = before.clone();
         let plan = call.job.compile().expect("a valid scatter");
@@ -103,7 +104,21 @@ fn plain_gather<T: Cell>(job: &GatherJob, operand: &[T], starts: &[i64], dest: &
     }
 }
 
-fn plain_scatter<T: Cell>(job: &ScatterJob, starts: &[i64], updates: &[T], dest: &mut [T]) {
+pub fn plain_scatter<T: Cell>(
+    job: &ScatterJob,
+    starts: &[i64],
+    updates: &[T],
+    dest: &mut [T],
+    rule: T::Rule,
+) {
+    for (taken, landed) in landings(job, starts) {
+        dest[landed] = dest[landed].combined(updates[taken], rule);
+    }
+}
+
+/// For each update, in order, the element that it is read from and the one
+/// that it lands on.
+pub fn landings(job: &ScatterJob, starts: &[i64]) -> Vec<(usize, usize)> {
     let spec = &job.spec;
     let kept = others(job.dest.dims.len(), &spec.inserted_window_dims);
     let batch_axes = others(job.updates.dims.len(), &spec.update_window_dims);
@@ -115,6 +130,7 @@ fn plain_scatter<T: Cell>(job: &ScatterJob, starts: &[i64], updates: &[T], dest:
     for (&axis, &extent) in kept.iter().zip(&window) {
         windows[axis] = extent;
     }
+    let mut found = Vec::new();
     for batch in coordinates(&extents(&batch_axes)) {
         for cell in coordinates(&window) {
             let components = components(&job.index, starts, spec.index_vector_dim, &batch);
@@ -130,10 +146,10 @@ fn plain_scatter<T: Cell>(job: &ScatterJob, starts: &[i64], updates: &[T], dest:
             for (&axis, component) in spec.scatter_dims_to_operand_dims.iter().zip(components) {
                 lands[axis] += clamped(component, job.dest.dims[axis], windows[axis]);
             }
-            let element = &mut dest[place(&job.dest, &lands)];
-            *element = element.plus(updates[place(&job.updates, &taken)]);
+            found.push((place(&job.updates, &taken), place(&job.dest, &lands)));
         }
     }
+    found
 }
 
 /// The axes below `rank` that are not listed.

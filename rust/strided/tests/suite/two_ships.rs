@@ -1,0 +1,231 @@
+//! Two ships on one grid, in both orders. They may be swapped where both add,
+//! both take the lowest or both take the highest, and otherwise where no
+//! element gets an update from both.
+
+use crate::cases::{cells, cuts_added, packed, Cell, ScatterCase, RULES};
+use crate::random::Random;
+use crate::reference::landings;
+use std::collections::BTreeSet;
+use strided::{ElementType, Result, Rule, RuleF64, ScatterJob};
+
+const CASES: usize = 2000;
+
+/// The rules by which two ships may be swapped wherever they land.
+const ALIKE: [Rule; 3] = [Rule::Add, Rule::Lowest, Rule::Highest];
+
+struct Ship {
+    job: ScatterJob,
+    starts: Vec<i64>,
+    updates: Vec<i32>,
+    rule: Rule,
+    grid_len: usize,
+}
+
+impl Ship {
+    /// A scatter that no check refuses, with a grid's layout of its own.
+    fn random(random: &mut Random, rule: Rule) -> Self {
+        let case = ScatterCase::random(random, ElementType::I32);
+        Self {
+            job: case.job,
+            starts: case.starts,
+            updates: cells(random, case.updates_len),
+            rule,
+            grid_len: case.dest_len,
+        }
+    }
+
+    /// The same ship, on elements that lie further on in the grid.
+    fn moved_by(mut self, len: usize) -> Self {
+        self.job.dest.offset += len as isize;
+        self.grid_len += len;
+        self
+    }
+
+    /// What lands on each element of a grid, in order.
+    fn landing(&self, len: usize) -> Vec<Vec<i32>> {
+        let mut found = vec![vec![]; len];
+        for (taken, landed) in landings(&self.job, &self.starts) {
+            found[landed].push(self.updates[taken]);
+        }
+        found
+    }
+
+    fn put_on(&self, grid: &mut [i32]) -> Result<()> {
+        self.job.compile()?.execute_updates(
+            &mut self.job.dest.view_mut(grid),
+            &self.job.index.view(&self.starts),
+            &self.job.updates.view(&self.updates),
+            self.rule,
+        )
+    }
+}
+
+/// The grid after both ships, in either order. Both are accepted in both.
+fn in_both_orders(ships: [&Ship; 2], before: &[i32]) -> [Vec<i32>; 2] {
+    let [north, south] = ships;
+    [[north, south], [south, north]].map(|order| {
+        let mut grid = before.to_vec();
+        for ship in order {
+            assert_eq!(ship.put_on(&mut grid), Ok(()));
+        }
+        grid
+    })
+}
+
+fn grid_for(random: &mut Random, ships: [&Ship; 2]) -> Vec<i32> {
+    let [north, south] = ships;
+    cells(random, north.grid_len.max(south.grid_len))
+}
+
+#[test]
+fn ships_of_like_rules_may_be_swapped() {
+    for (seed, rule) in ALIKE.into_iter().enumerate() {
+        let mut random = Random::new(51 + seed as u64);
+        let mut shared = 0;
+        for case in 0..CASES {
+            let [north, south] = [0, 0].map(|_| Ship::random(&mut random, rule));
+            let before = grid_for(&mut random, [&north, &south]);
+            let [one, other] = in_both_orders([&north, &south], &before);
+            assert_eq!(one, other, "case {case}, {rule:?}");
+            let [by_north, by_south] = [&north, &south].map(|ship| ship.landing(before.len()));
+            for (element, &held) in before.iter().enumerate() {
+                let [first, second] = [&by_north, &by_south].map(|landing| &landing[element]);
+                shared += usize::from(!first.is_empty() && !second.is_empty());
+                let all = first.iter().chain(second);
+                let expected = all.fold(held, |held, &update| held.combined(update, rule));
+                assert_eq!(one[element], expected, "case {case}, {rule:?}");
+            }
+        }
+        assert!(shared > CASES / 10, "{rule:?}: {shared} elements from both");
+    }
+}
+
+/// Whether no element gets an update from both.
+fn apart(ships: [&Ship; 2]) -> bool {
+    let [north, south] = ships.map(|ship| landings(&ship.job, &ship.starts));
+    let by_north: BTreeSet<usize> = north.into_iter().map(|(_, landed)| landed).collect();
+    !south.iter().any(|(_, landed)| by_north.contains(landed))
+}
+
+/// A pair of ships that land on elements apart: one beyond the other, or as
+/// they happen to be.
+fn ships_apart(random: &mut Random, rules: [Rule; 2]) -> [Ship; 2] {
+    loop {
+        let [north, south] = rules.map(|rule| Ship::random(random, rule));
+        let south = match random.one_in(2) {
+            true => south.moved_by(north.grid_len),
+            false => south,
+        };
+        if apart([&north, &south]) {
+            return [north, south];
+        }
+    }
+}
+
+#[test]
+fn ships_apart_may_be_swapped_whatever_their_rules() {
+    let mut random = Random::new(61);
+    for rules in RULES
+        .map(|north| RULES.map(|south| [north, south]))
+        .concat()
+    {
+        let mut landed = [0, 0];
+        for case in 0..CASES / 16 {
+            let [north, south] = ships_apart(&mut random, rules);
+            let before = grid_for(&mut random, [&north, &south]);
+            let [one, other] = in_both_orders([&north, &south], &before);
+            assert_eq!(one, other, "case {case}, {rules:?}");
+            let mut alone = [before.clone(), before.clone()];
+            assert_eq!(north.put_on(&mut alone[0]), Ok(()));
+            assert_eq!(south.put_on(&mut alone[1]), Ok(()));
+            let landing = [&north, &south].map(|ship| ship.landing(before.len()));
+            for (element, held) in before.into_iter().enumerate() {
+                let lands = [0, 1].map(|ship: usize| !landing[ship][element].is_empty());
+                let expected = match lands {
+                    [true, _] => alone[0][element],
+                    [_, true] => alone[1][element],
+                    _ => held,
+                };
+                assert_eq!(one[element], expected, "case {case}, {rules:?}");
+                landed[0] += usize::from(lands[0]);
+                landed[1] += usize::from(lands[1]);
+            }
+        }
+        assert!(landed.iter().all(|&count| count > CASES / 16), "{rules:?}");
+    }
+}
+
+/// A ship with one update, for the middle one of three cells.
+fn single(rule: Rule, update: i32) -> Ship {
+    let mut job = cuts_added();
+    job.index = packed(&[1]);
+    job.updates = packed(&[1]);
+    job.dest = packed(&[3]);
+    Ship {
+        job,
+        starts: vec![1],
+        updates: vec![update],
+        rule,
+        grid_len: 3,
+    }
+}
+
+/// The cell that both ships land on, in either order.
+fn on_one_cell(held: i32, north: (Rule, i32), south: (Rule, i32)) -> [i32; 2] {
+    let [north, south] = [north, south].map(|(rule, update)| single(rule, update));
+    let before = [held; 3];
+    in_both_orders([&north, &south], &before).map(|grid| {
+        assert_eq!((grid[0], grid[2]), (held, held));
+        grid[1]
+    })
+}
+
+#[test]
+fn on_one_cell_the_order_shows() {
+    let [replace, add, lowest] = [Rule::Replace, Rule::Add, Rule::Lowest];
+    assert_eq!(on_one_cell(5, (replace, 4), (replace, 6)), [6, 4]);
+    assert_eq!(on_one_cell(5, (add, 3), (lowest, 4)), [4, 7]);
+    // So it does for every other pair of rules.
+    let numbers = [1, 5, 9];
+    for [north, south] in RULES
+        .map(|north| RULES.map(|south| [north, south]))
+        .concat()
+    {
+        let differs = numbers.map(|held| {
+            numbers.map(|first| {
+                numbers.map(|second| {
+                    let [one, other] = on_one_cell(held, (north, first), (south, second));
+                    one != other
+                })
+            })
+        });
+        let found = differs.concat().concat().contains(&true);
+        let alike = north == south && ALIKE.contains(&north);
+        assert_eq!(found, !alike, "{north:?} and {south:?}");
+    }
+}
+
+/// On `f64` grids two ships that take the lowest may not be swapped: of two
+/// zeros the first stays.
+#[test]
+fn zeros_of_f64_show_the_order() {
+    let after = |updates: [f64; 2]| {
+        let mut job = cuts_added();
+        job.index = packed(&[1]);
+        job.updates = packed(&[1]);
+        let mut grid = [1.0; 5];
+        for update in updates {
+            let plan = job.compile().unwrap();
+            plan.execute_updates(
+                &mut job.dest.view_mut(&mut grid),
+                &job.index.view(&[2]),
+                &job.updates.view(&[update]),
+                RuleF64::Lowest,
+            )
+            .unwrap();
+        }
+        grid[2].to_bits()
+    };
+    assert_eq!(after([0.0, -0.0]), 0.0f64.to_bits());
+    assert_eq!(after([-0.0, 0.0]), (-0.0f64).to_bits());
+}
