@@ -3,7 +3,7 @@
 //! slice, every pair of walk axes from a list of edges.
 
 use crate::valid::shape;
-use lines::{Call, Data, Element, GatherSpec, Job, Layout, ScatterSpec, Spec, View};
+use lines::{Call, Data, Element, GatherSpec, Job, Layout, Rule, ScatterSpec, Spec, View};
 
 /// How much is listed: `Short` for every check, `Long` for a long run.
 #[derive(Clone, Copy, PartialEq, Eq)]
@@ -193,6 +193,7 @@ fn gathered(a: &Arranged, turn: usize) -> Call {
         index: near_starts(index_len, turn),
         dest: counted(dest_len, 50),
         layouts: [None, None, None],
+        rule: Rule::Add,
     }
 }
 
@@ -216,6 +217,7 @@ fn scattered(a: &Arranged, turn: usize) -> Call {
         source: counted(update_len, 1),
         dest: counted(dest_len, 100),
         layouts: [None, None, None],
+        rule: Rule::Add,
     }
 }
 
@@ -419,6 +421,7 @@ fn walk(axes: &[(u64, i64, i64)]) -> Call {
         source: counted(0, 0),
         dest: counted(1, 7),
         layouts: [None, None, None],
+        rule: Rule::Add,
     }
 }
 
