@@ -508,14 +508,15 @@ fn rules(size: Size, take: &mut dyn FnMut(Call)) {
     });
 }
 
-/// A scatter of two updates to one cell.
+/// A scatter of two updates to one cell, in the layouts for which the Rust has
+/// a path of its own.
 fn twice_on_one(rule: Rule, element: Element, source: Data, dest: Data) -> Call {
     let a = Arranged {
         extents: &[1],
         windows: &[1],
         hidden: &[0],
         map: &[0],
-        index_extents: vec![2],
+        index_extents: vec![2, 1],
         vector: 1,
         shown: &[],
         shape: vec![2],
