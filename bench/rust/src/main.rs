@@ -14,6 +14,9 @@ mod stored;
 // `gather_plan` and `inline`.
 include!(concat!(env!("OUT_DIR"), "/original.rs"));
 #[allow(dead_code)]
+#[path = "../../../differential/rust/oracle/src/rules.rs"]
+mod rules;
+#[allow(dead_code)]
 #[path = "../../../differential/rust/oracle/src/stubs.rs"]
 mod stubs;
 
@@ -25,9 +28,11 @@ use stubs::{cost, raw_ops, threading};
 use stubs::{Exec, RawStridedMut, RawStridedRef, Result, StridedError};
 pub use stubs::{INLINE_RANK, RAW_FUSED_RANK_LIMIT};
 
+use element::Element;
 use job::Job;
 use measure::measure;
 use original::{Gather, Kind, Scatter};
+use rules::{Lowest, Replace};
 use stored::Stored;
 
 fn main() {
@@ -41,6 +46,8 @@ fn main() {
     println!("|---|---|---|---|---|---|---|---|");
     gathers(rounds, &some);
     scatters(rounds, &some);
+    ruled::<Lowest<i32>, Lowest<f64>>("Lowest", rounds, &some);
+    ruled::<Replace<i32>, Replace<f64>>("Replace", rounds, &some);
     for (name, job) in small() {
         stored::<Stored<Gather>>("gather", name, &job, rounds, &some);
         stored::<Stored<Scatter>>("scatter", name, &job, rounds, &some);
@@ -118,6 +125,22 @@ fn scatters(rounds: usize, some: &str) {
         if name.contains(some) {
             measure::<i32, Scatter>(&name, &job, rounds);
             measure::<f64, Scatter>(&name, &job, rounds);
+        }
+    }
+}
+
+/// Scatters of elements whose `+` is the rule.
+fn ruled<A: Element, B: Element>(rule: &str, rounds: usize, some: &str) {
+    let windows = Job::windows(&[1000, 1000], &[64, 64], 256);
+    let scalars = Job::puts(1_000_000, 1_000_000);
+    for (name, job) in [
+        ("64×64, 256 starts", windows),
+        ("scalars, rank one", scalars),
+    ] {
+        let name = format!("scatter {name}, {rule}");
+        if name.contains(some) {
+            measure::<A, Scatter>(&name, &job, rounds);
+            measure::<B, Scatter>(&name, &job, rounds);
         }
     }
 }

@@ -6,6 +6,7 @@ use crate::original::Kind;
 use crate::plain;
 use std::hint::black_box;
 use std::time::Instant;
+use strided::Rule;
 
 #[derive(Clone, Copy, PartialEq)]
 enum Way {
@@ -35,6 +36,8 @@ struct Bench<'a, T, K: Kind> {
     plan: K::Plan,
     library: K::Library,
     source: Vec<T>,
+    /// The destination before the first call.
+    fresh: Vec<T>,
     /// As many elements as the job has cells, and where memcpy puts them.
     copied: Vec<T>,
     copy: Vec<T>,
@@ -80,9 +83,22 @@ impl<T: Element, K: Kind> Bench<'_, T, K> {
         }
     }
 
+    /// Makes each way once on a slice of its own: they leave the same.
+    fn compare(&mut self, name: &str) {
+        let mut left: Option<Vec<T>> = None;
+        for way in WAYS.into_iter().filter(|&way| way != Way::Memcpy) {
+            let mut dest = self.fresh.clone();
+            self.make(way, &mut dest);
+            let first = left.get_or_insert_with(|| dest.clone());
+            assert!(*first == dest, "{name}: the ways leave different slices");
+        }
+    }
+
     /// The median time of each way, made in turn on one slice, so that where
     /// it lies in memory favours none. The ways are a prime number: each comes
-    /// after each other as often.
+    /// after each other as often. Sums go on from round to round; under
+    /// another rule the slice is made fresh before each, since otherwise no
+    /// update would change it any more.
     fn time<const N: usize>(&mut self, ways: [Way; N], dest: &mut [T], rounds: usize) -> [f64; N] {
         let times = (100_000 / self.job.cells()).clamp(1, 1000);
         let mut taken = [(); N].map(|()| Vec::new());
@@ -90,6 +106,9 @@ impl<T: Element, K: Kind> Bench<'_, T, K> {
             let step = 1 + round % (N - 1);
             for turn in 0..N {
                 let which = (round + turn * step) % N;
+                if T::RULE != Rule::Add {
+                    dest.copy_from_slice(&self.fresh);
+                }
                 let start = Instant::now();
                 for _ in 0..times {
                     self.make(ways[which], dest);
@@ -107,7 +126,16 @@ fn median(mut times: Vec<f64>) -> f64 {
 }
 
 fn elements<T: Element>(count: usize) -> Vec<T> {
-    (0..count).map(|i| T::of(i % 1000)).collect()
+    (0..count).map(T::of).collect()
+}
+
+/// What updates are added to is all alike; a rule that compares finds all
+/// values.
+fn fresh<T: Element>(count: usize) -> Vec<T> {
+    match T::RULE {
+        Rule::Add => vec![T::of(7); count],
+        _ => (count..2 * count).map(T::of).collect(),
+    }
 }
 
 pub fn measure<T: Element, K: Kind>(name: &str, job: &Job, rounds: usize) {
@@ -123,19 +151,13 @@ pub fn measure<T: Element, K: Kind>(name: &str, job: &Job, rounds: usize) {
         plan: K::compile(job, K::spec(job)),
         library: K::prepare(job),
         source: elements(from.room()),
+        fresh: fresh(to.room()),
         copied: elements(cells),
         copy: elements(cells),
         bases: vec![0; job.batch],
     };
-    // each way once on a slice of its own: they leave the same
-    let mut left: Option<Vec<T>> = None;
-    for way in WAYS.into_iter().filter(|&way| way != Way::Memcpy) {
-        let mut dest = vec![T::of(7); to.room()];
-        bench.make(way, &mut dest);
-        let first = left.get_or_insert_with(|| dest.clone());
-        assert!(*first == dest, "{name}: the ways leave different slices");
-    }
-    let mut dest = vec![T::of(7); to.room()];
+    bench.compare(name);
+    let mut dest = bench.fresh.clone();
     let [library, others @ ..] = bench.time(WAYS, &mut dest, rounds);
     let [compiled, executed, copied, looped] = others.map(|other| library / other);
     let memory = if plain::is_touched(job) {

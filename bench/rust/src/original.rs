@@ -9,7 +9,7 @@ use crate::stubs::{Exec, RawStridedMut, RawStridedRef};
 use strided::{StridedMut, StridedRef};
 
 pub trait Kind {
-    /// Whether the windows are added to the grid.
+    /// Whether the windows are put on the grid, by the elements' `+`.
     const ADD: bool;
     type Spec: Clone;
     type Plan;
@@ -128,8 +128,8 @@ impl Kind for Gather {
 
     fn library<T: Element>(plan: &strided::GatherPlan, job: &Job, source: &[T], dest: &mut [T]) {
         plan.execute(
-            &mut lend_mut(&job.windows, dest),
-            &lend(&job.grid, source),
+            &mut lend_mut(&job.windows, T::lent_mut(dest)),
+            &lend(&job.grid, T::lent(source)),
             &lend(&job.index, &job.starts),
         )
         .expect("the library refuses");
@@ -196,10 +196,11 @@ impl Kind for Scatter {
     }
 
     fn library<T: Element>(plan: &strided::ScatterPlan, job: &Job, source: &[T], dest: &mut [T]) {
-        plan.execute(
-            &mut lend_mut(&job.grid, dest),
+        plan.execute_updates(
+            &mut lend_mut(&job.grid, T::lent_mut(dest)),
             &lend(&job.index, &job.starts),
-            &lend(&job.windows, source),
+            &lend(&job.windows, T::lent(source)),
+            T::RULE,
         )
         .expect("the library refuses");
     }

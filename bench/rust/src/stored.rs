@@ -76,7 +76,8 @@ impl Storable for Gather {
     }
 
     fn run<T: Element>(bytes: &[u8], job: &Job, source: &[T], dest: &mut [T]) {
-        strided::gather_job(bytes, source, &job.starts, dest).expect("the library refuses");
+        strided::gather_job(bytes, T::lent(source), &job.starts, T::lent_mut(dest))
+            .expect("the library refuses");
     }
 }
 
@@ -92,6 +93,7 @@ impl Storable for Scatter {
     }
 
     fn run<T: Element>(bytes: &[u8], job: &Job, source: &[T], dest: &mut [T]) {
-        strided::scatter_job(bytes, &job.starts, source, dest).expect("the library refuses");
+        strided::scatter_job(bytes, &job.starts, T::lent(source), T::lent_mut(dest))
+            .expect("the library refuses");
     }
 }

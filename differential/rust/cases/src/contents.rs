@@ -89,10 +89,15 @@ fn small_or_far(random: &mut Random, style: u64) -> i32 {
     }
 }
 
+/// An f64 that is odd in some way.
+pub fn odd(random: &mut Random) -> u64 {
+    random.pick(&ODD_F64)
+}
+
 fn float(random: &mut Random, style: u64) -> u64 {
     match style {
         0 => (random.between(-999, 999) as f64).to_bits(),
-        1 if random.percent(30) => random.pick(&ODD_F64),
+        1 if random.percent(30) => odd(random),
         _ => random.pick(&UNEVEN_F64).to_bits(),
     }
 }

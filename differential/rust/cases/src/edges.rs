@@ -5,7 +5,7 @@
 use crate::contents::{elements, starts};
 use crate::random::Random;
 use crate::valid::{self, element};
-use lines::{Call, Element, GatherSpec, Job, Layout, ScatterSpec, Spec, View};
+use lines::{Call, Element, GatherSpec, Job, Layout, Rule, ScatterSpec, Spec, View};
 
 pub const EXTENTS: [u64; 12] = [
     0,
@@ -202,6 +202,7 @@ fn scattered(random: &mut Random, views: [View; 3], spec: ScatterSpec, len: usiz
         source: elements(random, element, 2),
         dest: elements(random, element, len),
         layouts: [None, None, None],
+        rule: Rule::Add,
     }
 }
 
@@ -279,5 +280,6 @@ fn gather(random: &mut Random) -> Call {
         index: starts(random, 4, 2),
         dest: elements(random, element, 130),
         layouts: [None, None, None],
+        rule: Rule::Add,
     }
 }

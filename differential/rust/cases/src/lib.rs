@@ -8,17 +8,20 @@ mod faults;
 pub mod jobs;
 pub mod large;
 mod random;
+mod rules;
 pub mod small;
 mod valid;
 
 pub use faults::fault_names;
+pub use rules::Ruled;
 
 use faults::Faults;
 use lines::Call;
 use random::Random;
 
 /// The random cases of a seed, in order: most are valid, the others carry one
-/// fault or two, or have layouts at the edges of u64 and i64.
+/// fault or two, or have layouts at the edges of u64 and i64. Their scatters
+/// add; `Ruled` gives them rules.
 pub struct Generator {
     random: Random,
     faults: Faults,

@@ -1,9 +1,10 @@
 //! Small cases, all of them: every meaning on a small grid, every short axis
 //! list, every small destination layout, every view near the ends of its
-//! slice, every pair of walk axes from a list of edges.
+//! slice, every pair of walk axes from a list of edges, every rule on two
+//! updates of one cell.
 
 use crate::valid::shape;
-use lines::{Call, Data, Element, GatherSpec, Job, Layout, ScatterSpec, Spec, View};
+use lines::{Call, Data, Element, GatherSpec, Job, Layout, Rule, ScatterSpec, Spec, View};
 
 /// How much is listed: `Short` for every check, `Long` for a long run.
 #[derive(Clone, Copy, PartialEq, Eq)]
@@ -21,6 +22,7 @@ pub fn all(size: Size, take: &mut dyn FnMut(Call)) {
     bounds(take);
     walks(size, take);
     spans(size, take);
+    rules(size, take);
 }
 
 /// Calls `take` with every list that has one entry from each of `choices`.
@@ -193,6 +195,7 @@ fn gathered(a: &Arranged, turn: usize) -> Call {
         index: near_starts(index_len, turn),
         dest: counted(dest_len, 50),
         layouts: [None, None, None],
+        rule: Rule::Add,
     }
 }
 
@@ -216,6 +219,7 @@ fn scattered(a: &Arranged, turn: usize) -> Call {
         source: counted(update_len, 1),
         dest: counted(dest_len, 100),
         layouts: [None, None, None],
+        rule: Rule::Add,
     }
 }
 
@@ -419,6 +423,7 @@ fn walk(axes: &[(u64, i64, i64)]) -> Call {
         source: counted(0, 0),
         dest: counted(1, 7),
         layouts: [None, None, None],
+        rule: Rule::Add,
     }
 }
 
@@ -459,4 +464,69 @@ fn spanned(axes: &[(u64, i64)], windows: &[u64; 2]) -> Call {
     };
     call.source = counted(1, 9);
     call
+}
+
+/// Zeros, ones, infinities and NaNs; then numbers near them or at the ends.
+const FLOATS: [u64; 14] = [
+    0x0000_0000_0000_0000,
+    0x8000_0000_0000_0000,
+    0x3ff0_0000_0000_0000,
+    0xbff0_0000_0000_0000,
+    0x7ff0_0000_0000_0000,
+    0xfff0_0000_0000_0000,
+    0x7ff0_0000_0000_0001,
+    0xfff8_0000_0000_0002,
+    0x3ff0_0000_0000_0001,
+    0x4000_0000_0000_0000,
+    0x0000_0000_0000_0001,
+    0x800f_ffff_ffff_ffff,
+    0x7fef_ffff_ffff_ffff,
+    0xffef_ffff_ffff_ffff,
+];
+
+/// Every rule on two updates of one cell, each of the three from a list.
+fn rules(size: Size, take: &mut dyn FnMut(Call)) {
+    const RULES: [Rule; 3] = [Rule::Lowest, Rule::Highest, Rule::Replace];
+    let wholes = vec![i32::MIN, i32::MAX, -1, 0, 1];
+    let floats = match size {
+        Size::Short => &FLOATS[..8],
+        Size::Long => &FLOATS[..],
+    };
+    let ceilings = floats.iter().map(|&limit| Rule::Ceiling(limit));
+    let float_rules: Vec<Rule> = RULES.into_iter().chain(ceilings).collect();
+    each(&vec![wholes; 3], &mut |values| {
+        for rule in RULES {
+            let [source, dest] = [&values[1..], &values[..1]].map(|v| Data::I32(v.to_vec()));
+            take(twice_on_one(rule, Element::I32, source, dest));
+        }
+    });
+    each(&vec![floats.to_vec(); 3], &mut |values| {
+        for &rule in &float_rules {
+            let [source, dest] = [&values[1..], &values[..1]].map(|v| Data::F64(v.to_vec()));
+            take(twice_on_one(rule, Element::F64, source, dest));
+        }
+    });
+}
+
+/// A scatter of two updates to one cell, in the layouts for which the Rust has
+/// a path of its own.
+fn twice_on_one(rule: Rule, element: Element, source: Data, dest: Data) -> Call {
+    let a = Arranged {
+        extents: &[1],
+        windows: &[1],
+        hidden: &[0],
+        map: &[0],
+        index_extents: vec![2, 1],
+        vector: 1,
+        shown: &[],
+        shape: vec![2],
+    };
+    let mut call = scattered(&a, 0);
+    call.job.element = element;
+    Call {
+        source,
+        dest,
+        rule,
+        ..call
+    }
 }

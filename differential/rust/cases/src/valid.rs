@@ -2,7 +2,7 @@
 
 use crate::contents::{elements, starts};
 use crate::random::Random;
-use lines::{Call, Element, GatherSpec, Job, Layout, ScatterSpec, Spec, View};
+use lines::{Call, Element, GatherSpec, Job, Layout, Rule, ScatterSpec, Spec, View};
 
 const MOST_GRID: u64 = 64;
 const MOST_SHOWN: u64 = 100;
@@ -262,6 +262,7 @@ pub fn gather_of(random: &mut Random, w: Windowed) -> Call {
         index: starts(random, index_len, reach),
         dest: elements(random, element, dest_len),
         layouts: [None, None, None],
+        rule: Rule::Add,
     }
 }
 
@@ -326,5 +327,6 @@ pub fn scatter_of(random: &mut Random, w: Windowed) -> Call {
         source: elements(random, element, update_len),
         dest: elements(random, element, dest_len),
         layouts: [None, None, None],
+        rule: Rule::Add,
     }
 }

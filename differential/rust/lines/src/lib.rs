@@ -102,8 +102,34 @@ impl Job {
     }
 }
 
+/// What an element becomes of what it holds and an update.
+#[derive(Clone, Copy, Debug, Default, PartialEq, Eq)]
+pub enum Rule {
+    #[default]
+    Add,
+    Lowest,
+    Highest,
+    Replace,
+    /// With the bits of its limit; in f64 cases alone.
+    Ceiling(u64),
+}
+
+impl Rule {
+    /// The name, without the limit.
+    pub fn name(self) -> &'static str {
+        match self {
+            Rule::Add => "add",
+            Rule::Lowest => "lowest",
+            Rule::Highest => "highest",
+            Rule::Replace => "replace",
+            Rule::Ceiling(_) => "ceiling",
+        }
+    }
+}
+
 /// A job with its slices. `layouts` are those that the call's views carry
-/// where they are not the plan's.
+/// where they are not the plan's. The rule is a scatter's; in a gather, which
+/// has none, it is Add.
 #[derive(Clone, Debug, PartialEq, Eq)]
 pub struct Call {
     pub job: Job,
@@ -111,6 +137,7 @@ pub struct Call {
     pub index: Vec<i64>,
     pub dest: Data,
     pub layouts: [Option<Layout>; 3],
+    pub rule: Rule,
 }
 
 impl Call {

@@ -1,7 +1,8 @@
 //! Reading lines.
 
 use crate::{
-    Answer, Call, Case, Data, Element, GatherSpec, Job, Layout, Number, ScatterSpec, Spec, View,
+    Answer, Call, Case, Data, Element, GatherSpec, Job, Layout, Number, Rule, ScatterSpec, Spec,
+    View,
 };
 use std::str::{FromStr, Split};
 
@@ -139,6 +140,18 @@ fn scatter_spec(tokens: &mut Tokens) -> Option<Spec> {
     }))
 }
 
+/// The rule that a scatter names; Add where it names none.
+fn rule(tokens: &mut Tokens, element: Element) -> Option<Rule> {
+    match (tokens.optional("rule"), element) {
+        (None | Some("add"), _) => Some(Rule::Add),
+        (Some("lowest"), _) => Some(Rule::Lowest),
+        (Some("highest"), _) => Some(Rule::Highest),
+        (Some("replace"), _) => Some(Rule::Replace),
+        (Some(text), Element::F64) => bits(text.strip_prefix("ceiling:")?).map(Rule::Ceiling),
+        (Some(_), Element::I32) => None,
+    }
+}
+
 fn call(kind: &str, tokens: &mut Tokens) -> Option<Call> {
     let job = job(kind, tokens)?;
     let (source, index);
@@ -161,6 +174,10 @@ fn call(kind: &str, tokens: &mut Tokens) -> Option<Call> {
             *slot = Some(layout(text)?);
         }
     }
+    let rule = match job.spec {
+        Spec::Gather(_) => Rule::Add,
+        Spec::Scatter(_) => rule(tokens, job.element)?,
+    };
     tokens.end()?;
     Some(Call {
         job,
@@ -168,6 +185,7 @@ fn call(kind: &str, tokens: &mut Tokens) -> Option<Call> {
         index,
         dest,
         layouts,
+        rule,
     })
 }
 

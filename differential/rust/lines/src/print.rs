@@ -1,6 +1,6 @@
 //! Writing lines.
 
-use crate::{Answer, Call, Case, Data, Element, Job, Layout, Number, Spec, View};
+use crate::{Answer, Call, Case, Data, Element, Job, Layout, Number, Rule, Spec, View};
 use std::fmt::{self, Display, Formatter};
 
 struct List<'a, T>(&'a [T]);
@@ -80,6 +80,16 @@ impl Display for Job {
     }
 }
 
+impl Display for Rule {
+    fn fmt(&self, f: &mut Formatter<'_>) -> fmt::Result {
+        f.write_str(self.name())?;
+        match *self {
+            Rule::Ceiling(limit) => write!(f, ":{}", Bits(limit)),
+            _ => Ok(()),
+        }
+    }
+}
+
 impl Display for Call {
     fn fmt(&self, f: &mut Formatter<'_>) -> fmt::Result {
         let (source, index, dest) = (&self.source, List(&self.index), &self.dest);
@@ -99,7 +109,10 @@ impl Display for Call {
                 write!(f, " {key}={layout}")?;
             }
         }
-        Ok(())
+        match self.rule {
+            Rule::Add => Ok(()),
+            rule => write!(f, " rule={rule}"),
+        }
     }
 }
 

@@ -1,5 +1,6 @@
 //! Document 01 in exact integers: the refusals in their order, the meaning of
-//! gather and scatter, the stored job. It knows nothing of the Rust original.
+//! gather and scatter, the stored job; and document 02's rules of a scatter.
+//! It knows nothing of the Rust original.
 //!
 //! A model can be twisted, for the mutation run: a check moved or dropped, or
 //! a slip made somewhere.
@@ -7,6 +8,7 @@
 mod arithmetic;
 mod checks;
 mod meaning;
+mod rules;
 mod shape;
 mod slips;
 mod stored;

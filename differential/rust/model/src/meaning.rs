@@ -4,7 +4,7 @@
 use crate::arithmetic::{self, at};
 use crate::shape::{batch_axes, others, pick};
 use crate::{Model, Slip};
-use lines::{Call, Data, Element, GatherSpec, ScatterSpec, Spec, View};
+use lines::{Call, Data, Element, GatherSpec, Rule, ScatterSpec, Spec, View};
 
 /// The coordinate of linear index `k`, first axis fastest.
 pub fn unravel(extents: &[u64], mut k: u128) -> Vec<i128> {
@@ -57,6 +57,12 @@ fn write(words: &mut [u64], place: i128, word: u64) {
     if let Some(cell) = usize::try_from(place).ok().and_then(|p| words.get_mut(p)) {
         *cell = word;
     }
+}
+
+/// Marks the place; true where it was not marked before.
+fn mark(marks: &mut [bool], place: i128) -> bool {
+    let inside = usize::try_from(place).ok().and_then(|p| marks.get_mut(p));
+    inside.is_some_and(|mark| !std::mem::replace(mark, true))
 }
 
 /// The coordinate is off the grid on some axis.
@@ -158,22 +164,28 @@ impl Model {
         coordinate
     }
 
-    /// The fold of adds over the cuts, in their order.
+    /// The cuts put on the grid by the call's rule, in their order. Only Add
+    /// and Ceiling add; the others keep the bits of what stays or is taken.
     fn scatter(&self, call: &Call, spec: &ScatterSpec) -> (Vec<u64>, Vec<bool>) {
         let old = words(&call.dest);
-        let mut cells = match self.slips(Slip::ScatterSumsFirst) {
+        let mut cells = match self.sums_first(call) {
             true => vec![0; old.len()],
             false => old.clone(),
         };
-        let mut added = vec![false; old.len()];
-        for (place, word) in self.cuts(call, spec) {
-            let sum = self.sum(read(&cells, place), word, call.job.element);
-            write(&mut cells, place, sum);
-            if let Some(mark) = usize::try_from(place).ok().and_then(|p| added.get_mut(p)) {
-                *mark = true;
+        let mut landed = vec![false; old.len()];
+        for (place, update) in self.cuts(call, spec) {
+            let held = match self.compares_with_old(call) {
+                true => read(&old, place),
+                false => read(&cells, place),
+            };
+            let first = mark(&mut landed, place);
+            if first || !self.keeps_first(call) {
+                write(&mut cells, place, self.combined(call, held, update));
             }
         }
-        self.slip_scatter(&mut cells, &old, &added, call);
+        self.slip_scatter(&mut cells, &old, &landed, call);
+        let adds = matches!(call.rule, Rule::Add | Rule::Ceiling(_));
+        let added = landed.iter().map(|&landed| landed && adds).collect();
         (cells, added)
     }
 
@@ -263,45 +275,21 @@ impl Model {
             .collect()
     }
 
-    fn sum(&self, old: u64, new: u64, element: Element) -> u64 {
-        if self.slips(Slip::ScatterOverwrites) {
-            return new;
-        }
-        match element {
-            Element::I32 => {
-                let (old, new) = (old as u32 as i32, new as u32 as i32);
-                let sum = match self.slips(Slip::SumSaturates) {
-                    true => old.saturating_add(new),
-                    false => old.wrapping_add(new),
-                };
-                u64::from(sum as u32)
-            }
-            Element::F64 => {
-                let (old, new) = (f64::from_bits(old), f64::from_bits(new));
-                let sum = match self.slips(Slip::SumInSingle) {
-                    true => f64::from((old as f32) + (new as f32)),
-                    false => old + new,
-                };
-                sum.to_bits()
-            }
-        }
-    }
-
     /// Slips in what a scatter leaves.
-    fn slip_scatter(&self, cells: &mut [u64], old: &[u64], added: &[bool], call: &Call) {
+    fn slip_scatter(&self, cells: &mut [u64], old: &[u64], landed: &[bool], call: &Call) {
         let float = call.job.element == Element::F64;
         match self.twist.slip {
             Some(Slip::ScatterUntouched) => cells.copy_from_slice(old),
-            Some(Slip::ScatterSumsFirst) => {
-                for ((cell, &old), &added) in cells.iter_mut().zip(old).zip(added) {
-                    *cell = match added {
+            Some(Slip::ScatterSumsFirst) if self.sums_first(call) => {
+                for ((cell, &old), &landed) in cells.iter_mut().zip(old).zip(landed) {
+                    *cell = match landed {
                         true => self.sum(old, *cell, call.job.element),
                         false => old,
                     };
                 }
             }
             Some(Slip::ScatterAddsZeroElsewhere) if float => {
-                for (cell, _) in cells.iter_mut().zip(added).filter(|(_, &added)| !added) {
+                for (cell, _) in cells.iter_mut().zip(landed).filter(|(_, &landed)| !landed) {
                     *cell = (f64::from_bits(*cell) + 0.0).to_bits();
                 }
             }
@@ -310,7 +298,7 @@ impl Model {
                     *cell = f64::NAN.to_bits();
                 }
             }
-            _ => {}
+            _ => self.slip_limit(cells, landed, call.rule),
         }
     }
 

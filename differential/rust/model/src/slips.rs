@@ -145,4 +145,30 @@ slips! {
         unseen "the cells of one window land on different elements of a nested destination";
     SumSaturates: "i32 sums saturate";
     SumInSingle: "f64 sums are taken in single precision";
+    // Rules.
+    RuleIgnored: "every scatter adds, whatever its rule";
+    LowestForHighest: "Highest takes the update if it is less";
+    HighestForLowest: "Lowest takes the update if it is greater";
+    LowestTakesEqual: "Lowest takes the update if it is less or equal";
+    HighestTakesEqual: "Highest takes the update if it is greater or equal";
+    LowestTakesNan: "Lowest takes the update unless it is greater or equal, so also where either is NaN";
+    HighestTakesNan: "Highest takes the update unless it is less or equal, so also where either is NaN";
+    LowestIsFmin: "Lowest takes a number where a NaN is held, as fmin does";
+    HighestIsFmax: "Highest takes a number where a NaN is held, as fmax does";
+    ComparesOldValue: "Lowest and Highest compare with the value before the call";
+    ComparesUnsigned: "i32 are compared as u32";
+    ComparesByDifference: "i32 are compared by a difference that wraps";
+    ComparesInTotalOrder: "f64 are compared in total order: -0 is less than +0, a NaN less or greater than all";
+    ComparesInSingle: "f64 are compared in single precision";
+    ReplaceKeepsFirst: "Replace keeps the first update that lands";
+    ReplaceAddsToZero: "Replace adds the update to +0";
+    KeptNanQuieted: "Lowest, Highest and Replace quiet NaNs";
+    LimitIgnored: "Ceiling adds without a limit";
+    CeilingAtTheEnd: "Ceiling's limit is applied once, after the last update";
+    CeilingOfUpdate: "Ceiling compares the update with the limit, not the sum";
+    CeilingOfOldValue: "Ceiling compares the old value with the limit, not the sum";
+    CeilingTakesEqual: "Ceiling takes the limit where the sum is greater or equal";
+    CeilingTakesNan: "Ceiling takes the limit unless the sum is less or equal, so also where either is NaN";
+    CeilingTurnedRound: "Ceiling takes the limit where the sum is less";
+    CeilingElsewhere: "Ceiling's limit is applied to cells that nothing lands on";
 }

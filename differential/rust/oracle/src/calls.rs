@@ -2,8 +2,9 @@
 
 use crate::added;
 use crate::gather_plan::{GatherPlan, GatherSpec, ScatterPlan, ScatterSpec};
+use crate::rules::{Ceiling, Highest, Lowest, Replace};
 use crate::stubs::{Exec, RawStridedMut, RawStridedRef, StridedError};
-use lines::{Answer, Call, Case, Data, Layout, Number, Spec, View, MOST_UPDATES};
+use lines::{Answer, Call, Case, Data, Layout, Number, Rule, Spec, View, MOST_UPDATES};
 use std::num::Wrapping;
 use std::ops::Add;
 
@@ -20,32 +21,75 @@ fn called(call: &Call) -> Answer {
         return Answer::Called(number, call.dest.clone());
     }
     match (&call.source, &call.dest) {
-        (Data::I32(source), Data::I32(dest)) => {
-            let wrapping = |v: &[i32]| v.iter().map(|&x| Wrapping(x)).collect::<Vec<_>>();
-            let back = |v: Vec<Wrapping<i32>>| Data::I32(v.iter().map(|x| x.0).collect());
-            run(call, &wrapping(source), wrapping(dest), back)
-        }
-        (Data::F64(source), Data::F64(dest)) => {
-            let floats = |v: &[u64]| v.iter().map(|&x| f64::from_bits(x)).collect::<Vec<_>>();
-            let back = |v: Vec<f64>| Data::F64(v.iter().map(|x| x.to_bits()).collect());
-            run(call, &floats(source), floats(dest), back)
-        }
+        (Data::I32(source), Data::I32(dest)) => by_i32(call, source, dest),
+        (Data::F64(source), Data::F64(dest)) => by_f64(call, source, dest),
         _ => Answer::Malformed,
     }
 }
 
-/// Compiles and executes, and gives the number with the whole destination.
-fn run<T>(call: &Call, source: &[T], mut dest: Vec<T>, back: impl Fn(Vec<T>) -> Data) -> Answer
+/// The Rust on elements whose `+` is the rule. A gather's `+` is not used.
+fn by_i32(call: &Call, source: &[i32], dest: &[i32]) -> Answer {
+    let slices = (source, dest);
+    match call.rule {
+        Rule::Add => run(call, slices, Wrapping, |x| x.0, Data::I32),
+        Rule::Lowest => run(call, slices, Lowest, |x| x.0, Data::I32),
+        Rule::Highest => run(call, slices, Highest, |x| x.0, Data::I32),
+        Rule::Replace => run(call, slices, Replace, |x| x.0, Data::I32),
+        Rule::Ceiling(_) => Answer::Malformed,
+    }
+}
+
+/// The same for f64, which a case has as bits.
+fn by_f64(call: &Call, source: &[u64], dest: &[u64]) -> Answer {
+    let slices = (source, dest);
+    let float = f64::from_bits;
+    match call.rule {
+        Rule::Add => run(call, slices, float, |x| x.to_bits(), Data::F64),
+        Rule::Lowest => {
+            let element = |x| Lowest(float(x));
+            run(call, slices, element, |x| x.0.to_bits(), Data::F64)
+        }
+        Rule::Highest => {
+            let element = |x| Highest(float(x));
+            run(call, slices, element, |x| x.0.to_bits(), Data::F64)
+        }
+        Rule::Replace => {
+            let element = |x| Replace(float(x));
+            run(call, slices, element, |x| x.0.to_bits(), Data::F64)
+        }
+        Rule::Ceiling(limit) => {
+            let limit = float(limit);
+            let element = |x| Ceiling {
+                value: float(x),
+                limit,
+            };
+            run(call, slices, element, |x| x.value.to_bits(), Data::F64)
+        }
+    }
+}
+
+/// Compiles and executes on elements made of the case's, and gives the number
+/// with the whole destination.
+fn run<E: Copy, T>(
+    call: &Call,
+    (source, dest): (&[E], &[E]),
+    element: impl Fn(E) -> T,
+    back: impl Fn(T) -> E,
+    data: fn(Vec<E>) -> Data,
+) -> Answer
 where
     T: Copy + Add<Output = T> + Send + Sync,
 {
+    let elements = |slice: &[E]| slice.iter().map(|&x| element(x)).collect::<Vec<T>>();
+    let (source, mut dest) = (elements(source), elements(dest));
     let done = match &call.job.spec {
-        Spec::Gather(_) => gather(call, source, &mut dest),
-        Spec::Scatter(_) => scatter(call, source, &mut dest),
+        Spec::Gather(_) => gather(call, &source, &mut dest),
+        Spec::Scatter(_) => scatter(call, &source, &mut dest),
     };
+    let dest = data(dest.into_iter().map(back).collect());
     match done {
-        Ok(()) => Answer::Called(Number::DONE, back(dest)),
-        Err(Stop::Refused(number)) => Answer::Called(number, back(dest)),
+        Ok(()) => Answer::Called(Number::DONE, dest),
+        Err(Stop::Refused(number)) => Answer::Called(number, dest),
         Err(Stop::TooMany) => Answer::TooMany,
     }
 }

@@ -3,6 +3,7 @@
 
 mod added;
 mod calls;
+mod rules;
 mod stubs;
 
 // `gather_plan` and `inline`.

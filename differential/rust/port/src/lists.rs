@@ -1,7 +1,7 @@
 //! Calls by lists, and the answers that they give.
 
 use crate::{called, number};
-use lines::{Answer, Call, Data, GatherSpec, Number, ScatterSpec, Spec, View};
+use lines::{Answer, Call, Data, GatherSpec, Number, Rule, ScatterSpec, Spec, View};
 use strided::ffi;
 
 /// A call whole, and the export of its compile's refusals with it: a panic
@@ -63,46 +63,58 @@ fn gather(call: &Call, spec: &GatherSpec) -> (Number, Data) {
     )
 }
 
-/// Compile and call: the number, and the destination as they leave it.
+/// Compile and call: the number, and the destination as they leave it. The two
+/// functions differ in the element, and in the limit that i32 has not.
 fn scatter(call: &Call, spec: &ScatterSpec) -> (Number, Data) {
     let [index, updates, dest] = &call.job.views;
     let [a, b, c] = [0, 1, 2].map(|place| call.call_layout(place));
-    // The two functions differ in the element alone.
+    let (rule, limit) = rule(call.rule);
     macro_rules! by {
-        ($function:ident) => {
-            |source, written| {
-                ffi::$function(
-                    &index.layout.extents,
-                    &index.layout.strides,
-                    &updates.layout.extents,
-                    &updates.layout.strides,
-                    &dest.layout.extents,
-                    &dest.layout.strides,
-                    &spec.update_window_dims,
-                    &spec.inserted_window_dims,
-                    &spec.scatter_dims_to_operand_dims,
-                    spec.index_vector_dim,
-                    &a.extents,
-                    &a.strides,
-                    index.offset,
-                    &b.extents,
-                    &b.strides,
-                    updates.offset,
-                    &c.extents,
-                    &c.strides,
-                    dest.offset,
-                    &call.index,
-                    source,
-                    written,
-                )
-            }
+        ($function:ident($($first:ident),*)) => {
+            |source, written| ffi::$function(
+                $($first,)*
+                &index.layout.extents,
+                &index.layout.strides,
+                &updates.layout.extents,
+                &updates.layout.strides,
+                &dest.layout.extents,
+                &dest.layout.strides,
+                &spec.update_window_dims,
+                &spec.inserted_window_dims,
+                &spec.scatter_dims_to_operand_dims,
+                spec.index_vector_dim,
+                &a.extents,
+                &a.strides,
+                index.offset,
+                &b.extents,
+                &b.strides,
+                updates.offset,
+                &c.extents,
+                &c.strides,
+                dest.offset,
+                &call.index,
+                source,
+                written,
+            )
         };
     }
     called(
         call,
-        by!(strided_raw_scatter_i32),
-        by!(strided_raw_scatter_f64),
+        by!(strided_raw_scatter_i32(rule)),
+        by!(strided_raw_scatter_f64(rule, limit)),
     )
+}
+
+/// The library's number for the rule, and the limit. Ceiling alone reads it;
+/// what the others are given would show in nearly every sum.
+fn rule(rule: Rule) -> (u64, f64) {
+    match rule {
+        Rule::Add => (1, f64::NEG_INFINITY),
+        Rule::Lowest => (2, f64::NEG_INFINITY),
+        Rule::Highest => (3, f64::NEG_INFINITY),
+        Rule::Replace => (4, f64::NEG_INFINITY),
+        Rule::Ceiling(limit) => (5, f64::from_bits(limit)),
+    }
 }
 
 /// The first refusal of a gather's compile; 0 where there is none.

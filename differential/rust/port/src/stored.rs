@@ -2,7 +2,7 @@
 //! stored bytes.
 
 use crate::{called, number};
-use lines::{Answer, Call, Data, Element, Job, Number, Spec};
+use lines::{Answer, Call, Data, Element, Job, Number, Rule, Spec};
 use strided::ffi;
 
 /// More bytes than any job takes.
@@ -42,9 +42,10 @@ pub fn write(job: &Job, room: u64) -> Answer {
 
 /// A call by its stored job: written, then read, compiled and called. Not for
 /// a job that has no stored form, nor where a view of the call carries another
-/// layout than the job's.
+/// layout than the job's, nor for a rule other than Add, which is the one that
+/// stored jobs mean.
 pub fn call(call: &Call) -> Option<Answer> {
-    if call.layouts.iter().any(Option::is_some) {
+    if call.layouts.iter().any(Option::is_some) || call.rule != Rule::Add {
         return None;
     }
     let mut bytes = vec![0; NEVER_NEEDED as usize];

@@ -3,7 +3,7 @@
 //! Stored answers may stand for the oracle's, and the oracle's for the port's.
 
 use cases::answers::{load, outside, same, Answered};
-use lines::{Answer, Case, Spec};
+use lines::{Answer, Call, Case, Number, Spec};
 use model::{order, Check, Model};
 use std::collections::BTreeMap;
 use std::path::Path;
@@ -22,6 +22,8 @@ struct Counts {
     /// By gather or scatter, and by the check's place in the order.
     checks: BTreeMap<(bool, usize), (String, usize)>,
     outside: BTreeMap<&'static str, usize>,
+    /// Scatters that were done, by element and rule.
+    rules: BTreeMap<(String, &'static str), usize>,
     /// What the second driver answered, by number.
     port_numbers: BTreeMap<u64, usize>,
     different: usize,
@@ -91,6 +93,7 @@ impl Counts {
         if let Some(reason) = outside(&verdict, call) {
             self.count_outside(reason);
         }
+        self.count_rule(call, &verdict.answer);
         let agrees = |driver| {
             let answer = answered.answer(driver);
             answer.is_some_and(|answer| same(&answer, &verdict.answer, &verdict.added))
@@ -123,6 +126,14 @@ impl Counts {
 
     fn count_outside(&mut self, reason: &'static str) {
         *self.outside.entry(reason).or_default() += 1;
+    }
+
+    fn count_rule(&mut self, call: &Call, answer: &Answer) {
+        let done = matches!(answer, Answer::Called(Number::DONE, _));
+        if done && matches!(call.job.spec, Spec::Scatter(_)) {
+            let key = (call.job.element.to_string(), call.rule.name());
+            *self.rules.entry(key).or_default() += 1;
+        }
     }
 
     /// Shows a difference between a driver and the model.
@@ -158,6 +169,10 @@ impl Counts {
         println!("outside the domain of comparison:");
         for (reason, count) in &self.outside {
             println!("  {reason}: {count}");
+        }
+        println!("scatters done, by rule:");
+        for ((element, rule), count) in &self.rules {
+            println!("  {element} {rule}: {count}");
         }
         println!("answered by {}:", self.names[PORT]);
         for (number, count) in &self.port_numbers {

@@ -1,10 +1,10 @@
-//! Prints cases: `generate COUNT SEED`, `generate small [long]`,
+//! Prints cases: `generate COUNT SEED`, `generate add COUNT SEED`, `generate small [long]`,
 //! `generate large COUNT SEED`, `generate jobs COUNT SEED`, or `generate jobs small`.
 
 use cases::jobs::{self, Jobs};
 use cases::large::Large;
 use cases::small::{self, Size};
-use cases::Generator;
+use cases::{Generator, Ruled};
 use std::fmt::Display;
 use std::io::{self, BufWriter, Write};
 
@@ -17,11 +17,17 @@ fn main() -> io::Result<()> {
         ["small", "long"] => print_small(Size::Long, &mut output)?,
         ["jobs", "small"] => print("js", jobs::small(), &mut output)?,
         [count, seed] => {
+            let calls = Ruled::new(Generator::new(number(seed)), number(seed));
+            let calls = calls.take(number(count) as usize);
+            print(&format!("r{seed}."), calls, &mut output)?;
+        }
+        ["add", count, seed] => {
             let calls = Generator::new(number(seed)).take(number(count) as usize);
             print(&format!("r{seed}."), calls, &mut output)?;
         }
         ["large", count, seed] => {
-            let calls = Large::new(number(seed)).take(number(count) as usize);
+            let calls = Ruled::new(Large::new(number(seed)), number(seed));
+            let calls = calls.take(number(count) as usize);
             print(&format!("l{seed}."), calls, &mut output)?;
         }
         ["jobs", count, seed] => {
@@ -38,7 +44,7 @@ fn number(text: &str) -> u64 {
 }
 
 fn usage() -> ! {
-    eprintln!("usage: generate COUNT SEED | small [long] | large COUNT SEED | jobs COUNT SEED | jobs small");
+    eprintln!("usage: generate [add | large | jobs] COUNT SEED | small [long] | jobs small");
     std::process::exit(2);
 }
 

@@ -2,7 +2,7 @@
 //! `pack CASES ANSWERS FILE`. The format stands in the README beside FILE.
 
 use cases::answers::{load, Answered};
-use lines::{Answer, Call, Data, Element, GatherSpec, Layout, Number, ScatterSpec, Spec};
+use lines::{Answer, Call, Data, Element, GatherSpec, Layout, Number, Rule, ScatterSpec, Spec};
 use std::path::Path;
 use std::{fs, io};
 
@@ -45,6 +45,9 @@ fn header(cases: usize, body: &[u8]) -> Vec<u8> {
 
 fn packed(answered: &Answered) -> Result<Vec<u8>, &'static str> {
     let call = answered.call().ok_or("not a gather or a scatter")?;
+    if call.rule != Rule::Add {
+        return Err("a rule, which the program does not know");
+    }
     let Some(Answer::Called(number, after)) = answered.answer(0) else {
         return Err("no answer with a destination");
     };

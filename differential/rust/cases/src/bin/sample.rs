@@ -1,7 +1,8 @@
 //! Chooses cases to be stored: `sample CASES ORACLE DIR` writes
 //! DIR/cases.txt and DIR/answers.txt. Every paper's case is kept, a case that
 //! sees each mutant, and some for every refusal, answer, rank, element type
-//! and place of the vector axis.
+//! and place of the vector axis. Cases that name a rule are left out: the
+//! program that replays the stored ones knows no rules.
 
 use cases::answers::{first_seen, load, telling, Answered};
 use lines::{Answer, Call, Spec};
@@ -21,7 +22,7 @@ fn main() -> io::Result<()> {
         std::process::exit(2);
     };
     let mut cases = load(Path::new(cases), &[Path::new(oracle)])?;
-    cases.retain(|answered| answered.text.len() <= LONGEST);
+    cases.retain(|answered| answered.text.len() <= LONGEST && !answered.text.contains(" rule="));
     std::panic::set_hook(Box::new(|_| {}));
     let chosen = chosen(&cases);
     write(
