@@ -219,7 +219,7 @@ pub fn take_run(
 }
 
 // n cells by the rule: the source's place from s by ss; the destination's is d, moved by the start read at t by ts.
-pub fn put_cells(
+fn put_cells_by(
     rule: Rule,
     src: &[i32],
     starts: &[i64],
@@ -251,8 +251,104 @@ pub fn put_cells(
     }
 }
 
+// The same, by a loop of each rule's own: the rule is asked once, outside the loop.
+pub fn put_cells(
+    rule: Rule,
+    src: &[i32],
+    starts: &[i64],
+    dst: &mut [i32],
+    n: usize,
+    s: i64,
+    t: i64,
+    d: i64,
+    ss: i64,
+    ts: i64,
+    count: usize,
+    offsets: &[i64; RAW_FUSED_RANK_LIMIT],
+    strides: &[i64; RAW_FUSED_RANK_LIMIT],
+    limits: &[u64; RAW_FUSED_RANK_LIMIT],
+)
+    requires { ⌜ Putting (now starts) (now offsets) (now strides) (now limits) count s t d ss ts n (length (now src)) (length (now dst)) ⌝ }
+    ensures { λ _. ⌜ now (dst .exit) ≡ inOrder (cellAt (pos 0) (ruleI32 rule) (now (src .entry)) (line s ss) (movedAt (now (starts .entry)) (now (offsets .entry)) (now (strides .entry)) (now (limits .entry)) count (λ _. d) (line t ts))) n (now (dst .entry)) ⌝ }
+{
+    match rule {
+        Rule::Add => {
+            put_cells_by(
+                Rule::Add,
+                src,
+                starts,
+                dst,
+                n,
+                s,
+                t,
+                d,
+                ss,
+                ts,
+                count,
+                offsets,
+                strides,
+                limits,
+            );
+        }
+        Rule::Lowest => {
+            put_cells_by(
+                Rule::Lowest,
+                src,
+                starts,
+                dst,
+                n,
+                s,
+                t,
+                d,
+                ss,
+                ts,
+                count,
+                offsets,
+                strides,
+                limits,
+            );
+        }
+        Rule::Highest => {
+            put_cells_by(
+                Rule::Highest,
+                src,
+                starts,
+                dst,
+                n,
+                s,
+                t,
+                d,
+                ss,
+                ts,
+                count,
+                offsets,
+                strides,
+                limits,
+            );
+        }
+        Rule::Replace => {
+            put_cells_by(
+                Rule::Replace,
+                src,
+                starts,
+                dst,
+                n,
+                s,
+                t,
+                d,
+                ss,
+                ts,
+                count,
+                offsets,
+                strides,
+                limits,
+            );
+        }
+    }
+}
+
 // n cells by the rule: the source's place from s by ss; the destination's by the start read at t by ts, clamped, times the stride.
-pub fn put_strided(
+fn put_strided_by(
     rule: Rule,
     src: &[i32],
     starts: &[i64],
@@ -281,6 +377,92 @@ pub fn put_strided(
         let v = rules::apply(rule, dst[b], src[a]);
         dst[b] = v;
         i += 1;
+    }
+}
+
+// The same, by a loop of each rule's own: the rule is asked once, outside the loop.
+pub fn put_strided(
+    rule: Rule,
+    src: &[i32],
+    starts: &[i64],
+    dst: &mut [i32],
+    n: usize,
+    t: i64,
+    ts: i64,
+    base: i64,
+    stride: i64,
+    limit: u64,
+    s: i64,
+    ss: i64,
+)
+    requires { ⌜ Clamped (now starts) t ts base stride s ss limit n (length (now dst)) (length (now src)) ⌝ }
+    ensures { λ _. ⌜ now (dst .exit) ≡ inOrder (cellAt (pos 0) (ruleI32 rule) (now (src .entry)) (line s ss) (clampedAt (now (starts .entry)) (line t ts) base stride limit)) n (now (dst .entry)) ⌝ }
+{
+    match rule {
+        Rule::Add => {
+            put_strided_by(
+                Rule::Add,
+                src,
+                starts,
+                dst,
+                n,
+                t,
+                ts,
+                base,
+                stride,
+                limit,
+                s,
+                ss,
+            );
+        }
+        Rule::Lowest => {
+            put_strided_by(
+                Rule::Lowest,
+                src,
+                starts,
+                dst,
+                n,
+                t,
+                ts,
+                base,
+                stride,
+                limit,
+                s,
+                ss,
+            );
+        }
+        Rule::Highest => {
+            put_strided_by(
+                Rule::Highest,
+                src,
+                starts,
+                dst,
+                n,
+                t,
+                ts,
+                base,
+                stride,
+                limit,
+                s,
+                ss,
+            );
+        }
+        Rule::Replace => {
+            put_strided_by(
+                Rule::Replace,
+                src,
+                starts,
+                dst,
+                n,
+                t,
+                ts,
+                base,
+                stride,
+                limit,
+                s,
+                ss,
+            );
+        }
     }
 }
 

@@ -176,7 +176,7 @@ pub fn take_run(
 }
 
 // n cells by the rule: the source's place from s by ss; the destination's is d, moved by the start read at t by ts.
-pub fn put_cells(
+fn put_cells_by(
     rule: RuleF64,
     src: &[f64],
     starts: &[i64],
@@ -208,8 +208,122 @@ pub fn put_cells(
     }
 }
 
+// The same, by a loop of each rule's own: the rule is asked once, outside the loop.
+pub fn put_cells(
+    rule: RuleF64,
+    src: &[f64],
+    starts: &[i64],
+    dst: &mut [f64],
+    n: usize,
+    s: i64,
+    t: i64,
+    d: i64,
+    ss: i64,
+    ts: i64,
+    count: usize,
+    offsets: &[i64; RAW_FUSED_RANK_LIMIT],
+    strides: &[i64; RAW_FUSED_RANK_LIMIT],
+    limits: &[u64; RAW_FUSED_RANK_LIMIT],
+)
+    requires { ⌜ Putting (now starts) (now offsets) (now strides) (now limits) count s t d ss ts n (length (now src)) (length (now dst)) ⌝ }
+    ensures { λ _. ⌜ now (dst .exit) ≡ inOrder (cellAt nan (ruleF64 rule) (now (src .entry)) (line s ss) (movedAt (now (starts .entry)) (now (offsets .entry)) (now (strides .entry)) (now (limits .entry)) count (λ _. d) (line t ts))) n (now (dst .entry)) ⌝ }
+{
+    match rule {
+        RuleF64::Add => {
+            put_cells_by(
+                RuleF64::Add,
+                src,
+                starts,
+                dst,
+                n,
+                s,
+                t,
+                d,
+                ss,
+                ts,
+                count,
+                offsets,
+                strides,
+                limits,
+            );
+        }
+        RuleF64::Lowest => {
+            put_cells_by(
+                RuleF64::Lowest,
+                src,
+                starts,
+                dst,
+                n,
+                s,
+                t,
+                d,
+                ss,
+                ts,
+                count,
+                offsets,
+                strides,
+                limits,
+            );
+        }
+        RuleF64::Highest => {
+            put_cells_by(
+                RuleF64::Highest,
+                src,
+                starts,
+                dst,
+                n,
+                s,
+                t,
+                d,
+                ss,
+                ts,
+                count,
+                offsets,
+                strides,
+                limits,
+            );
+        }
+        RuleF64::Replace => {
+            put_cells_by(
+                RuleF64::Replace,
+                src,
+                starts,
+                dst,
+                n,
+                s,
+                t,
+                d,
+                ss,
+                ts,
+                count,
+                offsets,
+                strides,
+                limits,
+            );
+        }
+        RuleF64::Ceiling(ceiling) => {
+            put_cells_by(
+                RuleF64::Ceiling(ceiling),
+                src,
+                starts,
+                dst,
+                n,
+                s,
+                t,
+                d,
+                ss,
+                ts,
+                count,
+                offsets,
+                strides,
+                limits,
+            );
+        }
+    }
+}
+
 // n cells by the rule: the source's place from s by ss; the destination's by the start read at t by ts, clamped, times the stride.
-pub fn put_strided(
+fn put_strided_by(
     rule: RuleF64,
     src: &[f64],
     starts: &[i64],
@@ -238,6 +352,108 @@ pub fn put_strided(
         let v = rules::apply_f64(rule, dst[b], src[a]);
         dst[b] = v;
         i += 1;
+    }
+}
+
+// The same, by a loop of each rule's own: the rule is asked once, outside the loop.
+pub fn put_strided(
+    rule: RuleF64,
+    src: &[f64],
+    starts: &[i64],
+    dst: &mut [f64],
+    n: usize,
+    t: i64,
+    ts: i64,
+    base: i64,
+    stride: i64,
+    limit: u64,
+    s: i64,
+    ss: i64,
+)
+    requires { ⌜ Clamped (now starts) t ts base stride s ss limit n (length (now dst)) (length (now src)) ⌝ }
+    ensures { λ _. ⌜ now (dst .exit) ≡ inOrder (cellAt nan (ruleF64 rule) (now (src .entry)) (line s ss) (clampedAt (now (starts .entry)) (line t ts) base stride limit)) n (now (dst .entry)) ⌝ }
+{
+    match rule {
+        RuleF64::Add => {
+            put_strided_by(
+                RuleF64::Add,
+                src,
+                starts,
+                dst,
+                n,
+                t,
+                ts,
+                base,
+                stride,
+                limit,
+                s,
+                ss,
+            );
+        }
+        RuleF64::Lowest => {
+            put_strided_by(
+                RuleF64::Lowest,
+                src,
+                starts,
+                dst,
+                n,
+                t,
+                ts,
+                base,
+                stride,
+                limit,
+                s,
+                ss,
+            );
+        }
+        RuleF64::Highest => {
+            put_strided_by(
+                RuleF64::Highest,
+                src,
+                starts,
+                dst,
+                n,
+                t,
+                ts,
+                base,
+                stride,
+                limit,
+                s,
+                ss,
+            );
+        }
+        RuleF64::Replace => {
+            put_strided_by(
+                RuleF64::Replace,
+                src,
+                starts,
+                dst,
+                n,
+                t,
+                ts,
+                base,
+                stride,
+                limit,
+                s,
+                ss,
+            );
+        }
+        RuleF64::Ceiling(ceiling) => {
+            put_strided_by(
+                RuleF64::Ceiling(ceiling),
+                src,
+                starts,
+                dst,
+                n,
+                t,
+                ts,
+                base,
+                stride,
+                limit,
+                s,
+                ss,
+            );
+        }
     }
 }
 
@@ -300,11 +516,11 @@ pub fn put_ones(rule: RuleF64, src: &[f64], starts: &[i64], dst: &mut [f64], lim
         RuleF64::Highest => {
             put_fours(RuleF64::Highest, src, starts, dst, limit);
         }
-        RuleF64::Ceiling(ceiling) => {
-            put_fours(RuleF64::Ceiling(ceiling), src, starts, dst, limit);
-        }
         RuleF64::Replace => {
             put_fours(RuleF64::Replace, src, starts, dst, limit);
+        }
+        RuleF64::Ceiling(ceiling) => {
+            put_fours(RuleF64::Ceiling(ceiling), src, starts, dst, limit);
         }
     }
 }

@@ -133,3 +133,17 @@ module _ {A : Type 0} (z : A) (rule : A → A → A) (src : List A) (s d ss ds s
       ∙ ap₂ (λ (a b : ℤ). inOrder (runAt z rule src s d a b (read st) (read dt) n) j x) (back f3) (back f4)
       ∙ ap₂ (λ (a b : ℤ). inOrder (runAt z rule src s d ss ds a b n) j x) (back f5) (back f6)
       ∙ ap (λ (k : ℕ). inOrder (runAt z rule src s d ss ds st dt n) k x) e
+
+-- ---- one run is a plane of one row
+pub one-plane : (s d ss ds st dt : ℤ) (n sn dn : ℕ) → 0 < n → Run s d ss ds n sn dn → Plane s d ss ds st dt n 1 sn dn
+one-plane s d ss ds st dt n sn dn h r =
+    record {
+      some = h;
+      few = omega arith;
+      runs = λ j k. subst (λ (i : ℕ). Run (line s st i) (line d dt i) ss ds n sn dn) (omega arith)
+          (subst (λ (x : ℤ). Run x (line d dt 0) ss ds n sn dn) (sym (line-zero s st)) (subst (λ (x : ℤ). Run s x ss ds n sn dn) (sym (line-zero d dt)) r));
+    }
+
+pub one-row : {A : Type 0} (z : A) (rule : A → A → A) (src : List A) (s d ss ds st dt : ℤ) (n : ℕ) (x : List A) → inOrder (runAt z rule src s d ss ds st dt n) 1 x ≡ inOrder (cellAt z rule src (line s ss) (line d ds)) n x
+one-row z rule src s d ss ds st dt n x =
+    unfold inOrder in ap₂ (λ (a b : ℤ). inOrder (cellAt z rule src (line a ss) (line b ds)) n x) (line-zero s st) (line-zero d dt)

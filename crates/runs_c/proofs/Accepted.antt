@@ -9,7 +9,7 @@ use borrow.Author.Tests.{leb-true, lt-leb, le-leb, not-true}
 use lib.Dec.{leb}
 use lib.ListN.{length, getD, take, drop, replicate, drop-of-length-le}
 use lib.Seq.{drop-cons, getD-take, length-take-le}
-use lib.IntN.{ℤ}
+use lib.IntN.{ℤ, pos}
 use mir.Syntax.{w64}
 use mir.Val.{SFits}
 use Rattle.integer.specs.Tests.{and-true}
@@ -19,7 +19,8 @@ use Rattle.indexing.specs.Loops.{inOrder}
 use Rattle.layout.specs.Laws.{some-cells}
 use Rattle.layout.specs.Layouts.{rankLimit}
 use Rattle.layout.specs.Nested.{hasZero}
-use Rattle.runs.specs.Runs.{cellAt, line, Run}
+use Rattle.runs.specs.Runs.{cellAt, line, Run, Plane}
+use Rattle.runs.proofs.Runs.{one-plane}
 use Rattle.runs.proofs.Place.{read}
 use Rattle.windows.specs.Windows.{windowed, Window, Units, Level}
 use Rattle.windows.proofs.Levels.{region-line}
@@ -114,14 +115,19 @@ module _ (rank : ℕ) (shape : List ℕ) (ss ds : List ℤ) (s d : ℤ) (sn dn :
     pub accepted-level : (low : ℕ) → low < rank → Units low shape → SFits w64 s → SFits w64 d → Level (read s) (read d) shape ss ds low rank sn dn
     accepted-level low h u fs fd = simp (back fs, back fd) (record { below = h; units = u; positive = accepted-cells; window = accepted-window })
 
--- one axis is a run
-pub accepted-run : (n : ℕ) (ss ds s d : ℤ) (sn dn : ℕ) → accepted 1 (replicate rankLimit n) (replicate rankLimit ss) (replicate rankLimit ds) s d sn dn ≡ true → Run s d ss ds n sn dn
+-- one axis is a run, and a plane of one row
+accepted-run : (n : ℕ) (ss ds s d : ℤ) (sn dn : ℕ) → accepted 1 (replicate rankLimit n) (replicate rankLimit ss) (replicate rankLimit ds) s d sn dn ≡ true → Run s d ss ds n sn dn
 accepted-run n ss ds s d sn dn e =
     let w = accepted-window 1 (replicate rankLimit n) (replicate rankLimit ss) (replicate rankLimit ds) s d sn dn refl refl refl e in
     record {
       source = region-line s (replicate rankLimit n) (replicate rankLimit ss) 0 sn (w .source) (λ i h. absurd (omega arith));
       dest = region-line d (replicate rankLimit n) (replicate rankLimit ds) 0 dn (w .dest) (λ i h. absurd (omega arith));
     }
+
+pub accepted-plane : (n : ℕ) (ss ds s d : ℤ) (sn dn : ℕ) → accepted 1 (replicate rankLimit n) (replicate rankLimit ss) (replicate rankLimit ds) s d sn dn ≡ true → Plane s d ss ds (pos 0) (pos 0) n 1 sn dn
+unfolding AllPos
+accepted-plane n ss ds s d sn dn e =
+    one-plane s d ss ds (pos 0) (pos 0) n sn dn (accepted-cells 1 (replicate rankLimit n) (replicate rankLimit ss) (replicate rankLimit ds) s d sn dn refl refl refl e .0) (accepted-run n ss ds s d sn dn e)
 
 -- ---- what is handed back
 module _ {A : Type 0} (test : Bool) (turn : ℕ → List A → List A) (times : ℕ) (x : List A) where

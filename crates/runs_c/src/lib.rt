@@ -119,7 +119,7 @@ pub extern "C" fn bench_run_i32(
     let rule = rule_i32(add);
     let mut i: u64 = 0;
     while i < times {
-        runs::run(rule, src, dst, n as usize, s, d, ss, ds);
+        runs::plane(rule, src, dst, n as usize, 1, s, d, ss, ds, 0, 0);
         i += 1;
     }
     true
@@ -176,7 +176,7 @@ pub extern "C" fn bench_run_f64(
     let rule = rule_f64(add);
     let mut i: u64 = 0;
     while i < times {
-        runs_f64::run(rule, src, dst, n as usize, s, d, ss, ds);
+        runs_f64::plane(rule, src, dst, n as usize, 1, s, d, ss, ds, 0, 0);
         i += 1;
     }
     true

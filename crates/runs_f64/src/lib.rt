@@ -52,36 +52,20 @@ fn copies(src: &[f64], dst: &mut [f64])
     block(&src[at..n], &mut dst[at..n]);
 }
 
-// Two slices of one length, by a loop of each rule's own: Replace of more than a few cells by blocks.
-pub fn ones(rule: RuleF64, src: &[f64], dst: &mut [f64])
+// A copy: of more than a few cells by blocks.
+fn copied(src: &[f64], dst: &mut [f64])
     requires { ⌜ length (now src) ≡ length (now dst) ⌝ }
-    ensures { λ _. ⌜ now (dst .exit) ≡ inOrder (cellAt nan (ruleF64 rule) (now (src .entry)) pos pos) (length (now (dst .entry))) (now (dst .entry)) ⌝ }
+    ensures { λ _. ⌜ now (dst .exit) ≡ inOrder (cellAt nan (ruleF64 R.Replace) (now (src .entry)) pos pos) (length (now (dst .entry))) (now (dst .entry)) ⌝ }
 {
-    match rule {
-        RuleF64::Add => {
-            each(RuleF64::Add, src, dst);
-        }
-        RuleF64::Lowest => {
-            each(RuleF64::Lowest, src, dst);
-        }
-        RuleF64::Highest => {
-            each(RuleF64::Highest, src, dst);
-        }
-        RuleF64::Ceiling(ceiling) => {
-            each(RuleF64::Ceiling(ceiling), src, dst);
-        }
-        RuleF64::Replace => {
-            if dst.len() < FEW {
-                each(RuleF64::Replace, src, dst);
-            } else {
-                copies(src, dst);
-            }
-        }
+    if dst.len() < FEW {
+        each(RuleF64::Replace, src, dst);
+    } else {
+        copies(src, dst);
     }
 }
 
 // n cells of stride 1 on both sides, from the places s and d: on the parts of the slices that they are.
-pub fn row(rule: RuleF64, src: &[f64], dst: &mut [f64], n: usize, s: i64, d: i64)
+fn row(rule: RuleF64, src: &[f64], dst: &mut [f64], n: usize, s: i64, d: i64)
     requires { ⌜ (0 < n) × Run s d (pos 1) (pos 1) n (length (now src)) (length (now dst)) ⌝ }
     ensures { λ _. ⌜ now (dst .exit) ≡ inOrder (cellAt nan (ruleF64 rule) (now (src .entry)) (line s (pos 1)) (line d (pos 1))) n (now (dst .entry)) ⌝ }
 {
@@ -89,20 +73,23 @@ pub fn row(rule: RuleF64, src: &[f64], dst: &mut [f64], n: usize, s: i64, d: i64
     let b = d as usize;
     let e = a + n;
     let f = b + n;
-    ones(rule, &src[a..e], &mut dst[b..f]);
+    each(rule, &src[a..e], &mut dst[b..f]);
+}
+
+// The same as a copy.
+fn copy_row(src: &[f64], dst: &mut [f64], n: usize, s: i64, d: i64)
+    requires { ⌜ (0 < n) × Run s d (pos 1) (pos 1) n (length (now src)) (length (now dst)) ⌝ }
+    ensures { λ _. ⌜ now (dst .exit) ≡ inOrder (cellAt nan (ruleF64 R.Replace) (now (src .entry)) (line s (pos 1)) (line d (pos 1))) n (now (dst .entry)) ⌝ }
+{
+    let a = s as usize;
+    let b = d as usize;
+    let e = a + n;
+    let f = b + n;
+    copied(&src[a..e], &mut dst[b..f]);
 }
 
 // n cells, from the places s and d by the strides ss and ds.
-pub fn strided(
-    rule: RuleF64,
-    src: &[f64],
-    dst: &mut [f64],
-    n: usize,
-    s: i64,
-    d: i64,
-    ss: i64,
-    ds: i64,
-)
+fn strided(rule: RuleF64, src: &[f64], dst: &mut [f64], n: usize, s: i64, d: i64, ss: i64, ds: i64)
     requires { ⌜ Run s d ss ds n (length (now src)) (length (now dst)) ⌝ }
     ensures { λ _. ⌜ now (dst .exit) ≡ inOrder (cellAt nan (ruleF64 rule) (now (src .entry)) (line s ss) (line d ds)) n (now (dst .entry)) ⌝ }
 {
@@ -117,25 +104,8 @@ pub fn strided(
     }
 }
 
-// The same, with a way of its own for strides of 1 on both sides.
-pub fn run(rule: RuleF64, src: &[f64], dst: &mut [f64], n: usize, s: i64, d: i64, ss: i64, ds: i64)
-    requires { ⌜ Run s d ss ds n (length (now src)) (length (now dst)) ⌝ }
-    ensures { λ _. ⌜ now (dst .exit) ≡ inOrder (cellAt nan (ruleF64 rule) (now (src .entry)) (line s ss) (line d ds)) n (now (dst .entry)) ⌝ }
-{
-    if n == 0 {
-        return;
-    }
-    if ss == 1 {
-        if ds == 1 {
-            row(rule, src, dst, n, s, d);
-            return;
-        }
-    }
-    strided(rule, src, dst, n, s, d, ss, ds);
-}
-
 // m rows of n cells each: those of row j from places moved by j times st and dt.
-pub fn rows(
+fn rows_by(
     rule: RuleF64,
     src: &[f64],
     dst: &mut [f64],
@@ -157,8 +127,55 @@ pub fn rows(
     }
 }
 
+// The same as copies.
+fn copy_rows(src: &[f64], dst: &mut [f64], n: usize, m: u64, s: i64, d: i64, st: i64, dt: i64)
+    requires { ⌜ Plane s d (pos 1) (pos 1) st dt n m (length (now src)) (length (now dst)) ⌝ }
+    ensures { λ _. ⌜ now (dst .exit) ≡ inOrder (runAt nan (ruleF64 R.Replace) (now (src .entry)) s d (pos 1) (pos 1) st dt n) m (now (dst .entry)) ⌝ }
+{
+    let mut j: u64 = 0;
+    while j < m {
+        let k = j as i64;
+        copy_row(src, dst, n, s + st * k, d + dt * k);
+        j += 1;
+    }
+}
+
+// The same, by a loop of each rule's own: the rule is asked once, outside the loops.
+fn rows(
+    rule: RuleF64,
+    src: &[f64],
+    dst: &mut [f64],
+    n: usize,
+    m: u64,
+    s: i64,
+    d: i64,
+    st: i64,
+    dt: i64,
+)
+    requires { ⌜ Plane s d (pos 1) (pos 1) st dt n m (length (now src)) (length (now dst)) ⌝ }
+    ensures { λ _. ⌜ now (dst .exit) ≡ inOrder (runAt nan (ruleF64 rule) (now (src .entry)) s d (pos 1) (pos 1) st dt n) m (now (dst .entry)) ⌝ }
+{
+    match rule {
+        RuleF64::Add => {
+            rows_by(RuleF64::Add, src, dst, n, m, s, d, st, dt);
+        }
+        RuleF64::Lowest => {
+            rows_by(RuleF64::Lowest, src, dst, n, m, s, d, st, dt);
+        }
+        RuleF64::Highest => {
+            rows_by(RuleF64::Highest, src, dst, n, m, s, d, st, dt);
+        }
+        RuleF64::Replace => {
+            copy_rows(src, dst, n, m, s, d, st, dt);
+        }
+        RuleF64::Ceiling(ceiling) => {
+            rows_by(RuleF64::Ceiling(ceiling), src, dst, n, m, s, d, st, dt);
+        }
+    }
+}
+
 // m runs of n cells each, by strides.
-pub fn strided_rows(
+fn strided_rows_by(
     rule: RuleF64,
     src: &[f64],
     dst: &mut [f64],
@@ -179,6 +196,54 @@ pub fn strided_rows(
         let k = j as i64;
         strided(rule, src, dst, n, s + st * k, d + dt * k, ss, ds);
         j += 1;
+    }
+}
+
+// The same, by a loop of each rule's own.
+fn strided_rows(
+    rule: RuleF64,
+    src: &[f64],
+    dst: &mut [f64],
+    n: usize,
+    m: u64,
+    s: i64,
+    d: i64,
+    ss: i64,
+    ds: i64,
+    st: i64,
+    dt: i64,
+)
+    requires { ⌜ Plane s d ss ds st dt n m (length (now src)) (length (now dst)) ⌝ }
+    ensures { λ _. ⌜ now (dst .exit) ≡ inOrder (runAt nan (ruleF64 rule) (now (src .entry)) s d ss ds st dt n) m (now (dst .entry)) ⌝ }
+{
+    match rule {
+        RuleF64::Add => {
+            strided_rows_by(RuleF64::Add, src, dst, n, m, s, d, ss, ds, st, dt);
+        }
+        RuleF64::Lowest => {
+            strided_rows_by(RuleF64::Lowest, src, dst, n, m, s, d, ss, ds, st, dt);
+        }
+        RuleF64::Highest => {
+            strided_rows_by(RuleF64::Highest, src, dst, n, m, s, d, ss, ds, st, dt);
+        }
+        RuleF64::Replace => {
+            strided_rows_by(RuleF64::Replace, src, dst, n, m, s, d, ss, ds, st, dt);
+        }
+        RuleF64::Ceiling(ceiling) => {
+            strided_rows_by(
+                RuleF64::Ceiling(ceiling),
+                src,
+                dst,
+                n,
+                m,
+                s,
+                d,
+                ss,
+                ds,
+                st,
+                dt,
+            );
+        }
     }
 }
 

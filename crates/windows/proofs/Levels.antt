@@ -1,8 +1,11 @@
 -- A window is the windows below the places of its last axis; below the last there is a run. Over any elements, any rule and any rank. Assumes nothing.
 use mathlib.Core.Path.{_≡_, refl, sym, ap, ap₂, subst, _∙_}
+use mathlib.Core.Bool.{Bool, true, false, cond}
 use mathlib.Core.List.{List}
-use Prim.Native.Nat.{ℕ, suc, _+_, _*_, _<_, _^_}
+use Prim.Native.Nat.{ℕ, suc, _+_, _*_, _<_, _≤_, _^_}
 use native.Mathlib.Omega.{arith}
+use borrow.Author.Tests.{eqb-true, eqb-false}
+use lib.Dec.{eqb}
 use lib.ListN.{getD, take}
 use lib.IntN.{ℤ, pos}
 use mir.Syntax.{w64}
@@ -15,8 +18,8 @@ use Rattle.indexing.specs.Loops.{inOrder}
 use Rattle.runs.specs.Runs.{cellAt, line, Line, Run, Plane, runAt}
 use Rattle.runs.proofs.Turns.{more, in-runs, same-turns, same-places}
 use Rattle.runs.proofs.Place.{read, machine, Step, step}
-use Rattle.runs.proofs.Runs.{ends, runs-end}
-use Rattle.windows.specs.Windows.{placeAt, windowed, Region, Units, Level}
+use Rattle.runs.proofs.Runs.{runs-end, one-plane, one-row}
+use Rattle.windows.specs.Windows.{placeAt, windowed, Region, Units, rowCount, Level}
 use Rattle.windows.proofs.Last.{product-top, positive-top, place-top, digit-below, units-product, units-place, place-first}
 
 -- ---- where the cells lie
@@ -145,16 +148,22 @@ module _ (s d : ℤ) (shape : List ℕ) (ss ds : List ℤ) (low rank top sn dn :
         subst (λ (x : ℤ). Level x (machine d (getD ds top (pos 0)) j) shape ss ds low top sn dn) (sym (step-source .is))
         (subst (λ (x : ℤ). Level (line s (getD ss top (pos 0)) j) x shape ss ds low top sn dn) (sym (step-dest .is)) (level-below s d shape ss ds low top sn dn here k j h))
 
-  pub run-read : top ≡ low → SFits w64 s → SFits w64 d → SFits w64 (getD ss top (pos 0)) → SFits w64 (getD ds top (pos 0))
-      → Run (read s) (read d) (read (getD ss top (pos 0))) (read (getD ds top (pos 0))) (getD shape top 0) sn dn
-  run-read t fs fd fa fb = simp (back fs, back fd, back fa, back fb) (level-run s d shape ss ds top sn dn (subst (λ (k : ℕ). Level s d shape ss ds k (suc top) sn dn) (sym t) here))
+  -- one axis left or two: by which of the two `low` is
+  by-axes : top ≤ low + 1 → (P : ℕ → ℕ → Type 0) → (top ≡ low → P low 1) → (top ≡ suc low → P (suc low) (getD shape (suc low) 0)) → P top (rowCount top low (getD shape top 0))
+  by-axes t P f g = go (eqb top low) refl
+    where
+      go : (c : Bool) → eqb top low ≡ c → P top (cond c 1 (getD shape top 0))
+      go true q = let k = eqb-true top low q in subst (λ (i : ℕ). P i 1) (sym k) (f k)
+      go false q = let k : top ≡ suc low = omega (arith, eqb-false top low q, here .below) in subst (λ (i : ℕ). P i (getD shape i 0)) (sym k) (g k)
 
-  pub plane-read : top ≡ suc low → SFits w64 s → SFits w64 d → SFits w64 (getD ss low (pos 0)) → SFits w64 (getD ds low (pos 0)) → SFits w64 (getD ss top (pos 0)) → SFits w64 (getD ds top (pos 0))
-      → Plane (read s) (read d) (read (getD ss low (pos 0))) (read (getD ds low (pos 0))) (read (getD ss top (pos 0))) (read (getD ds top (pos 0))) (getD shape low 0) (getD shape top 0) sn dn
+  pub plane-read : top ≤ low + 1 → SFits w64 s → SFits w64 d → SFits w64 (getD ss low (pos 0)) → SFits w64 (getD ds low (pos 0)) → SFits w64 (getD ss top (pos 0)) → SFits w64 (getD ds top (pos 0))
+      → Plane (read s) (read d) (read (getD ss low (pos 0))) (read (getD ds low (pos 0))) (read (getD ss top (pos 0))) (read (getD ds top (pos 0))) (getD shape low 0) (rowCount top low (getD shape top 0)) sn dn
   plane-read t fs fd fx fy fa fb =
       simp (back fs, back fd, back fx, back fy, back fa, back fb)
-      (subst (λ (k : ℕ). Plane s d (getD ss low (pos 0)) (getD ds low (pos 0)) (getD ss k (pos 0)) (getD ds k (pos 0)) (getD shape low 0) (getD shape k 0) sn dn) (sym t)
-      (level-plane s d shape ss ds low sn dn (subst (λ (k : ℕ). Level s d shape ss ds low (suc k) sn dn) t here)))
+      (by-axes t (λ k m. Plane s d (getD ss low (pos 0)) (getD ds low (pos 0)) (getD ss k (pos 0)) (getD ds k (pos 0)) (getD shape low 0) m sn dn)
+      (λ q. let l = subst (λ (k : ℕ). Level s d shape ss ds low (suc k) sn dn) q here in
+      one-plane s d (getD ss low (pos 0)) (getD ds low (pos 0)) (getD ss low (pos 0)) (getD ds low (pos 0)) (getD shape low 0) sn dn (positive-top shape low (omega (arith, l .window .source .extents)) (l .positive) .1) (level-run s d shape ss ds low sn dn l))
+      (λ q. level-plane s d shape ss ds low sn dn (subst (λ (k : ℕ). Level s d shape ss ds low (suc k) sn dn) q here)))
 
   module _ {A : Type 0} (z : A) (rule : A → A → A) (src : List A) where
     -- the loop's turns, by what it reads back
@@ -179,18 +188,14 @@ module _ (s d : ℤ) (shape : List ℕ) (ss ds : List ℤ) (low rank top sn dn :
           ∙ level-is z rule src s d shape ss ds low top sn dn here x
           ∙ at-rank
 
-      pub run-end : top ≡ low → y ≡ inOrder (cellAt z rule src (line (read s) (read (getD ss top (pos 0)))) (line (read d) (read (getD ds top (pos 0))))) (getD shape top 0) x → y ≡ windowed z rule src s d shape ss ds rank x
-      run-end t h =
-          ends z rule src s d (getD ss top (pos 0)) (getD ds top (pos 0)) (getD shape top 0) (getD shape top 0) x y fs fd fa fb refl h
-          ∙ run-is z rule src s d shape ss ds top sn dn (subst (λ (k : ℕ). Level s d shape ss ds k (suc top) sn dn) (sym t) here) x
-          ∙ at-rank
-
-      pub plane-end : top ≡ suc low → SFits w64 (getD ss low (pos 0)) → SFits w64 (getD ds low (pos 0))
-          → y ≡ inOrder (runAt z rule src (read s) (read d) (read (getD ss low (pos 0))) (read (getD ds low (pos 0))) (read (getD ss top (pos 0))) (read (getD ds top (pos 0))) (getD shape low 0)) (getD shape top 0) x
+      pub plane-end : top ≤ low + 1 → SFits w64 (getD ss low (pos 0)) → SFits w64 (getD ds low (pos 0))
+          → y ≡ inOrder (runAt z rule src (read s) (read d) (read (getD ss low (pos 0))) (read (getD ds low (pos 0))) (read (getD ss top (pos 0))) (read (getD ds top (pos 0))) (getD shape low 0)) (rowCount top low (getD shape top 0)) x
           → y ≡ windowed z rule src s d shape ss ds rank x
       plane-end t fx fy h =
-          runs-end z rule src s d (getD ss low (pos 0)) (getD ds low (pos 0)) (getD ss top (pos 0)) (getD ds top (pos 0)) (getD shape low 0) (getD shape top 0) (getD shape top 0) x y fs fd fx fy fa fb refl h
-          ∙ ap (λ (k : ℕ). inOrder (runAt z rule src s d (getD ss low (pos 0)) (getD ds low (pos 0)) (getD ss k (pos 0)) (getD ds k (pos 0)) (getD shape low 0)) (getD shape k 0) x) t
-          ∙ plane-is z rule src s d shape ss ds low sn dn (subst (λ (k : ℕ). Level s d shape ss ds low (suc k) sn dn) t here) x
-          ∙ ap (λ (k : ℕ). windowed z rule src s d shape ss ds (suc k) x) (sym t)
+          let n = rowCount top low (getD shape top 0) in
+          runs-end z rule src s d (getD ss low (pos 0)) (getD ds low (pos 0)) (getD ss top (pos 0)) (getD ds top (pos 0)) (getD shape low 0) n n x y fs fd fx fy fa fb refl h
+          ∙ by-axes t (λ k m. inOrder (runAt z rule src s d (getD ss low (pos 0)) (getD ds low (pos 0)) (getD ss k (pos 0)) (getD ds k (pos 0)) (getD shape low 0)) m x ≡ windowed z rule src s d shape ss ds (suc k) x)
+          (λ q. one-row z rule src s d (getD ss low (pos 0)) (getD ds low (pos 0)) (getD ss low (pos 0)) (getD ds low (pos 0)) (getD shape low 0) x
+          ∙ run-is z rule src s d shape ss ds low sn dn (subst (λ (k : ℕ). Level s d shape ss ds low (suc k) sn dn) q here) x)
+          (λ q. plane-is z rule src s d shape ss ds low sn dn (subst (λ (k : ℕ). Level s d shape ss ds low (suc k) sn dn) q here) x)
           ∙ at-rank

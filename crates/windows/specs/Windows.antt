@@ -1,7 +1,9 @@
 -- What a window over two strided slices does, cell by cell, and where its cells lie. Definitions only.
 use mathlib.Core.Path.{_≡_}
+use mathlib.Core.Bool.{cond}
 use mathlib.Core.List.{List}
 use Prim.Native.Nat.{ℕ, suc, _<_, _≤_, _^_}
+use lib.Dec.{eqb}
 use lib.ListN.{length, getD, take}
 use lib.IntN.{ℤ}
 use Rattle.indexing.specs.Coordinates.{product, InSlice}
@@ -40,6 +42,10 @@ pub record RunAxis (low : ℕ) (shape : List ℕ) (rank : ℕ) : Type 0 where
   pub below : low < rank
   pub units : Units low shape
   pub long : suc low < rank → getD shape low 0 ≡ 1 → ⊥
+
+-- the rows along the axis `low` and the last axis, `top`, of extent n
+abbrev pub rowCount : ℕ → ℕ → ℕ → ℕ
+rowCount top low n = cond (eqb top low) 1 n
 
 -- a window that has cells, and an axis before which no axis has more than one place
 pub record Level (s d : ℤ) (shape : List ℕ) (ss ds : List ℤ) (low rank sn dn : ℕ) : Type 0 where

@@ -7,7 +7,7 @@ ghost use lib.IntN.{pos};
 ghost use lib.ListN.{length};
 ghost use Rattle.layout.specs.Layouts.{rankLimit};
 ghost use Rattle.rules.specs.Rules.{ruleI32};
-ghost use Rattle.windows.specs.Windows.{windowed, Level, RunAxis};
+ghost use Rattle.windows.specs.Windows.{windowed, Level, RunAxis, rowCount};
 use layout::RAW_FUSED_RANK_LIMIT;
 use rules::Rule;
 
@@ -24,6 +24,13 @@ pub fn run_axis(extents: &[u64; RAW_FUSED_RANK_LIMIT], rank: usize) -> usize
         low += 1;
     }
     low
+}
+
+// How many rows of cells there are along the axis `low` and the last axis, `top`: its extent n, and one where the two are the same axis.
+pub fn row_count(top: usize, low: usize, n: u64) -> u64
+    ensures { λ r. ⌜ r ≡ rowCount top low n ⌝ }
+{
+    if top == low { 1 } else { n }
 }
 
 // The cells of the first `rank` axes. There are some, and the axes before `low` have one place each.
@@ -46,15 +53,12 @@ pub fn axes(
     let n = extents[top];
     let a = ss[top];
     let b = ds[top];
-    if top == low {
-        runs::run(rule, src, dst, n as usize, s, d, a, b);
-        return;
-    }
-    if top == low + 1 {
+    if top <= low + 1 {
         let m = extents[low];
         let x = ss[low];
         let y = ds[low];
-        runs::plane(rule, src, dst, m as usize, n, s, d, x, y, a, b);
+        let count = row_count(top, low, n);
+        runs::plane(rule, src, dst, m as usize, count, s, d, x, y, a, b);
         return;
     }
     let mut j: u64 = 0;

@@ -30,15 +30,12 @@ pub fn axes(
     let n = extents[top];
     let a = ss[top];
     let b = ds[top];
-    if top == low {
-        runs_f64::run(rule, src, dst, n as usize, s, d, a, b);
-        return;
-    }
-    if top == low + 1 {
+    if top <= low + 1 {
         let m = extents[low];
         let x = ss[low];
         let y = ds[low];
-        runs_f64::plane(rule, src, dst, m as usize, n, s, d, x, y, a, b);
+        let count = windows::row_count(top, low, n);
+        runs_f64::plane(rule, src, dst, m as usize, count, s, d, x, y, a, b);
         return;
     }
     let mut j: u64 = 0;

@@ -1,4 +1,4 @@
--- Kept by hand: tests/twins does not write it. RuleF64 has a rule more.
+-- Written by tests/twins from crates/indexed_runs/proofs/put_ones/Proof.antt.
 use mathlib.Core.Path.{refl}
 use borrow.Author.Needs.{needs}
 use lib.Ieee.{nan}
@@ -26,14 +26,14 @@ enum-told-3 c = search needs
 put-fours-requires-3 : tie.Need-put-fours-requires-3
 put-fours-requires-3 c κs = search needs
 
-enum-known-rule : tie.Need-enum-known-rule
-enum-known-rule c = search needs
+enum-told-4 : tie.Need-enum-told-4
+enum-told-4 c = search needs
 
 put-fours-requires-4 : tie.Need-put-fours-requires-4
 put-fours-requires-4 c κs = search needs
 
-enum-told-4 : tie.Need-enum-told-4
-enum-told-4 c = search needs
+enum-known-rule : tie.Need-enum-known-rule
+enum-known-rule c = search needs
 
 put-fours-requires-5 : tie.Need-put-fours-requires-5
 put-fours-requires-5 c κs = search needs
@@ -76,22 +76,22 @@ same-length-4 c = search needs
 
 returns-4 : tie.Need-returns-4
 returns-4 c =
-    let e : tie.After-rule = search in
+    let e : tie.After-enum-told4 = search in
     let p : tie.After-put-fours4 = search in
     let a : tie.Start = search in
-    rw (e .rule .given .1)
-    (put-ones-end nan (ruleF64 (R.Ceiling (e .rule .given .0 .0))) (a .args .src .now) (a .args .starts .now) (a .args .limit) _ _ (a .args .dst .now) _ (a .fits .limit) refl (p .put-fours4 .ensures))
+    rw (e .enum-told4 .given .1)
+    (put-ones-end nan (ruleF64 R.Replace) (a .args .src .now) (a .args .starts .now) (a .args .limit) _ _ (a .args .dst .now) _ (a .fits .limit) refl (p .put-fours4 .ensures))
 
 same-length-5 : tie.Need-same-length-5
 same-length-5 c = search needs
 
 returns-5 : tie.Need-returns-5
 returns-5 c =
-    let e : tie.After-enum-told4 = search in
+    let e : tie.After-rule = search in
     let p : tie.After-put-fours5 = search in
     let a : tie.Start = search in
-    rw (e .enum-told4 .given .1)
-    (put-ones-end nan (ruleF64 R.Replace) (a .args .src .now) (a .args .starts .now) (a .args .limit) _ _ (a .args .dst .now) _ (a .fits .limit) refl (p .put-fours5 .ensures))
+    rw (e .rule .given .1)
+    (put-ones-end nan (ruleF64 (R.Ceiling (e .rule .given .0 .0))) (a .args .src .now) (a .args .starts .now) (a .args .limit) _ _ (a .args .dst .now) _ (a .fits .limit) refl (p .put-fours5 .ensures))
 
 pub put-ones-spec : {M : Type 1} → statement M
 put-ones-spec =
@@ -103,9 +103,9 @@ put-ones-spec =
     put-fours-requires-2
     enum-told-3
     put-fours-requires-3
-    enum-known-rule
-    put-fours-requires-4
     enum-told-4
+    put-fours-requires-4
+    enum-known-rule
     put-fours-requires-5
     same-length
     returns

@@ -1,176 +1,120 @@
 -- Written by tests/twins from crates/indexed_runs/proofs/put_strided/Proof.antt.
-use mathlib.Core.Path.{_≡_, refl, _∙_}
-use Prim.Native.Nat.{_-_, _≤_}
-use native.Mathlib.Omega.{arith}
-use borrow.Author.Needs.{sfits-of}
+use mathlib.Core.Path.{refl}
+use borrow.Author.Needs.{needs}
 use lib.Ieee.{nan}
-use lib.ListN.{length, length-set}
-use lib.IntN.{pos, natAbs}
-use mir.Syntax.{w64}
-use mir.Val.{toZ}
-use Rattle.indexing.specs.Loops.{inOrder}
+use Rattle.indexed_runs.proofs.Ones.{strided-asks}
 use Rattle.rules.specs.Rules.{ruleF64}
-use Rattle.runs.specs.Runs.{cellAt, line}
-use Rattle.runs.proofs.Turns.{none, cell-more}
-use Rattle.runs.proofs.Place.{read, machine, Step}
-use Rattle.indexed_runs.specs.IndexedRuns.{clampedAt}
-use Rattle.indexed_runs.proofs.Places.{start-step, plain-step, clamped-step, clamped-is, put-end}
+use Rattle.rules.specs.declared.RuleF64.the-variants as R
+use Rattle.indexed_runs.proofs.Places.{put-end}
 use Rattle.indexed_runs_f64.proofs.put_strided.Statement.{statement}
 use Rattle.indexed_runs_f64.proofs.put_strided.Tie as tie
 
-abbrev Inv-loop : tie.InvT-loop
-Inv-loop rule src starts dst₀ n t ts base stride limit s ss i₀ dst i = (i ≤ n) × (length dst ≡ length dst₀) × (dst ≡ inOrder (cellAt nan (ruleF64 rule) src (line (toZ w64 s) (toZ w64 ss)) (clampedAt starts (line (toZ w64 t) (toZ w64 ts)) (toZ w64 base) (toZ w64 stride) limit)) i dst₀)
+enum-told : tie.Need-enum-told
+enum-told c = search needs
 
-abbrev μ-loop : tie.MeasureT-loop
-μ-loop rule src starts dst₀ n t ts base stride limit s ss i₀ dst i = n - i
+put-strided-by-requires : tie.Need-put-strided-by-requires
+put-strided-by-requires c κs = let a : tie.Start = search in strided-asks _ _ _ _ _ _ _ _ _ _ _ (a .fits .t) (a .fits .ts) (a .fits .base) (a .fits .stride) (a .fits .s) (a .fits .ss) (a .pre)
 
-abbrev start : tie.In-loop Inv-loop μ-loop → tie.Start Inv-loop μ-loop
-start d = search
+enum-told-2 : tie.Need-enum-told-2
+enum-told-2 c = search needs
 
-starts-at : (d : tie.In-loop Inv-loop μ-loop) → Step (start d .args .t) (start d .args .ts) (d .before .loop .i) (length (start d .args .starts .now))
-starts-at d = let a = start d in start-step _ _ _ _ _ _ _ _ _ _ _ (a .pre) (a .fits .t) (a .fits .ts) (omega (arith, a .good .1 .1 .0 .1)) _ (d .loop-test .taken)
+put-strided-by-requires-2 : tie.Need-put-strided-by-requires-2
+put-strided-by-requires-2 c κs = let a : tie.Start = search in strided-asks _ _ _ _ _ _ _ _ _ _ _ (a .fits .t) (a .fits .ts) (a .fits .base) (a .fits .stride) (a .fits .s) (a .fits .ss) (a .pre)
 
-plain-at : (d : tie.In-loop Inv-loop μ-loop) → Step (start d .args .s) (start d .args .ss) (d .before .loop .i) (length (start d .args .src .now))
-plain-at d = let a = start d in plain-step _ _ _ _ _ _ _ _ _ _ _ (a .pre) (a .fits .s) (a .fits .ss) (omega (arith, a .good .1 .0 .1)) _ (d .loop-test .taken)
+enum-told-3 : tie.Need-enum-told-3
+enum-told-3 c = search needs
 
-module _ (c : tie.After-clamp-window-start Inv-loop μ-loop) where
-  clamped-at : Step (start (c .before .before) .args .base) (start (c .before .before) .args .stride) (c .clamp-window-start .result) (length (start (c .before .before) .args .dst .now))
-  clamped-at = let a = start (c .before .before) in clamped-step _ _ _ _ _ _ _ _ _ _ _ (a .pre) (a .fits .t) (a .fits .ts) (a .fits .base) (a .fits .stride) (omega (arith, a .good .1 .1 .1 .0 .1)) _ (c .before .before .loop-test .taken) (starts-at (c .before .before)) (sfits-of (c .before .x .given)) _ (c .clamp-window-start .ensures)
+put-strided-by-requires-3 : tie.Need-put-strided-by-requires-3
+put-strided-by-requires-3 c κs = let a : tie.Start = search in strided-asks _ _ _ _ _ _ _ _ _ _ _ (a .fits .t) (a .fits .ts) (a .fits .base) (a .fits .stride) (a .fits .s) (a .fits .ss) (a .pre)
 
-  -- the place is by the start
-  by-start : pos (natAbs (machine (start (c .before .before) .args .base) (start (c .before .before) .args .stride) (c .clamp-window-start .result)))
-      ≡ clampedAt (start (c .before .before) .args .starts .now) (line (read (start (c .before .before) .args .t)) (read (start (c .before .before) .args .ts))) (read (start (c .before .before) .args .base)) (read (start (c .before .before) .args .stride)) (start (c .before .before) .args .limit) (c .before .before .before .loop .i)
-  by-start = let a = start (c .before .before) in clamped-is (a .args .starts .now) (a .args .t) (a .args .ts) (a .args .base) (a .args .stride) (a .args .limit) _ _ _ _ (starts-at (c .before .before)) (sfits-of (c .before .x .given)) clamped-at (c .clamp-window-start .ensures)
+enum-told-4 : tie.Need-enum-told-4
+enum-told-4 c = search needs
 
-loop-holds : tie.Need-loop-holds Inv-loop μ-loop
-loop-holds c =
-    let a : tie.Start Inv-loop μ-loop = search in
-    (omega arith, refl, none _ 0 (a .args .dst .now) refl)
+put-strided-by-requires-4 : tie.Need-put-strided-by-requires-4
+put-strided-by-requires-4 c κs = let a : tie.Start = search in strided-asks _ _ _ _ _ _ _ _ _ _ _ (a .fits .t) (a .fits .ts) (a .fits .base) (a .fits .stride) (a .fits .s) (a .fits .ss) (a .pre)
 
-cast-k : tie.Need-cast-k Inv-loop μ-loop
-cast-k c = starts-at c .count
+enum-known-rule : tie.Need-enum-known-rule
+enum-known-rule c = search needs
 
-mul-p : tie.Need-mul-p Inv-loop μ-loop
-mul-p c = starts-at c .multiple
+put-strided-by-requires-5 : tie.Need-put-strided-by-requires-5
+put-strided-by-requires-5 c κs = let a : tie.Start = search in strided-asks _ _ _ _ _ _ _ _ _ _ _ (a .fits .t) (a .fits .ts) (a .fits .base) (a .fits .stride) (a .fits .s) (a .fits .ss) (a .pre)
 
-add-p : tie.Need-add-p Inv-loop μ-loop
-add-p c = starts-at c .fits
+same-length : tie.Need-same-length
+same-length c = search needs
 
-cast-p : tie.Need-cast-p Inv-loop μ-loop
-cast-p c = starts-at c .cast
-
-mul-x : tie.Need-mul-x Inv-loop μ-loop
-mul-x c = omega (arith, starts-at c .below, start c .good .1 .1 .0 .1)
-
-shared-slice-copy-out-x : tie.Need-shared-slice-copy-out-x Inv-loop μ-loop
-shared-slice-copy-out-x c = starts-at c .below
-
-clamp-window-start-requires : tie.Need-clamp-window-start-requires Inv-loop μ-loop
-clamp-window-start-requires c κs = tt
-
-cast-c : tie.Need-cast-c Inv-loop μ-loop
-cast-c c = clamped-at c .count
-
-mul-b : tie.Need-mul-b Inv-loop μ-loop
-mul-b c = clamped-at c .multiple
-
-add-b : tie.Need-add-b Inv-loop μ-loop
-add-b c = clamped-at c .fits
-
-cast-b : tie.Need-cast-b Inv-loop μ-loop
-cast-b c = clamped-at c .cast
-
-mul-a : tie.Need-mul-a Inv-loop μ-loop
-mul-a c = plain-at (c .before .before) .multiple
-
-add-a : tie.Need-add-a Inv-loop μ-loop
-add-a c = plain-at (c .before .before) .fits
-
-cast-a : tie.Need-cast-a Inv-loop μ-loop
-cast-a c = plain-at (c .before .before) .cast
-
-mul-apply-f64 : tie.Need-mul-apply-f64 Inv-loop μ-loop
-mul-apply-f64 c = omega (arith, clamped-at c .below, start (c .before .before) .good .1 .1 .1 .0 .1)
-
-slice-read-apply-f64 : tie.Need-slice-read-apply-f64 Inv-loop μ-loop
-slice-read-apply-f64 c =
-    let l : tie.After-clamp-window-start Inv-loop μ-loop = search in
-    let h : tie.At-loop Inv-loop μ-loop = search in
-    omega (arith, clamped-at l .below, h .loop .inv .1)
-
-mul-apply-f64-2 : tie.Need-mul-apply-f64-2 Inv-loop μ-loop
-mul-apply-f64-2 c = omega (arith, plain-at (c .before .before .before) .below, start (c .before .before .before) .good .1 .0 .1)
-
-shared-slice-read-apply-f64 :
-    tie.Need-shared-slice-read-apply-f64 Inv-loop μ-loop
-shared-slice-read-apply-f64 c = let d : tie.In-loop Inv-loop μ-loop = search in plain-at d .below
-
-apply-f64-requires : tie.Need-apply-f64-requires Inv-loop μ-loop
-apply-f64-requires c κs = tt
-
-mul-dst : tie.Need-mul-dst Inv-loop μ-loop
-mul-dst c = omega (arith, clamped-at (c .before .before .before) .below, start (c .before .before .before .before .before) .good .1 .1 .1 .0 .1)
-
-slice-write-dst : tie.Need-slice-write-dst Inv-loop μ-loop
-slice-write-dst c = omega (arith, clamped-at (c .before .before .before) .below, c .before .before .before .before .before .before .loop .inv .1)
-
-add-i : tie.Need-add-i Inv-loop μ-loop
-add-i c = omega arith
-
-loop-less : tie.Need-loop-less Inv-loop μ-loop
-loop-less c = omega arith
-
-loop-again : tie.Need-loop-again Inv-loop μ-loop
-loop-again c = let q = c .before .before .before in
-    let d = q .before .before in
-    let h = d .before in
-    let a = start d in
-    let from = natAbs (machine (a .args .s) (a .args .ss) (h .loop .i)) in
-    let to = natAbs (machine (a .args .base) (a .args .stride) (q .clamp-window-start .result)) in (
-      omega arith,
-      length-set (h .loop .dst) _ _ ∙ h .loop .inv .1,
-      cell-more nan (ruleF64 (a .args .rule)) (a .args .src .now) (line (read (a .args .s)) (read (a .args .ss))) (clampedAt (a .args .starts .now) (line (read (a .args .t)) (read (a .args .ts))) (read (a .args .base)) (read (a .args .stride)) (a .args .limit)) (a .args .dst .now) (h .loop .dst) (h .loop .i) from to _ (h .loop .inv .2) (plain-at d .index-is) (by-start q) (c .apply-f64 .ensures),
-    )
-
-same-length : tie.Need-same-length Inv-loop μ-loop
-same-length c = c .before .loop .inv .1
-
-returns : tie.Need-returns Inv-loop μ-loop
+returns : tie.Need-returns
 returns c =
-    let h = c .before in
-    let a : tie.Start Inv-loop μ-loop = search in
-    put-end nan (ruleF64 (a .args .rule)) (a .args .src .now) (a .args .starts .now) (a .args .t) (a .args .ts) (a .args .base) (a .args .stride) (a .args .s) (a .args .ss) (a .args .limit) (h .loop .i) (a .args .n) (a .args .dst .now) (h .loop .dst) (a .fits .t) (a .fits .ts) (a .fits .base) (a .fits .stride) (a .fits .s) (a .fits .ss) (omega arith) (h .loop .inv .2)
+    let e : tie.After-enum-told = search in
+    let o : tie.After-put-strided-by = search in
+    let a : tie.Start = search in
+    rw (e .enum-told .given .1)
+    (put-end nan (ruleF64 R.Add) (a .args .src .now) (a .args .starts .now) (a .args .t) (a .args .ts) (a .args .base) (a .args .stride) (a .args .s) (a .args .ss) (a .args .limit) (a .args .n) (a .args .n) (a .args .dst .now) _ (a .fits .t) (a .fits .ts) (a .fits .base) (a .fits .stride) (a .fits .s) (a .fits .ss) refl (o .put-strided-by .ensures))
+
+same-length-2 : tie.Need-same-length-2
+same-length-2 c = search needs
+
+returns-2 : tie.Need-returns-2
+returns-2 c =
+    let e : tie.After-enum-told2 = search in
+    let o : tie.After-put-strided-by2 = search in
+    let a : tie.Start = search in
+    rw (e .enum-told2 .given .1)
+    (put-end nan (ruleF64 R.Lowest) (a .args .src .now) (a .args .starts .now) (a .args .t) (a .args .ts) (a .args .base) (a .args .stride) (a .args .s) (a .args .ss) (a .args .limit) (a .args .n) (a .args .n) (a .args .dst .now) _ (a .fits .t) (a .fits .ts) (a .fits .base) (a .fits .stride) (a .fits .s) (a .fits .ss) refl (o .put-strided-by2 .ensures))
+
+same-length-3 : tie.Need-same-length-3
+same-length-3 c = search needs
+
+returns-3 : tie.Need-returns-3
+returns-3 c =
+    let e : tie.After-enum-told3 = search in
+    let o : tie.After-put-strided-by3 = search in
+    let a : tie.Start = search in
+    rw (e .enum-told3 .given .1)
+    (put-end nan (ruleF64 R.Highest) (a .args .src .now) (a .args .starts .now) (a .args .t) (a .args .ts) (a .args .base) (a .args .stride) (a .args .s) (a .args .ss) (a .args .limit) (a .args .n) (a .args .n) (a .args .dst .now) _ (a .fits .t) (a .fits .ts) (a .fits .base) (a .fits .stride) (a .fits .s) (a .fits .ss) refl (o .put-strided-by3 .ensures))
+
+same-length-4 : tie.Need-same-length-4
+same-length-4 c = search needs
+
+returns-4 : tie.Need-returns-4
+returns-4 c =
+    let e : tie.After-enum-told4 = search in
+    let o : tie.After-put-strided-by4 = search in
+    let a : tie.Start = search in
+    rw (e .enum-told4 .given .1)
+    (put-end nan (ruleF64 R.Replace) (a .args .src .now) (a .args .starts .now) (a .args .t) (a .args .ts) (a .args .base) (a .args .stride) (a .args .s) (a .args .ss) (a .args .limit) (a .args .n) (a .args .n) (a .args .dst .now) _ (a .fits .t) (a .fits .ts) (a .fits .base) (a .fits .stride) (a .fits .s) (a .fits .ss) refl (o .put-strided-by4 .ensures))
+
+same-length-5 : tie.Need-same-length-5
+same-length-5 c = search needs
+
+returns-5 : tie.Need-returns-5
+returns-5 c =
+    let e : tie.After-rule = search in
+    let o : tie.After-put-strided-by5 = search in
+    let a : tie.Start = search in
+    rw (e .rule .given .1)
+    (put-end nan (ruleF64 (R.Ceiling (e .rule .given .0 .0))) (a .args .src .now) (a .args .starts .now) (a .args .t) (a .args .ts) (a .args .base) (a .args .stride) (a .args .s) (a .args .ss) (a .args .limit) (a .args .n) (a .args .n) (a .args .dst .now) _ (a .fits .t) (a .fits .ts) (a .fits .base) (a .fits .stride) (a .fits .s) (a .fits .ss) refl (o .put-strided-by5 .ensures))
 
 pub put-strided-spec : {M : Type 1} → statement M
 put-strided-spec =
     tie.close
     (tie.spec
-    Inv-loop
-    μ-loop
-    loop-holds
-    cast-k
-    mul-p
-    add-p
-    cast-p
-    mul-x
-    shared-slice-copy-out-x
-    clamp-window-start-requires
-    cast-c
-    mul-b
-    add-b
-    cast-b
-    mul-a
-    add-a
-    cast-a
-    mul-apply-f64
-    slice-read-apply-f64
-    mul-apply-f64-2
-    shared-slice-read-apply-f64
-    apply-f64-requires
-    mul-dst
-    slice-write-dst
-    add-i
-    loop-less
-    loop-again
+    enum-told
+    put-strided-by-requires
+    enum-told-2
+    put-strided-by-requires-2
+    enum-told-3
+    put-strided-by-requires-3
+    enum-told-4
+    put-strided-by-requires-4
+    enum-known-rule
+    put-strided-by-requires-5
     same-length
-    returns)
+    returns
+    same-length-2
+    returns-2
+    same-length-3
+    returns-3
+    same-length-4
+    returns-4
+    same-length-5
+    returns-5)

@@ -1,100 +1,98 @@
-use mathlib.Core.Path.{_≡_, refl, sym, subst, _∙_}
-use Prim.Native.Nat.{_-_, _≤_}
-use native.Mathlib.Omega.{arith}
-use lib.ListN.{length}
+use mathlib.Core.Path.{refl}
 use lib.IntN.{pos}
 use mir.Facts.{sfits-lit}
-use mir.Syntax.{w64}
-use mir.Val.{toZ}
-use Rattle.indexing.specs.Loops.{inOrder}
 use Rattle.rules.specs.Rules.{ruleI32}
-use Rattle.runs.specs.Runs.{runAt, Line}
-use Rattle.runs.proofs.Turns.{none}
-use Rattle.runs.proofs.Place.{machine}
-use Rattle.runs.proofs.Runs.{Move, move-source, move-dest, runs-more, runs-end}
+use Rattle.rules.specs.declared.Rule.the-variants as R
+use Rattle.runs.proofs.Runs.{runs-end}
+use borrow.Author.Needs.{needs}
 use Rattle.runs.proofs.rows.Statement.{statement}
 use Rattle.runs.proofs.rows.Tie as tie
 
-abbrev Inv-loop : tie.InvT-loop
-Inv-loop rule src dst₀ n m s d st dt j₀ dst j = (j ≤ m) × (length dst ≡ length dst₀) × (dst ≡ inOrder (runAt (pos 0) (ruleI32 rule) src (toZ w64 s) (toZ w64 d) (pos 1) (pos 1) (toZ w64 st) (toZ w64 dt) n) j dst₀)
+enum-told : tie.Need-enum-told
+enum-told c = search needs
 
-abbrev μ-loop : tie.MeasureT-loop
-μ-loop rule src dst₀ n m s d st dt j₀ dst j = m - j
+rows-by-requires : tie.Need-rows-by-requires
+rows-by-requires c κs = search needs
 
-abbrev start : tie.In-loop Inv-loop μ-loop → tie.Start Inv-loop μ-loop
-start d = search
+enum-told-2 : tie.Need-enum-told-2
+enum-told-2 c = search needs
 
-from : (d : tie.In-loop Inv-loop μ-loop) → Move (start d .args .s) (pos 1) (start d .args .st) (start d .args .n) (length (start d .args .src .now)) (d .before .loop .j)
-from d = let a = start d in move-source _ _ _ _ _ _ _ _ _ _ (a .pre) _ (d .loop-test .taken) (a .fits .s) (sfits-lit {z = pos 1} tt) (a .fits .st) (omega (arith, a .good .1 .0 .1))
+rows-by-requires-2 : tie.Need-rows-by-requires-2
+rows-by-requires-2 c κs = search needs
 
-to : (d : tie.In-loop Inv-loop μ-loop) → Move (start d .args .d) (pos 1) (start d .args .dt) (start d .args .n) (length (start d .args .dst .now)) (d .before .loop .j)
-to d = let a = start d in move-dest _ _ _ _ _ _ _ _ _ _ (a .pre) _ (d .loop-test .taken) (a .fits .d) (sfits-lit {z = pos 1} tt) (a .fits .dt) (omega (arith, a .good .1 .1 .0 .1))
+enum-told-3 : tie.Need-enum-told-3
+enum-told-3 c = search needs
 
-loop-holds : tie.Need-loop-holds Inv-loop μ-loop
-loop-holds c = (omega arith, refl, none _ 0 _ refl)
+rows-by-requires-3 : tie.Need-rows-by-requires-3
+rows-by-requires-3 c κs = search needs
 
-cast-k : tie.Need-cast-k Inv-loop μ-loop
-cast-k c = from c .step .count
+enum-told-4 : tie.Need-enum-told-4
+enum-told-4 c = search needs
 
-mul-row : tie.Need-mul-row Inv-loop μ-loop
-mul-row c = from (c .before) .step .multiple
+copy-rows-requires : tie.Need-copy-rows-requires
+copy-rows-requires c κs = search needs
 
-add-row : tie.Need-add-row Inv-loop μ-loop
-add-row c = from (c .before) .step .fits
+same-length : tie.Need-same-length
+same-length c = search needs
 
-mul-row-2 : tie.Need-mul-row-2 Inv-loop μ-loop
-mul-row-2 c = to (c .before) .step .multiple
-
-add-row-2 : tie.Need-add-row-2 Inv-loop μ-loop
-add-row-2 c = to (c .before) .step .fits
-
-row-requires : tie.Need-row-requires Inv-loop μ-loop
-row-requires c κs =
-    let d = c .before in
-    let a : tie.Start Inv-loop μ-loop = search in
-    (a .pre .some, record { source = from d .run; dest = subst (Line (machine (a .args .d) (a .args .dt) (d .before .loop .j)) (pos 1) (a .args .n)) (sym (d .before .loop .inv .1)) (to d .run) })
-
-add-j : tie.Need-add-j Inv-loop μ-loop
-add-j c = let a : tie.Start Inv-loop μ-loop = search in omega (arith, a .pre .few)
-
-loop-less : tie.Need-loop-less Inv-loop μ-loop
-loop-less c = omega arith
-
-loop-again : tie.Need-loop-again Inv-loop μ-loop
-loop-again c =
-    let r : tie.After-row Inv-loop μ-loop = search in
-    let d : tie.In-loop Inv-loop μ-loop = search in
-    let h = d .before in
-    let a : tie.Start Inv-loop μ-loop = search in (
-      omega arith,
-      r .row .kept .1 .1 .0 ∙ h .loop .inv .1,
-      runs-more (pos 0) (ruleI32 (a .args .rule)) (a .args .src .now) (a .args .s) (a .args .d) (pos 1) (pos 1) (a .args .st) (a .args .dt) (a .args .n) (h .loop .j) _ _ (a .args .dst .now) (h .loop .dst) _ (h .loop .inv .2) (from d) (to d) (r .row .ensures),
-    )
-
-same-length : tie.Need-same-length Inv-loop μ-loop
-same-length c = c .before .loop .inv .1
-
-returns : tie.Need-returns Inv-loop μ-loop
+returns : tie.Need-returns
 returns c =
-    let h = c .before in
-    let a : tie.Start Inv-loop μ-loop = search in
-    runs-end (pos 0) (ruleI32 (a .args .rule)) (a .args .src .now) (a .args .s) (a .args .d) (pos 1) (pos 1) (a .args .st) (a .args .dt) (a .args .n) (h .loop .j) (a .args .m) (a .args .dst .now) (h .loop .dst) (a .fits .s) (a .fits .d) (sfits-lit {z = pos 1} tt) (sfits-lit {z = pos 1} tt) (a .fits .st) (a .fits .dt) (omega arith) (h .loop .inv .2)
+    let e : tie.After-enum-told = search in
+    let o : tie.After-rows-by = search in
+    let a : tie.Start = search in
+    rw (e .enum-told .given .1)
+    (runs-end (pos 0) (ruleI32 R.Add) (a .args .src .now) (a .args .s) (a .args .d) (pos 1) (pos 1) (a .args .st) (a .args .dt) (a .args .n) (a .args .m) (a .args .m) (a .args .dst .now) _ (a .fits .s) (a .fits .d) (sfits-lit {z = pos 1} tt) (sfits-lit {z = pos 1} tt) (a .fits .st) (a .fits .dt) refl (o .rows-by .ensures))
+
+same-length-2 : tie.Need-same-length-2
+same-length-2 c = search needs
+
+returns-2 : tie.Need-returns-2
+returns-2 c =
+    let e : tie.After-enum-told2 = search in
+    let o : tie.After-rows-by2 = search in
+    let a : tie.Start = search in
+    rw (e .enum-told2 .given .1)
+    (runs-end (pos 0) (ruleI32 R.Lowest) (a .args .src .now) (a .args .s) (a .args .d) (pos 1) (pos 1) (a .args .st) (a .args .dt) (a .args .n) (a .args .m) (a .args .m) (a .args .dst .now) _ (a .fits .s) (a .fits .d) (sfits-lit {z = pos 1} tt) (sfits-lit {z = pos 1} tt) (a .fits .st) (a .fits .dt) refl (o .rows-by2 .ensures))
+
+same-length-3 : tie.Need-same-length-3
+same-length-3 c = search needs
+
+returns-3 : tie.Need-returns-3
+returns-3 c =
+    let e : tie.After-enum-told3 = search in
+    let o : tie.After-rows-by3 = search in
+    let a : tie.Start = search in
+    rw (e .enum-told3 .given .1)
+    (runs-end (pos 0) (ruleI32 R.Highest) (a .args .src .now) (a .args .s) (a .args .d) (pos 1) (pos 1) (a .args .st) (a .args .dt) (a .args .n) (a .args .m) (a .args .m) (a .args .dst .now) _ (a .fits .s) (a .fits .d) (sfits-lit {z = pos 1} tt) (sfits-lit {z = pos 1} tt) (a .fits .st) (a .fits .dt) refl (o .rows-by3 .ensures))
+
+same-length-4 : tie.Need-same-length-4
+same-length-4 c = search needs
+
+returns-4 : tie.Need-returns-4
+returns-4 c =
+    let e : tie.After-enum-told4 = search in
+    let o : tie.After-copy-rows = search in
+    let a : tie.Start = search in
+    rw (e .enum-told4 .given .1)
+    (runs-end (pos 0) (ruleI32 R.Replace) (a .args .src .now) (a .args .s) (a .args .d) (pos 1) (pos 1) (a .args .st) (a .args .dt) (a .args .n) (a .args .m) (a .args .m) (a .args .dst .now) _ (a .fits .s) (a .fits .d) (sfits-lit {z = pos 1} tt) (sfits-lit {z = pos 1} tt) (a .fits .st) (a .fits .dt) refl (o .copy-rows .ensures))
 
 pub rows-spec : {M : Type 1} → statement M
 rows-spec =
     tie.close
     (tie.spec
-    Inv-loop
-    μ-loop
-    loop-holds
-    cast-k
-    mul-row
-    add-row
-    mul-row-2
-    add-row-2
-    row-requires
-    add-j
-    loop-less
-    loop-again
+    enum-told
+    rows-by-requires
+    enum-told-2
+    rows-by-requires-2
+    enum-told-3
+    rows-by-requires-3
+    enum-told-4
+    copy-rows-requires
     same-length
-    returns)
+    returns
+    same-length-2
+    returns-2
+    same-length-3
+    returns-3
+    same-length-4
+    returns-4)

@@ -1,6 +1,6 @@
 -- Written by tests/twins from crates/windows/proofs/+axes/Proof.antt.
 use mathlib.Core.Path.{_≡_, refl, sym, subst, _∙_}
-use Prim.Native.Nat.{ℕ, suc, _+_, _-_, _<_, _≤_, _^_}
+use Prim.Native.Nat.{ℕ, suc, _-_, _<_, _≤_, _^_}
 use native.Mathlib.Omega.{arith}
 use borrow.Author.Needs.{needs, sfits-of}
 use borrow.Fn.Kinds.{In}
@@ -15,12 +15,12 @@ use Rattle.rules.specs.Rules.{ruleF64}
 use Rattle.runs.proofs.Turns.{none}
 use Rattle.runs.proofs.Place.{machine, Step}
 use Rattle.windows.specs.Windows.{Level}
-use Rattle.windows.proofs.Levels.{below, step-source, step-dest, step-level, run-read, plane-read, levels-more, levels-end, run-end, plane-end}
+use Rattle.windows.proofs.Levels.{below, step-source, step-dest, step-level, plane-read, levels-more, levels-end, plane-end}
 use Rattle.windows_f64.proofs.axes.Reads as axes
 use Rattle.windows_f64.proofs.axes.Kinds as kinds
 use Rattle.windows_f64.proofs.+axes.Lts-axes as lts
 use Rattle.runs_f64.proofs.plane.Reads as plane-reads
-use Rattle.runs_f64.proofs.run.Reads as run-reads
+use Rattle.windows.proofs.row_count.Reads as count-reads
 use Rattle.windows_f64.proofs.+axes.{statement}
 use Rattle.windows_f64.proofs.+axes.Tie.{close}
 
@@ -35,7 +35,7 @@ abbrev under : ℕ → In 5 kinds.ps
 under t = and 5 kinds.ps (falls 5 kinds.ps _<_ μ-axes t) axes.Pre
 
 abbrev claims : ℕ → lts.Claims
-claims t = (run-reads.Asked, run-reads.Learnt, plane-reads.Asked, plane-reads.Learnt, under t, axes.Post)
+claims t = (count-reads.Asked, count-reads.Learnt, plane-reads.Asked, plane-reads.Learnt, under t, axes.Post)
 
 abbrev Inv : lts.InvT-loop
 Inv rule src dst₀ extents ss ds low rank s d top n a b j₀ dst j = (j ≤ n) × (length dst ≡ length dst₀) × (dst ≡ inOrder (below nan (ruleF64 rule) src (toZ w64 s) (toZ w64 d) extents ss ds (toZ w64 a) (toZ w64 b) top) j dst₀)
@@ -57,9 +57,6 @@ module _ (t : ℕ) where
   module _ (B : Read) where
     top-is : start B .args .rank ≡ suc (start B .args .rank - 1)
     top-is = omega (arith, start B .pre .1 .below)
-
-    plane-is : start B .args .rank - 1 ≡ start B .args .low + 1 → start B .args .rank - 1 ≡ suc (start B .args .low)
-    plane-is e = omega arith
 
     a-fits : SFits w64 (getD (start B .args .ss .now) (start B .args .rank - 1) (pos 0))
     a-fits = sfits-of (B .before .a .given)
@@ -106,24 +103,8 @@ module _ (t : ℕ) where
   element-copy-out-b : lts.Need-element-copy-out-b (claims t) (at t) axes.Post Inv μ
   element-copy-out-b c = let a : Begun = search in omega (arith, a .pre .1 .below, a .pre .1 .window .small)
 
-  run-requires : lts.Need-run-requires (claims t) (at t) axes.Post Inv μ
-  run-requires c κs =
-      let B = c .before .before in
-      run-read _ _ _ _ _ _ _ _ _ _ (top-is B) (start B .pre .1) (c .before .if1 .taken) (start B .fits .s) (start B .fits .d) (a-fits B) (b-fits B)
-
-  same-length : lts.Need-same-length (claims t) (at t) axes.Post Inv μ
-  same-length c = search needs
-
-  returns : lts.Need-returns (claims t) (at t) axes.Post Inv μ
-  returns c =
-      let t1 : lts.Then1 (claims t) (at t) axes.Post Inv μ = search in
-      let r : lts.After-run (claims t) (at t) axes.Post Inv μ = search in
-      let B : Read = search in
-      let a = start B in
-      run-end _ _ _ _ _ _ _ _ _ _ (top-is B) (a .pre .1) nan (ruleF64 (a .args .rule)) (a .args .src .now) (a .fits .s) (a .fits .d) (a-fits B) (b-fits B) (a .args .dst .now) _ (t1 .if1 .taken) (r .run .ensures)
-
-  add-if2 : lts.Need-add-if2 (claims t) (at t) axes.Post Inv μ
-  add-if2 c = let a : Begun = search in omega (arith, a .pre .1 .below, a .pre .1 .window .small)
+  add-if1 : lts.Need-add-if1 (claims t) (at t) axes.Post Inv μ
+  add-if1 c = let a : Begun = search in omega (arith, a .pre .1 .below, a .pre .1 .window .small)
 
   mul-m : lts.Need-mul-m (claims t) (at t) axes.Post Inv μ
   mul-m c = let a : Begun = search in omega (arith, a .pre .1 .below, a .pre .1 .window .small)
@@ -145,49 +126,56 @@ module _ (t : ℕ) where
 
   plane-requires : lts.Need-plane-requires (claims t) (at t) axes.Post Inv μ
   plane-requires c κs =
-      let B = c .before .before .before .before .before .before in
-      plane-read _ _ _ _ _ _ _ _ _ _ (top-is B) (start B .pre .1) (plane-is B (c .before .before .before .before .if2 .taken)) (start B .fits .s) (start B .fits .d) (sfits-of (c .before .before .x .given)) (sfits-of (c .before .y .given)) (a-fits B) (b-fits B)
+      let r : lts.After-row-count (claims t) (at t) axes.Post Inv μ = c .before in
+      let y = r .before in
+      let x = y .before in
+      let t1 = x .before .before in
+      let B = t1 .before in
+      let a = start B in
+      rw (r .row-count .ensures)
+      (plane-read _ _ _ _ _ _ _ _ _ _ (top-is B) (a .pre .1) (t1 .if1 .taken) (a .fits .s) (a .fits .d) (sfits-of (x .x .given)) (sfits-of (y .y .given)) (a-fits B) (b-fits B))
 
-  same-length-2 : lts.Need-same-length-2 (claims t) (at t) axes.Post Inv μ
-  same-length-2 c = search needs
+  same-length : lts.Need-same-length (claims t) (at t) axes.Post Inv μ
+  same-length c = search needs
 
-  returns-2 : lts.Need-returns-2 (claims t) (at t) axes.Post Inv μ
-  returns-2 c =
+  returns : lts.Need-returns (claims t) (at t) axes.Post Inv μ
+  returns c =
       let p : lts.After-plane (claims t) (at t) axes.Post Inv μ = search in
-      let t2 : lts.Then2 (claims t) (at t) axes.Post Inv μ = search in
+      let r : lts.After-row-count (claims t) (at t) axes.Post Inv μ = search in
+      let t1 : lts.Then1 (claims t) (at t) axes.Post Inv μ = search in
       let x : lts.After-x (claims t) (at t) axes.Post Inv μ = search in
       let y : lts.After-y (claims t) (at t) axes.Post Inv μ = search in
       let B : Read = search in
       let a = start B in
-      plane-end _ _ _ _ _ _ _ _ _ _ (top-is B) (a .pre .1) nan (ruleF64 (a .args .rule)) (a .args .src .now) (a .fits .s) (a .fits .d) (a-fits B) (b-fits B) (a .args .dst .now) (p .plane .last .1 .1 .0) (plane-is B (t2 .if2 .taken))
-      (sfits-of (x .x .given)) (sfits-of (y .y .given)) (p .plane .ensures)
+      plane-end _ _ _ _ _ _ _ _ _ _ (top-is B) (a .pre .1) nan (ruleF64 (a .args .rule)) (a .args .src .now) (a .fits .s) (a .fits .d) (a-fits B) (b-fits B) (a .args .dst .now) (p .plane .last .1 .1 .0) (t1 .if1 .taken)
+      (sfits-of (x .x .given)) (sfits-of (y .y .given)) (rw (← r .row-count .ensures) (p .plane .ensures))
 
   loop-holds : lts.Need-loop-holds (claims t) (at t) axes.Post Inv μ
   loop-holds c = (omega arith, refl, none _ 0 _ refl)
 
   cast-k : lts.Need-cast-k (claims t) (at t) axes.Post Inv μ
-  cast-k c = from (c .before .before .before .before) (c .before .loop .j) (c .loop-test .taken) .count
+  cast-k c = from (c .before .before .before) (c .before .loop .j) (c .loop-test .taken) .count
 
   mul-p : lts.Need-mul-p (claims t) (at t) axes.Post Inv μ
-  mul-p c = from (c .before .before .before .before) (c .before .loop .j) (c .loop-test .taken) .multiple
+  mul-p c = from (c .before .before .before) (c .before .loop .j) (c .loop-test .taken) .multiple
 
   add-p : lts.Need-add-p (claims t) (at t) axes.Post Inv μ
-  add-p c = from (c .before .before .before .before) (c .before .loop .j) (c .loop-test .taken) .fits
+  add-p c = from (c .before .before .before) (c .before .loop .j) (c .loop-test .taken) .fits
 
   mul-q : lts.Need-mul-q (claims t) (at t) axes.Post Inv μ
-  mul-q c = to (c .before .before .before .before) (c .before .loop .j) (c .loop-test .taken) .multiple
+  mul-q c = to (c .before .before .before) (c .before .loop .j) (c .loop-test .taken) .multiple
 
   add-q : lts.Need-add-q (claims t) (at t) axes.Post Inv μ
-  add-q c = to (c .before .before .before .before) (c .before .loop .j) (c .loop-test .taken) .fits
+  add-q c = to (c .before .before .before) (c .before .loop .j) (c .loop-test .taken) .fits
 
   axes-requires : lts.Need-axes-requires (claims t) (at t) axes.Post Inv μ
   axes-requires c κs =
-      let B = c .before .before .before .before .before in
+      let B = c .before .before .before .before in
       let a = start B in
       let h = c .before .before in (
         omega (arith, a .pre .0, a .pre .1 .below),
         subst (Level (machine (a .args .s) (getD (a .args .ss .now) (a .args .rank - 1) (pos 0)) (h .loop .j)) (machine (a .args .d) (getD (a .args .ds .now) (a .args .rank - 1) (pos 0)) (h .loop .j)) (a .args .extents .now) (a .args .ss .now) (a .args .ds .now) (a .args .low) (a .args .rank - 1) (length (a .args .src .now))) (sym (h .loop .inv .1))
-            (next B (h .loop .j) (c .before .loop-test .taken) (omega (arith, a .pre .1 .below, h .before .before .if1 .left))),
+            (next B (h .loop .j) (c .before .loop-test .taken) (omega (arith, a .pre .1 .below, h .before .if1 .left))),
       )
 
   add-j : lts.Need-add-j (claims t) (at t) axes.Post Inv μ
@@ -203,7 +191,7 @@ module _ (t : ℕ) where
       let d : lts.In-loop (claims t) (at t) axes.Post Inv μ = search in
       let x : lts.After-axes (claims t) (at t) axes.Post Inv μ = search in
       let h : lts.At-loop (claims t) (at t) axes.Post Inv μ = search in
-      let B = h .before .before .before in
+      let B = h .before .before in
       let a = start B in
       let l = d .loop-test .taken in (
         omega arith,
@@ -211,13 +199,13 @@ module _ (t : ℕ) where
         levels-more _ _ _ _ _ _ _ _ _ _ (top-is B) (a .pre .1) nan (ruleF64 (a .args .rule)) (a .args .src .now) (h .loop .j) _ _ (a .args .dst .now) (h .loop .dst) _ (from B (h .loop .j) l) (to B (h .loop .j) l) (h .loop .inv .2) (x .axes .ensures),
       )
 
-  same-length-3 : lts.Need-same-length-3 (claims t) (at t) axes.Post Inv μ
-  same-length-3 c = c .before .loop .inv .1
+  same-length-2 : lts.Need-same-length-2 (claims t) (at t) axes.Post Inv μ
+  same-length-2 c = c .before .loop .inv .1
 
-  returns-3 : lts.Need-returns-3 (claims t) (at t) axes.Post Inv μ
-  returns-3 c =
+  returns-2 : lts.Need-returns-2 (claims t) (at t) axes.Post Inv μ
+  returns-2 c =
       let h = c .before in
-      let B = h .before .before .before in
+      let B = h .before .before in
       let a = start B in
       levels-end _ _ _ _ _ _ _ _ _ _ (top-is B) (a .pre .1) nan (ruleF64 (a .args .rule)) (a .args .src .now) (a .fits .s) (a .fits .d) (a-fits B) (b-fits B) (a .args .dst .now) (h .loop .dst) (h .loop .j) (omega arith) (h .loop .inv .2)
 
@@ -230,19 +218,17 @@ pub +axes-spec : {M : Type 1} → statement M
     (element-copy-out-a t)
     (mul-b t)
     (element-copy-out-b t)
-    (run-requires t)
-    (same-length t)
-    (returns t)
-    (add-if2 t)
+    (add-if1 t)
     (mul-m t)
     (element-copy-out-m t)
     (mul-x t)
     (element-copy-out-x t)
     (mul-y t)
     (element-copy-out-y t)
+    (λ c κs. tt)
     (plane-requires t)
-    (same-length-2 t)
-    (returns-2 t)
+    (same-length t)
+    (returns t)
     (loop-holds t)
     (cast-k t)
     (mul-p t)
@@ -253,5 +239,5 @@ pub +axes-spec : {M : Type 1} → statement M
     (add-j t)
     (loop-less t)
     (loop-again t)
-    (same-length-3 t)
-    (returns-3 t)
+    (same-length-2 t)
+    (returns-2 t)
