@@ -219,7 +219,7 @@ pub fn take_run(
 }
 
 // n cells by the rule: the source's place from s by ss; the destination's is d, moved by the start read at t by ts.
-fn put_cells_by(
+pub fn put_cells(
     rule: Rule,
     src: &[i32],
     starts: &[i64],
@@ -248,102 +248,6 @@ fn put_cells_by(
         let v = rules::apply(rule, dst[b], src[a]);
         dst[b] = v;
         i += 1;
-    }
-}
-
-// The same, by a loop of each rule's own: the rule is asked once, outside the loop.
-pub fn put_cells(
-    rule: Rule,
-    src: &[i32],
-    starts: &[i64],
-    dst: &mut [i32],
-    n: usize,
-    s: i64,
-    t: i64,
-    d: i64,
-    ss: i64,
-    ts: i64,
-    count: usize,
-    offsets: &[i64; RAW_FUSED_RANK_LIMIT],
-    strides: &[i64; RAW_FUSED_RANK_LIMIT],
-    limits: &[u64; RAW_FUSED_RANK_LIMIT],
-)
-    requires { ⌜ Putting (now starts) (now offsets) (now strides) (now limits) count s t d ss ts n (length (now src)) (length (now dst)) ⌝ }
-    ensures { λ _. ⌜ now (dst .exit) ≡ inOrder (cellAt (pos 0) (ruleI32 rule) (now (src .entry)) (line s ss) (movedAt (now (starts .entry)) (now (offsets .entry)) (now (strides .entry)) (now (limits .entry)) count (λ _. d) (line t ts))) n (now (dst .entry)) ⌝ }
-{
-    match rule {
-        Rule::Add => {
-            put_cells_by(
-                Rule::Add,
-                src,
-                starts,
-                dst,
-                n,
-                s,
-                t,
-                d,
-                ss,
-                ts,
-                count,
-                offsets,
-                strides,
-                limits,
-            );
-        }
-        Rule::Lowest => {
-            put_cells_by(
-                Rule::Lowest,
-                src,
-                starts,
-                dst,
-                n,
-                s,
-                t,
-                d,
-                ss,
-                ts,
-                count,
-                offsets,
-                strides,
-                limits,
-            );
-        }
-        Rule::Highest => {
-            put_cells_by(
-                Rule::Highest,
-                src,
-                starts,
-                dst,
-                n,
-                s,
-                t,
-                d,
-                ss,
-                ts,
-                count,
-                offsets,
-                strides,
-                limits,
-            );
-        }
-        Rule::Replace => {
-            put_cells_by(
-                Rule::Replace,
-                src,
-                starts,
-                dst,
-                n,
-                s,
-                t,
-                d,
-                ss,
-                ts,
-                count,
-                offsets,
-                strides,
-                limits,
-            );
-        }
     }
 }
 
