@@ -414,23 +414,25 @@ fn put_fours(rule: Rule, src: &[i32], starts: &[i64], dst: &mut [i32], limit: i6
     }
 }
 
-// The same, by a loop of each rule's own: the compiler does not move the question for the rule out of a loop of four cells to a turn.
+// The same, by a loop of each rule's own. Only a sum goes four to a turn: a loop of four is too long for the compiler to make one
+// for each rule.
 pub fn put_ones(rule: Rule, src: &[i32], starts: &[i64], dst: &mut [i32], limit: i64)
     requires { ⌜ Ones (now starts) limit (length (now src)) (length (now dst)) ⌝ }
     ensures { λ _. ⌜ now (dst .exit) ≡ inOrder (cellAt (pos 0) (ruleI32 rule) (now (src .entry)) pos (oneAt (now (starts .entry)) limit)) (length (now (src .entry))) (now (dst .entry)) ⌝ }
 {
+    let n = src.len();
     match rule {
         Rule::Add => {
             put_fours(Rule::Add, src, starts, dst, limit);
         }
         Rule::Lowest => {
-            put_fours(Rule::Lowest, src, starts, dst, limit);
+            put_few(Rule::Lowest, src, starts, dst, limit, n);
         }
         Rule::Highest => {
-            put_fours(Rule::Highest, src, starts, dst, limit);
+            put_few(Rule::Highest, src, starts, dst, limit, n);
         }
         Rule::Replace => {
-            put_fours(Rule::Replace, src, starts, dst, limit);
+            put_few(Rule::Replace, src, starts, dst, limit, n);
         }
     }
 }

@@ -387,26 +387,28 @@ fn put_fours(rule: RuleF64, src: &[f64], starts: &[i64], dst: &mut [f64], limit:
     }
 }
 
-// The same, by a loop of each rule's own: the compiler does not move the question for the rule out of a loop of four cells to a turn.
+// The same, by a loop of each rule's own. Only a sum goes four to a turn: a loop of four is too long for the compiler to make one
+// for each rule.
 pub fn put_ones(rule: RuleF64, src: &[f64], starts: &[i64], dst: &mut [f64], limit: i64)
     requires { ⌜ Ones (now starts) limit (length (now src)) (length (now dst)) ⌝ }
     ensures { λ _. ⌜ now (dst .exit) ≡ inOrder (cellAt nan (ruleF64 rule) (now (src .entry)) pos (oneAt (now (starts .entry)) limit)) (length (now (src .entry))) (now (dst .entry)) ⌝ }
 {
+    let n = src.len();
     match rule {
         RuleF64::Add => {
             put_fours(RuleF64::Add, src, starts, dst, limit);
         }
         RuleF64::Lowest => {
-            put_fours(RuleF64::Lowest, src, starts, dst, limit);
+            put_few(RuleF64::Lowest, src, starts, dst, limit, n);
         }
         RuleF64::Highest => {
-            put_fours(RuleF64::Highest, src, starts, dst, limit);
+            put_few(RuleF64::Highest, src, starts, dst, limit, n);
         }
         RuleF64::Replace => {
-            put_fours(RuleF64::Replace, src, starts, dst, limit);
+            put_few(RuleF64::Replace, src, starts, dst, limit, n);
         }
         RuleF64::Ceiling(ceiling) => {
-            put_fours(RuleF64::Ceiling(ceiling), src, starts, dst, limit);
+            put_few(RuleF64::Ceiling(ceiling), src, starts, dst, limit, n);
         }
     }
 }

@@ -16,20 +16,20 @@ put-fours-requires c κs = search needs
 enum-told-2 : tie.Need-enum-told-2
 enum-told-2 c = search needs
 
-put-fours-requires-2 : tie.Need-put-fours-requires-2
-put-fours-requires-2 c κs = search needs
+put-few-requires : tie.Need-put-few-requires
+put-few-requires c κs = search needs
 
 enum-told-3 : tie.Need-enum-told-3
 enum-told-3 c = search needs
 
-put-fours-requires-3 : tie.Need-put-fours-requires-3
-put-fours-requires-3 c κs = search needs
+put-few-requires-2 : tie.Need-put-few-requires-2
+put-few-requires-2 c κs = search needs
 
 enum-told-4 : tie.Need-enum-told-4
 enum-told-4 c = search needs
 
-put-fours-requires-4 : tie.Need-put-fours-requires-4
-put-fours-requires-4 c κs = search needs
+put-few-requires-3 : tie.Need-put-few-requires-3
+put-few-requires-3 c κs = search needs
 
 same-length : tie.Need-same-length
 same-length c = search needs
@@ -48,10 +48,10 @@ same-length-2 c = search needs
 returns-2 : tie.Need-returns-2
 returns-2 c =
     let e : tie.After-enum-told2 = search in
-    let p : tie.After-put-fours2 = search in
+    let p : tie.After-put-few = search in
     let a : tie.Start = search in
     rw (e .enum-told2 .given .1)
-    (put-ones-end (pos 0) (ruleI32 R.Lowest) (a .args .src .now) (a .args .starts .now) (a .args .limit) _ _ (a .args .dst .now) _ (a .fits .limit) refl (p .put-fours2 .ensures))
+    (put-ones-end (pos 0) (ruleI32 R.Lowest) (a .args .src .now) (a .args .starts .now) (a .args .limit) _ _ (a .args .dst .now) _ (a .fits .limit) refl (p .put-few .ensures))
 
 same-length-3 : tie.Need-same-length-3
 same-length-3 c = search needs
@@ -59,10 +59,10 @@ same-length-3 c = search needs
 returns-3 : tie.Need-returns-3
 returns-3 c =
     let e : tie.After-enum-told3 = search in
-    let p : tie.After-put-fours3 = search in
+    let p : tie.After-put-few2 = search in
     let a : tie.Start = search in
     rw (e .enum-told3 .given .1)
-    (put-ones-end (pos 0) (ruleI32 R.Highest) (a .args .src .now) (a .args .starts .now) (a .args .limit) _ _ (a .args .dst .now) _ (a .fits .limit) refl (p .put-fours3 .ensures))
+    (put-ones-end (pos 0) (ruleI32 R.Highest) (a .args .src .now) (a .args .starts .now) (a .args .limit) _ _ (a .args .dst .now) _ (a .fits .limit) refl (p .put-few2 .ensures))
 
 same-length-4 : tie.Need-same-length-4
 same-length-4 c = search needs
@@ -70,10 +70,10 @@ same-length-4 c = search needs
 returns-4 : tie.Need-returns-4
 returns-4 c =
     let e : tie.After-enum-told4 = search in
-    let p : tie.After-put-fours4 = search in
+    let p : tie.After-put-few3 = search in
     let a : tie.Start = search in
     rw (e .enum-told4 .given .1)
-    (put-ones-end (pos 0) (ruleI32 R.Replace) (a .args .src .now) (a .args .starts .now) (a .args .limit) _ _ (a .args .dst .now) _ (a .fits .limit) refl (p .put-fours4 .ensures))
+    (put-ones-end (pos 0) (ruleI32 R.Replace) (a .args .src .now) (a .args .starts .now) (a .args .limit) _ _ (a .args .dst .now) _ (a .fits .limit) refl (p .put-few3 .ensures))
 
 pub put-ones-spec : {M : Type 1} → statement M
 put-ones-spec =
@@ -82,11 +82,11 @@ put-ones-spec =
     enum-told
     put-fours-requires
     enum-told-2
-    put-fours-requires-2
+    put-few-requires
     enum-told-3
-    put-fours-requires-3
+    put-few-requires-2
     enum-told-4
-    put-fours-requires-4
+    put-few-requires-3
     same-length
     returns
     same-length-2

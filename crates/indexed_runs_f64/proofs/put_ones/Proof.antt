@@ -17,26 +17,26 @@ put-fours-requires c κs = search needs
 enum-told-2 : tie.Need-enum-told-2
 enum-told-2 c = search needs
 
-put-fours-requires-2 : tie.Need-put-fours-requires-2
-put-fours-requires-2 c κs = search needs
+put-few-requires : tie.Need-put-few-requires
+put-few-requires c κs = search needs
 
 enum-told-3 : tie.Need-enum-told-3
 enum-told-3 c = search needs
 
-put-fours-requires-3 : tie.Need-put-fours-requires-3
-put-fours-requires-3 c κs = search needs
+put-few-requires-2 : tie.Need-put-few-requires-2
+put-few-requires-2 c κs = search needs
 
 enum-told-4 : tie.Need-enum-told-4
 enum-told-4 c = search needs
 
-put-fours-requires-4 : tie.Need-put-fours-requires-4
-put-fours-requires-4 c κs = search needs
+put-few-requires-3 : tie.Need-put-few-requires-3
+put-few-requires-3 c κs = search needs
 
 enum-known-rule : tie.Need-enum-known-rule
 enum-known-rule c = search needs
 
-put-fours-requires-5 : tie.Need-put-fours-requires-5
-put-fours-requires-5 c κs = search needs
+put-few-requires-4 : tie.Need-put-few-requires-4
+put-few-requires-4 c κs = search needs
 
 same-length : tie.Need-same-length
 same-length c = search needs
@@ -55,10 +55,10 @@ same-length-2 c = search needs
 returns-2 : tie.Need-returns-2
 returns-2 c =
     let e : tie.After-enum-told2 = search in
-    let p : tie.After-put-fours2 = search in
+    let p : tie.After-put-few = search in
     let a : tie.Start = search in
     rw (e .enum-told2 .given .1)
-    (put-ones-end nan (ruleF64 R.Lowest) (a .args .src .now) (a .args .starts .now) (a .args .limit) _ _ (a .args .dst .now) _ (a .fits .limit) refl (p .put-fours2 .ensures))
+    (put-ones-end nan (ruleF64 R.Lowest) (a .args .src .now) (a .args .starts .now) (a .args .limit) _ _ (a .args .dst .now) _ (a .fits .limit) refl (p .put-few .ensures))
 
 same-length-3 : tie.Need-same-length-3
 same-length-3 c = search needs
@@ -66,10 +66,10 @@ same-length-3 c = search needs
 returns-3 : tie.Need-returns-3
 returns-3 c =
     let e : tie.After-enum-told3 = search in
-    let p : tie.After-put-fours3 = search in
+    let p : tie.After-put-few2 = search in
     let a : tie.Start = search in
     rw (e .enum-told3 .given .1)
-    (put-ones-end nan (ruleF64 R.Highest) (a .args .src .now) (a .args .starts .now) (a .args .limit) _ _ (a .args .dst .now) _ (a .fits .limit) refl (p .put-fours3 .ensures))
+    (put-ones-end nan (ruleF64 R.Highest) (a .args .src .now) (a .args .starts .now) (a .args .limit) _ _ (a .args .dst .now) _ (a .fits .limit) refl (p .put-few2 .ensures))
 
 same-length-4 : tie.Need-same-length-4
 same-length-4 c = search needs
@@ -77,10 +77,10 @@ same-length-4 c = search needs
 returns-4 : tie.Need-returns-4
 returns-4 c =
     let e : tie.After-enum-told4 = search in
-    let p : tie.After-put-fours4 = search in
+    let p : tie.After-put-few3 = search in
     let a : tie.Start = search in
     rw (e .enum-told4 .given .1)
-    (put-ones-end nan (ruleF64 R.Replace) (a .args .src .now) (a .args .starts .now) (a .args .limit) _ _ (a .args .dst .now) _ (a .fits .limit) refl (p .put-fours4 .ensures))
+    (put-ones-end nan (ruleF64 R.Replace) (a .args .src .now) (a .args .starts .now) (a .args .limit) _ _ (a .args .dst .now) _ (a .fits .limit) refl (p .put-few3 .ensures))
 
 same-length-5 : tie.Need-same-length-5
 same-length-5 c = search needs
@@ -88,10 +88,10 @@ same-length-5 c = search needs
 returns-5 : tie.Need-returns-5
 returns-5 c =
     let e : tie.After-rule = search in
-    let p : tie.After-put-fours5 = search in
+    let p : tie.After-put-few4 = search in
     let a : tie.Start = search in
     rw (e .rule .given .1)
-    (put-ones-end nan (ruleF64 (R.Ceiling (e .rule .given .0 .0))) (a .args .src .now) (a .args .starts .now) (a .args .limit) _ _ (a .args .dst .now) _ (a .fits .limit) refl (p .put-fours5 .ensures))
+    (put-ones-end nan (ruleF64 (R.Ceiling (e .rule .given .0 .0))) (a .args .src .now) (a .args .starts .now) (a .args .limit) _ _ (a .args .dst .now) _ (a .fits .limit) refl (p .put-few4 .ensures))
 
 pub put-ones-spec : {M : Type 1} → statement M
 put-ones-spec =
@@ -100,13 +100,13 @@ put-ones-spec =
     enum-told
     put-fours-requires
     enum-told-2
-    put-fours-requires-2
+    put-few-requires
     enum-told-3
-    put-fours-requires-3
+    put-few-requires-2
     enum-told-4
-    put-fours-requires-4
+    put-few-requires-3
     enum-known-rule
-    put-fours-requires-5
+    put-few-requires-4
     same-length
     returns
     same-length-2
