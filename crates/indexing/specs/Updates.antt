@@ -1,6 +1,6 @@
 -- Lists of updates and of reads, of any element type: what one element holds at the end, and what order cannot change. Assumes nothing.
 use mathlib.Core.Path.{_≡_, refl, sym, ap, ap₂, _∙_, subst}
-use mathlib.Core.Logic.{_≢_}
+use mathlib.Core.Logic.{_≢_, _⊎_, inl, inr, ⊎-elim}
 use mathlib.Core.Bool.{Bool, true, false, cond}
 use mathlib.Core.List.{List, [], _∷_, _++_, cons≢nil}
 use Prim.Native.Nat.{ℕ, zero, suc, _<_, _≤_, zero-le, suc-le-suc}
@@ -204,20 +204,32 @@ getD-tabulate zero f k d h = absurd (omega arith)
 getD-tabulate (suc n) f zero d h = refl
 getD-tabulate (suc n) f (suc k) d h = getD-tabulate n (λ i. f (suc i)) k d (omega arith)
 
--- a row of updates none of which lands on p
-pub row-misses : {A : Type 0} (p : ℤ) (n : ℕ) (f : ℕ → Update A) → ((w : ℕ) → w < n → f w .0 ≢ p) → landing p (tabulate n f) ≡ []
+-- a row of updates, and rows of them: none lands on p, or one does
+row-lands : {A : Type 0} (p : ℤ) (n : ℕ) (f : ℕ → Update A) → (landing p (tabulate n f) ≡ []) ⊎ ((w : ℕ) × (w < n) × (f w .0 ≡ p))
 unfolding tabulate landing
-row-misses p zero f h = refl
-row-misses {A} p (suc n) f h = go (eqZ (f 0 .0) p) refl (row-misses p n (λ w. f (suc w)) (λ w l. h (suc w) (omega arith)))
+row-lands p zero f = inl refl
+row-lands {A} p (suc n) f = go (eqZ (f 0 .0) p) refl (row-lands p n (λ w. f (suc w)))
   where
-    go : (b : Bool) → eqZ (f 0 .0) p ≡ b → landing p (tabulate n (λ w. f (suc w))) ≡ [] → cond b (f 0 .1 ∷ landing p (tabulate n (λ w. f (suc w)))) (landing p (tabulate n (λ w. f (suc w)))) ≡ []
-    go true e ih = absurd (h 0 (omega arith) (eqZ-true (f 0 .0) p e))
-    go false e ih = ih
+    go : (b : Bool) → eqZ (f 0 .0) p ≡ b → (landing p (tabulate n (λ w. f (suc w))) ≡ []) ⊎ ((w : ℕ) × (w < n) × (f (suc w) .0 ≡ p))
+        → (cond b (f 0 .1 ∷ landing p (tabulate n (λ w. f (suc w)))) (landing p (tabulate n (λ w. f (suc w)))) ≡ []) ⊎ ((w : ℕ) × (w < suc n) × (f w .0 ≡ p))
+    go true e ih = inr (0, omega arith, eqZ-true (f 0 .0) p e)
+    go false e (inl m) = inl m
+    go false e (inr (w, l, q)) = inr (suc w, omega arith, q)
 
+pub rows-land : {A : Type 0} (p : ℤ) (n m : ℕ) (f : ℕ → ℕ → Update A)
+    → (landing p (joined (tabulate n (λ b. tabulate m (λ w. f b w)))) ≡ []) ⊎ ((b : ℕ) × (w : ℕ) × (b < n) × (w < m) × (f b w .0 ≡ p))
+unfolding tabulate joined landing
+rows-land p zero m f = inl refl
+rows-land {A} p (suc n) m f = go (row-lands p m (λ w. f 0 w)) (rows-land p n m (λ b. f (suc b)))
+  where
+    go : (landing p (tabulate m (λ w. f 0 w)) ≡ []) ⊎ ((w : ℕ) × (w < m) × (f 0 w .0 ≡ p))
+        → (landing p (joined (tabulate n (λ b. tabulate m (λ w. f (suc b) w)))) ≡ []) ⊎ ((b : ℕ) × (w : ℕ) × (b < n) × (w < m) × (f (suc b) w .0 ≡ p))
+        → (landing p (tabulate m (λ w. f 0 w) ++ joined (tabulate n (λ b. tabulate m (λ w. f (suc b) w)))) ≡ []) ⊎ ((b : ℕ) × (w : ℕ) × (b < suc n) × (w < m) × (f b w .0 ≡ p))
+    go (inr (w, l, q)) r = inr (0, w, omega arith, l, q)
+    go (inl e) (inr (b, w, k, l, q)) = inr (suc b, w, omega arith, l, q)
+    go (inl e) (inl e′) = inl (landing-append p (tabulate m (λ w. f 0 w)) (joined (tabulate n (λ b. tabulate m (λ w. f (suc b) w)))) ∙ ap₂ _++_ e e′)
+
+-- rows of updates none of which lands on p
 pub rows-miss : {A : Type 0} (p : ℤ) (n m : ℕ) (f : ℕ → ℕ → Update A) → ((b w : ℕ) → b < n → w < m → f b w .0 ≢ p)
     → landing p (joined (tabulate n (λ b. tabulate m (λ w. f b w)))) ≡ []
-unfolding tabulate joined
-rows-miss p zero m f h = unfold landing in refl
-rows-miss p (suc n) m f h =
-    landing-append p (tabulate m (λ w. f 0 w)) (joined (tabulate n (λ b. tabulate m (λ w. f (suc b) w))))
-    ∙ ap₂ _++_ (row-misses p m (λ w. f 0 w) (λ w l. h 0 w (omega arith) l)) (rows-miss p n m (λ b. f (suc b)) (λ b w l k. h (suc b) w (omega arith) k))
+rows-miss p n m f h = ⊎-elim (λ e. e) (λ q. absurd (h (q .0) (q .1) (q .2) (q .3) (q .4))) (rows-land p n m f)

@@ -11,7 +11,8 @@ use lib.IntN.{ℤ, pos}
 use lib.ListN.{length, getD}
 use lib.Ieee.{Float, nan, inf, fin, up, down, below, level, lt, eq, le, isNan, add}
 use Rattle.indexing.specs.Scatter.{Scatter, placedUpdates, landing, scattered, addF64}
-use Rattle.indexing.specs.Updates.{inTurn, element}
+use Rattle.indexing.specs.Updates.{inTurn}
+use Rattle.indexing.specs.Demand3.{each-by}
 use Rattle.rules.specs.Rules.{capped, ruleF64}
 use Rattle.rules.specs.Choice.{either, in-turn-one-of}
 use Rattle.rules.specs.declared.RuleF64.{RuleF64}
@@ -219,8 +220,7 @@ module _ (s : Scatter) (starts : List ℤ) (updates grid : List Float) (i : ℕ)
   after r = getD (scattered (ruleF64 r) nan s starts updates grid) i nan
 
   after-is : (r : RuleF64) → after r ≡ inTurn (ruleF64 r) (getD grid i nan) lands
-  unfolding scattered
-  after-is r = element (ruleF64 r) nan (placedUpdates nan s starts updates) grid i h
+  after-is r = each-by (ruleF64 r) nan s starts updates grid i h
 
   -- by Lowest, Highest and Replace, one of its old value and the updates that land on it, as it was: nothing is rounded
   pub lowest-each : List·Memᴰ (after F.Lowest) (getD grid i nan ∷ lands)
