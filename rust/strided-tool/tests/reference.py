@@ -4,6 +4,18 @@ import itertools
 
 import numpy as np
 
+# Three updates on a row of five cells, as the text of a job.
+SCATTER = """kind = scatter
+element = i32
+index.extents = 3
+updates.extents = 3
+dest.extents = 5
+update_window_dims =
+inserted_window_dims = 0
+scatter_dims_to_operand_dims = 0
+index_vector_dim = 1
+"""
+
 
 def first_axis_fastest(extents):
     for reverse in itertools.product(*(range(extent) for extent in reversed(extents))):

@@ -9,6 +9,7 @@ import stat
 import numpy as np
 
 from harness import HERE, TOOL, check, content, done, finish, left_behind, path, put, refused, run
+from reference import SCATTER
 
 GATHER = """kind = gather
 element = i32
@@ -20,17 +21,6 @@ collapsed_slice_dims =
 start_index_map = 0
 index_vector_dim = 1
 slice_sizes = 2
-"""
-
-SCATTER = """kind = scatter
-element = i32
-index.extents = 3
-updates.extents = 3
-dest.extents = 5
-update_window_dims =
-inserted_window_dims = 0
-scatter_dims_to_operand_dims = 0
-index_vector_dim = 1
 """
 
 CUT = ["scatter", "--job", "cut.job", "--starts", "starts.npy", "--updates", "updates.npy", "--grid", "grid.npy"]

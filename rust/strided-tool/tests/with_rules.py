@@ -7,7 +7,7 @@ import sys
 import numpy as np
 
 from harness import check, content, done, finish, path, put, refused, run
-from reference import job_text, options, random_scatter, scatter
+from reference import SCATTER, job_text, options, random_scatter, scatter
 
 RULES = {"i32": ["add", "lowest", "highest", "replace"]}
 RULES["f64"] = [*RULES["i32"], "ceiling:0.5", "ceiling:-1e16", "ceiling:inf", "ceiling:-inf", "ceiling:nan", "ceiling:-0.0"]
@@ -15,17 +15,6 @@ RULES["f64"] = [*RULES["i32"], "ceiling:0.5", "ceiling:-1e16", "ceiling:inf", "c
 # Single cells of a grid of one axis.
 LISTS = ["--inserted-window-dims", 0, "--scatter-dims-to-operand-dims", 0, "--index-vector-dim", 1]
 FILES = ["--starts", "starts.npy", "--updates", "updates.npy", "--grid", "grid.npy"]
-
-JOB = """kind = scatter
-element = i32
-index.extents = 3
-updates.extents = 3
-dest.extents = 5
-update_window_dims =
-inserted_window_dims = 0
-scatter_dims_to_operand_dims = 0
-index_vector_dim = 1
-"""
 
 
 def save(starts, updates, grid):
@@ -159,7 +148,7 @@ def stays(status, words, *arguments):
 def beside_a_job():
     """A stored job adds, and takes no rule, not even that."""
     small()
-    put("cut.txt", JOB)
+    put("cut.txt", SCATTER)
     done("job", "make", "cut.txt", "cut.job")
     for rule in RULES["f64"]:
         stays(2, ["cut.job: a stored job adds, and --rule", "cannot be used with --job; nothing was done",
