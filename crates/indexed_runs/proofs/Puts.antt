@@ -1,7 +1,7 @@
 -- Cells that are put where starts say, read one by one, as the machine makes them. Assumes nothing.
 use mathlib.Core.Path.{_≡_, sym, ap, ap₂, subst, _∙_}
 use mathlib.Core.List.{List}
-use Prim.Native.Nat.{ℕ, _-_, _<_, _^_}
+use Prim.Native.Nat.{ℕ, _*_, _-_, _<_, _^_}
 use native.Mathlib.Omega.{arith}
 use lib.IntN.{ℤ, pos, natAbs, _+ℤ_}
 use mir.Syntax.{w64}
@@ -9,7 +9,8 @@ use mir.Val.{SFits}
 use Rattle.integer.specs.Z.{back}
 use Rattle.indexing.specs.Coordinates.{InSlice}
 use Rattle.indexing.specs.Loops.{inOrder}
-use Rattle.runs.specs.Runs.{cellAt, line}
+use Rattle.indexing.specs.Axes.{sumOf}
+use Rattle.runs.specs.Runs.{cellAt, line, Run}
 use Rattle.runs.proofs.Turns.{same-places}
 use Rattle.runs.proofs.Place.{read, machine, Step, step, Index, index}
 use Rattle.indexed_runs.specs.IndexedRuns.{startAt, Starting, movedAt, Putting}
@@ -38,6 +39,11 @@ module _ (starts offsets strides : List ℤ) (limits : List ℕ) (count : ℕ) (
       pub place-is : pos (natAbs (read r)) ≡ movedAt starts offsets strides limits count (λ _. read d) (line (read t) (read ts)) i
       place-is = place-index .is ∙ e ∙ ap (λ (v : ℤ). read d +ℤ startAt starts offsets strides limits v count) (q .read-is)
 
+-- what is asked, by locals read back, and what is told
+pub puts-ask : (starts offsets strides : List ℤ) (limits : List ℕ) (count : ℕ) (s t d ss ts : ℤ) (n sn dn : ℕ) → SFits w64 s → SFits w64 t → SFits w64 d → SFits w64 ss → SFits w64 ts
+    → Putting starts offsets strides limits count s t d ss ts n sn dn → Putting starts offsets strides limits count (read s) (read t) (read d) (read ss) (read ts) n sn dn
+puts-ask starts offsets strides limits count s t d ss ts n sn dn fs ft fd fss fts w = simp (back fs, back ft, back fd, back fss, back fts) w
+
 pub puts-end : {A : Type 0} (z : A) (rule : A → A → A) (src : List A) (starts offsets strides : List ℤ) (limits : List ℕ) (count : ℕ) (s t d ss ts : ℤ) (i n : ℕ) (x y : List A)
     → SFits w64 s → SFits w64 t → SFits w64 d → SFits w64 ss → SFits w64 ts → i ≡ n
     → y ≡ inOrder (cellAt z rule src (line (read s) (read ss)) (movedAt starts offsets strides limits count (λ _. read d) (line (read t) (read ts)))) i x
@@ -50,3 +56,27 @@ puts-end z rule src starts offsets strides limits count s t d ss ts i n x y fs f
   where
     line-back : (s ss : ℤ) (k : ℕ) → SFits w64 s → SFits w64 ss → line (read s) (read ss) k ≡ line s ss k
     line-back s ss k fs fss = ap₂ (λ (u v : ℤ). line u v k) (back fs) (back fss)
+
+-- ---- where starts have no components: all cells are put on the element at d
+module _ (starts offsets strides : List ℤ) (limits : List ℕ) (count : ℕ) (e : count ≡ 0) (s t d ss ts : ℤ) where
+  still : (k : ℕ) → line d (pos 0) k ≡ movedAt starts offsets strides limits count (λ _. d) (line t ts) k
+  unfolding sumOf
+  still k =
+      let h : 0 * k ≡ 0 = omega arith in
+      ap (λ (m : ℕ). d +ℤ pos m) h ∙ ap (λ (c : ℕ). d +ℤ startAt starts offsets strides limits (line t ts k) c) (sym e)
+
+  pub still-asks : (n sn dn : ℕ) → SFits w64 s → SFits w64 d → SFits w64 ss → Putting starts offsets strides limits count s t d ss ts n sn dn → Run (read s) (read d) (read ss) (pos 0) n sn dn
+  still-asks n sn dn fs fd fss w =
+      let r : Run s d ss (pos 0) n sn dn = record {
+        source = w .source;
+        dest = record { few = w .source .few; inside = λ i h. subst (InSlice dn) (sym (still i)) (w .starting i h .partly count (omega arith)) };
+      } in
+      simp (back fs, back fd, back fss) r
+
+  pub still-end : {A : Type 0} (z : A) (rule : A → A → A) (src : List A) (n : ℕ) (x y : List A) → SFits w64 s → SFits w64 d → SFits w64 ss
+      → y ≡ inOrder (cellAt z rule src (line (read s) (read ss)) (line (read d) (pos 0))) n x
+      → y ≡ inOrder (cellAt z rule src (line s ss) (movedAt starts offsets strides limits count (λ _. d) (line t ts))) n x
+  still-end z rule src n x y fs fd fss h =
+      h
+      ∙ same-places z rule src _ _ (line s ss) (movedAt starts offsets strides limits count (λ _. d) (line t ts)) n
+      (λ k _. ap₂ (λ (u v : ℤ). line u v k) (back fs) (back fss)) (λ k _. ap (λ (u : ℤ). line u (pos 0) k) (back fd) ∙ still k) x

@@ -91,7 +91,7 @@ fn copy_row(src: &[i32], dst: &mut [i32], n: usize, s: i64, d: i64)
 }
 
 // n cells, from the places s and d by the strides ss and ds.
-fn strided(rule: Rule, src: &[i32], dst: &mut [i32], n: usize, s: i64, d: i64, ss: i64, ds: i64)
+pub fn strided(rule: Rule, src: &[i32], dst: &mut [i32], n: usize, s: i64, d: i64, ss: i64, ds: i64)
     requires { ⌜ Run s d ss ds n (length (now src)) (length (now dst)) ⌝ }
     ensures { λ _. ⌜ now (dst .exit) ≡ inOrder (cellAt (pos 0) (ruleI32 rule) (now (src .entry)) (line s ss) (line d ds)) n (now (dst .entry)) ⌝ }
 {

@@ -89,7 +89,16 @@ fn copy_row(src: &[f64], dst: &mut [f64], n: usize, s: i64, d: i64)
 }
 
 // n cells, from the places s and d by the strides ss and ds.
-fn strided(rule: RuleF64, src: &[f64], dst: &mut [f64], n: usize, s: i64, d: i64, ss: i64, ds: i64)
+pub fn strided(
+    rule: RuleF64,
+    src: &[f64],
+    dst: &mut [f64],
+    n: usize,
+    s: i64,
+    d: i64,
+    ss: i64,
+    ds: i64,
+)
     requires { ⌜ Run s d ss ds n (length (now src)) (length (now dst)) ⌝ }
     ensures { λ _. ⌜ now (dst .exit) ≡ inOrder (cellAt nan (ruleF64 rule) (now (src .entry)) (line s ss) (line d ds)) n (now (dst .entry)) ⌝ }
 {

@@ -28,7 +28,7 @@ pub fn one_cell(extents: &[u64; RAW_FUSED_RANK_LIMIT], rank: usize) -> bool
     true
 }
 
-// One run of windows of one cell: the start of each is read.
+// One run of windows of one cell: the start of each is read. Where starts have no components all updates are put on one element.
 pub fn scatter_run(
     rule: Rule,
     src: &[i32],
@@ -49,6 +49,10 @@ pub fn scatter_run(
     ensures { λ _. ⌜ now (dst .exit) ≡ inOrder (cellAt (pos 0) (ruleI32 rule) (now (src .entry)) (line u us) (movedAt (now (starts .entry)) (now (offsets .entry)) (now (strides .entry)) (now (limits .entry)) count (λ _. d) (line t ts))) n (now (dst .entry)) ⌝ }
 {
     if n == 0 {
+        return;
+    }
+    if count == 0 {
+        runs::strided(rule, src, dst, n, u, d, us, 0);
         return;
     }
     if count == 1 {

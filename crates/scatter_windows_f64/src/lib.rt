@@ -12,7 +12,7 @@ ghost use Rattle.scatter_windows.specs.Scattering.{putBy, BatchPlaces, PutLevel
 use layout::RAW_FUSED_RANK_LIMIT;
 use rules::RuleF64;
 
-// One run of windows of one cell: the start of each is read.
+// One run of windows of one cell: the start of each is read. Where starts have no components all updates are put on one element.
 pub fn scatter_run(
     rule: RuleF64,
     src: &[f64],
@@ -33,6 +33,10 @@ pub fn scatter_run(
     ensures { λ _. ⌜ now (dst .exit) ≡ inOrder (cellAt nan (ruleF64 rule) (now (src .entry)) (line u us) (movedAt (now (starts .entry)) (now (offsets .entry)) (now (strides .entry)) (now (limits .entry)) count (λ _. d) (line t ts))) n (now (dst .entry)) ⌝ }
 {
     if n == 0 {
+        return;
+    }
+    if count == 0 {
+        runs_f64::strided(rule, src, dst, n, u, d, us, 0);
         return;
     }
     if count == 1 {
