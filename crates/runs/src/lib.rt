@@ -91,7 +91,7 @@ fn copy_row(src: &[i32], dst: &mut [i32], n: usize, s: i64, d: i64)
 }
 
 // n cells, from the places s and d by the strides ss and ds.
-pub fn strided(rule: Rule, src: &[i32], dst: &mut [i32], n: usize, s: i64, d: i64, ss: i64, ds: i64)
+fn strided(rule: Rule, src: &[i32], dst: &mut [i32], n: usize, s: i64, d: i64, ss: i64, ds: i64)
     requires { ⌜ Run s d ss ds n (length (now src)) (length (now dst)) ⌝ }
     ensures { λ _. ⌜ now (dst .exit) ≡ inOrder (cellAt (pos 0) (ruleI32 rule) (now (src .entry)) (line s ss) (line d ds)) n (now (dst .entry)) ⌝ }
 {
@@ -103,6 +103,36 @@ pub fn strided(rule: Rule, src: &[i32], dst: &mut [i32], n: usize, s: i64, d: i6
         let v = rules::apply(rule, dst[b], src[a]);
         dst[b] = v;
         i += 1;
+    }
+}
+
+// The same, by a loop of each rule's own: the rule is asked once, outside the loop.
+pub fn strided_run(
+    rule: Rule,
+    src: &[i32],
+    dst: &mut [i32],
+    n: usize,
+    s: i64,
+    d: i64,
+    ss: i64,
+    ds: i64,
+)
+    requires { ⌜ Run s d ss ds n (length (now src)) (length (now dst)) ⌝ }
+    ensures { λ _. ⌜ now (dst .exit) ≡ inOrder (cellAt (pos 0) (ruleI32 rule) (now (src .entry)) (line s ss) (line d ds)) n (now (dst .entry)) ⌝ }
+{
+    match rule {
+        Rule::Add => {
+            strided(Rule::Add, src, dst, n, s, d, ss, ds);
+        }
+        Rule::Lowest => {
+            strided(Rule::Lowest, src, dst, n, s, d, ss, ds);
+        }
+        Rule::Highest => {
+            strided(Rule::Highest, src, dst, n, s, d, ss, ds);
+        }
+        Rule::Replace => {
+            strided(Rule::Replace, src, dst, n, s, d, ss, ds);
+        }
     }
 }
 

@@ -89,7 +89,23 @@ fn copy_row(src: &[f64], dst: &mut [f64], n: usize, s: i64, d: i64)
 }
 
 // n cells, from the places s and d by the strides ss and ds.
-pub fn strided(
+fn strided(rule: RuleF64, src: &[f64], dst: &mut [f64], n: usize, s: i64, d: i64, ss: i64, ds: i64)
+    requires { ⌜ Run s d ss ds n (length (now src)) (length (now dst)) ⌝ }
+    ensures { λ _. ⌜ now (dst .exit) ≡ inOrder (cellAt nan (ruleF64 rule) (now (src .entry)) (line s ss) (line d ds)) n (now (dst .entry)) ⌝ }
+{
+    let mut i: usize = 0;
+    while i < n {
+        let k = i as i64;
+        let a = (s + ss * k) as usize;
+        let b = (d + ds * k) as usize;
+        let v = rules::apply_f64(rule, dst[b], src[a]);
+        dst[b] = v;
+        i += 1;
+    }
+}
+
+// The same, by a loop of each rule's own: the rule is asked once, outside the loop.
+pub fn strided_run(
     rule: RuleF64,
     src: &[f64],
     dst: &mut [f64],
@@ -102,14 +118,22 @@ pub fn strided(
     requires { ⌜ Run s d ss ds n (length (now src)) (length (now dst)) ⌝ }
     ensures { λ _. ⌜ now (dst .exit) ≡ inOrder (cellAt nan (ruleF64 rule) (now (src .entry)) (line s ss) (line d ds)) n (now (dst .entry)) ⌝ }
 {
-    let mut i: usize = 0;
-    while i < n {
-        let k = i as i64;
-        let a = (s + ss * k) as usize;
-        let b = (d + ds * k) as usize;
-        let v = rules::apply_f64(rule, dst[b], src[a]);
-        dst[b] = v;
-        i += 1;
+    match rule {
+        RuleF64::Add => {
+            strided(RuleF64::Add, src, dst, n, s, d, ss, ds);
+        }
+        RuleF64::Lowest => {
+            strided(RuleF64::Lowest, src, dst, n, s, d, ss, ds);
+        }
+        RuleF64::Highest => {
+            strided(RuleF64::Highest, src, dst, n, s, d, ss, ds);
+        }
+        RuleF64::Replace => {
+            strided(RuleF64::Replace, src, dst, n, s, d, ss, ds);
+        }
+        RuleF64::Ceiling(ceiling) => {
+            strided(RuleF64::Ceiling(ceiling), src, dst, n, s, d, ss, ds);
+        }
     }
 }
 

@@ -52,7 +52,7 @@ pub fn scatter_run(
         return;
     }
     if count == 0 {
-        runs::strided(rule, src, dst, n, u, d, us, 0);
+        runs::strided_run(rule, src, dst, n, u, d, us, 0);
         return;
     }
     if count == 1 {

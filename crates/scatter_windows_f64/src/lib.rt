@@ -36,7 +36,7 @@ pub fn scatter_run(
         return;
     }
     if count == 0 {
-        runs_f64::strided(rule, src, dst, n, u, d, us, 0);
+        runs_f64::strided_run(rule, src, dst, n, u, d, us, 0);
         return;
     }
     if count == 1 {

@@ -12,8 +12,8 @@ use Rattle.scatter_windows.proofs.scatter_run.Tie as tie
 returns : tie.Need-returns
 returns c = let a : tie.Start = search in none _ (a .args .n) (a .args .dst .now) (c .if1 .taken)
 
-strided-requires : tie.Need-strided-requires
-strided-requires c κs =
+strided-run-requires : tie.Need-strided-run-requires
+strided-run-requires c κs =
     let t : tie.Then2 = search in
     let a : tie.Start = search in
     still-asks (a .args .starts .now) (a .args .offsets .now) (a .args .strides .now) (a .args .limits .now) (a .args .count) (t .if2 .taken) _ _ _ _ _ _ _ _ (a .fits .u) (a .fits .d) (a .fits .us) (a .pre)
@@ -23,10 +23,10 @@ same-length c = search needs
 
 returns-2 : tie.Need-returns-2
 returns-2 c =
-    let p : tie.After-strided = search in
+    let p : tie.After-strided-run = search in
     let t : tie.Then2 = search in
     let a : tie.Start = search in
-    still-end (a .args .starts .now) (a .args .offsets .now) (a .args .strides .now) (a .args .limits .now) (a .args .count) (t .if2 .taken) (a .args .u) (a .args .t) (a .args .d) (a .args .us) (a .args .ts) (pos 0) (ruleI32 (a .args .rule)) (a .args .src .now) (a .args .n) (a .args .dst .now) _ (a .fits .u) (a .fits .d) (a .fits .us) (p .strided .ensures)
+    still-end (a .args .starts .now) (a .args .offsets .now) (a .args .strides .now) (a .args .limits .now) (a .args .count) (t .if2 .taken) (a .args .u) (a .args .t) (a .args .d) (a .args .us) (a .args .ts) (pos 0) (ruleI32 (a .args .rule)) (a .args .src .now) (a .args .n) (a .args .dst .now) _ (a .fits .u) (a .fits .d) (a .fits .us) (p .strided-run .ensures)
 
 element-copy-out-at : tie.Need-element-copy-out-at
 element-copy-out-at c = search needs
@@ -78,7 +78,7 @@ scatter-run-spec =
     tie.close
     (tie.spec
     returns
-    strided-requires
+    strided-run-requires
     same-length
     returns-2
     element-copy-out-at
