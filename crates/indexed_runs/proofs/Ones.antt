@@ -1,7 +1,8 @@
 -- Runs by clamped starts where every step is 1: a cell's place, and the parts of the slices that such a run is on. Assumes nothing.
 use mathlib.Core.Path.{_≡_, refl, sym, ap, ap₂, subst, _∙_}
 use mathlib.Core.List.{List, _++_}
-use Prim.Native.Nat.{ℕ, zero, suc, _+_, _-_, _<_, _≤_, _^_, min}
+use Prim.Native.Nat.{ℕ, zero, suc, _+_, _-_, _*_, _/_, _%_, _<_, _≤_, _^_, min}
+use native.Mathlib.Nat.{div-add-mod, mul-suc, mul-zero}
 use native.Mathlib.Omega.{arith}
 use lib.ListN.{length, getD, take, drop, length-drop, take-append-drop}
 use lib.Seq.{length-take-le, getD-take, getD-drop}
@@ -18,7 +19,7 @@ use Rattle.indexing.specs.Inside.{clamp-is}
 use Rattle.indexing.specs.Loops.{inOrder}
 use Rattle.indexing.specs.Parts.{element-mid, store-mid}
 use Rattle.runs.specs.Runs.{cellAt, line}
-use Rattle.runs.proofs.Turns.{more, same-turns, same-places, length-cells}
+use Rattle.runs.proofs.Turns.{more, split, same-turns, same-places, length-cells}
 use Rattle.runs.proofs.Place.{read, Index, index}
 use Rattle.indexed_runs.specs.IndexedRuns.{clampedAt, Clamped, oneAt, Ones}
 
@@ -57,6 +58,27 @@ four-turns turn i x y a b c d e ea eb ec ed =
     let r : c ≡ inOrder turn (i + 3) x = subst (λ (m : ℕ). c ≡ inOrder turn m x) three (more turn (i + 2) x b c q ec) in
     subst (λ (m : ℕ). d ≡ inOrder turn m x) four (more turn (i + 3) x c d r ed)
 
+-- turns from a on: one more, and all that are made so
+module _ {C : Type 0} (turn : ℕ → C → C) (a : ℕ) where
+  pub turn-more : (i : ℕ) (x y z : C) → a ≤ i → y ≡ inOrder (λ k. turn (k + a)) (i - a) x → z ≡ turn i y → z ≡ inOrder (λ k. turn (k + a)) (i + 1 - a) x
+  turn-more i x y z h e f =
+      let p : i - a + a ≡ i = omega arith in
+      let q : i - a + 1 ≡ i + 1 - a = omega arith in
+      subst (λ (m : ℕ). z ≡ inOrder (λ k. turn (k + a)) m x) q (more (λ k. turn (k + a)) (i - a) x y z e (f ∙ ap (λ (j : ℕ). turn j y) (sym p)))
+
+  pub turns-on : (b : ℕ) (x y z : C) → a ≤ b → y ≡ inOrder turn a x → z ≡ inOrder (λ k. turn (k + a)) (b - a) y → z ≡ inOrder turn b x
+  turns-on b x y z h e f =
+      let p : a + (b - a) ≡ b = omega arith in
+      f ∙ ap (inOrder (λ k. turn (k + a)) (b - a)) e ∙ sym (split turn a (b - a) x) ∙ ap (λ (m : ℕ). inOrder turn m x) p
+
+-- where cells are left of whole turns, there is a turn
+pub turn-left : (i width q n : ℕ) → i + width * q ≡ n → i < n → (p : ℕ) × (i + width + width * p ≡ n)
+turn-left i width zero n e h = absurd (omega (arith, mul-zero width))
+turn-left i width (suc p) n e h = (p, omega (arith, mul-suc width p))
+
+pub turns-of : (n width : ℕ) → n % width + width * (n / width) ≡ n
+turns-of n width = omega (arith, div-add-mod n width)
+
 -- the end: the places by the parameters themselves
 module _ {A : Type 0} (z : A) (rule : A → A → A) (src : List A) (starts : List ℤ) (limit : ℤ) (i n : ℕ) (x y : List A) (fl : SFits w64 limit) (e : i ≡ n) where
   pub take-ones-end : y ≡ inOrder (cellAt z rule src (oneAt starts (read limit)) pos) i x → y ≡ inOrder (cellAt z rule src (oneAt starts limit) pos) n x
@@ -64,6 +86,10 @@ module _ {A : Type 0} (z : A) (rule : A → A → A) (src : List A) (starts : Li
 
   pub put-ones-end : y ≡ inOrder (cellAt z rule src pos (oneAt starts (read limit))) i x → y ≡ inOrder (cellAt z rule src pos (oneAt starts limit)) n x
   put-ones-end h = h ∙ ap₂ (λ (v : ℤ) (m : ℕ). inOrder (cellAt z rule src pos (oneAt starts v)) m x) (back fl) e
+
+pub put-few-end : {A : Type 0} (z : A) (rule : A → A → A) (src : List A) (starts : List ℤ) (limit : ℤ) (a i n : ℕ) (x y : List A) → SFits w64 limit → i ≡ n
+    → y ≡ inOrder (λ k. cellAt z rule src pos (oneAt starts (read limit)) (k + a)) (i - a) x → y ≡ inOrder (λ k. cellAt z rule src pos (oneAt starts limit) (k + a)) (n - a) x
+put-few-end z rule src starts limit a i n x y fl e h = h ∙ ap₂ (λ (v : ℤ) (m : ℕ). inOrder (λ k. cellAt z rule src pos (oneAt starts v) (k + a)) (m - a) x) (back fl) e
 
 -- what a cell asks, as the limit is read back and where the slices are as long as they were
 pub ones-left : (starts : List ℤ) (limit : ℤ) (n cn m cm : ℕ) → SFits w64 limit → Ones starts limit n cn → m ≡ n → cm ≡ cn → Ones starts (read limit) m cm

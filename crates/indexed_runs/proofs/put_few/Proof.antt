@@ -1,5 +1,5 @@
 use mathlib.Core.Path.{_≡_, refl, _∙_}
-use Prim.Native.Nat.{_-_, _≤_}
+use Prim.Native.Nat.{_+_, _-_, _≤_}
 use native.Mathlib.Omega.{arith}
 use lib.ListN.{length}
 use lib.IntN.{pos}
@@ -8,27 +8,28 @@ use mir.Val.{toZ}
 use Rattle.indexing.specs.Loops.{inOrder}
 use Rattle.rules.specs.Rules.{ruleI32}
 use Rattle.runs.specs.Runs.{cellAt}
-use Rattle.runs.proofs.Turns.{none, more}
+use Rattle.runs.proofs.Turns.{none}
+use Rattle.runs.proofs.Place.{read}
 use Rattle.indexed_runs.specs.IndexedRuns.{oneAt}
-use Rattle.indexed_runs.proofs.Ones.{ones-left, put-ones-end}
+use Rattle.indexed_runs.proofs.Ones.{ones-left, turn-more, put-few-end}
 use Rattle.indexed_runs.proofs.put_few.Statement.{statement}
 use Rattle.indexed_runs.proofs.put_few.Tie as tie
 
 abbrev Inv-loop : tie.InvT-loop
-Inv-loop rule src starts dst₀ limit n i₀ dst i = (i ≤ n) × (length dst ≡ length dst₀) × (dst ≡ inOrder (cellAt (pos 0) (ruleI32 rule) src pos (oneAt starts (toZ w64 limit))) i dst₀)
+Inv-loop rule src starts dst₀ limit from to i₀ dst i = (from ≤ i) × (i ≤ to) × (length dst ≡ length dst₀) × (dst ≡ inOrder (λ k. cellAt (pos 0) (ruleI32 rule) src pos (oneAt starts (toZ w64 limit)) (k + from)) (i - from) dst₀)
 
 abbrev μ-loop : tie.MeasureT-loop
-μ-loop rule src starts dst₀ limit n i₀ dst i = n - i
+μ-loop rule src starts dst₀ limit from to i₀ dst i = to - i
 
 loop-holds : tie.Need-loop-holds Inv-loop μ-loop
 loop-holds c =
     let a : tie.Start Inv-loop μ-loop = search in
-    (omega arith, refl, none _ 0 (a .args .dst .now) refl)
+    (omega arith, omega (arith, a .pre .0), refl, none _ (a .args .from - a .args .from) (a .args .dst .now) (omega arith))
 
 put-one-requires : tie.Need-put-one-requires Inv-loop μ-loop
 put-one-requires c κs =
     let h = c .before .before in
-    let a : tie.Start Inv-loop μ-loop = search in (omega (arith, c .before .loop-test .taken, a .pre .0), ones-left _ _ _ _ _ _ (a .fits .limit) (a .pre .1) refl (h .loop .inv .1))
+    let a : tie.Start Inv-loop μ-loop = search in (omega (arith, c .before .loop-test .taken, a .pre .1), ones-left _ _ _ _ _ _ (a .fits .limit) (a .pre .2) refl (h .loop .inv .2))
 
 add-i : tie.Need-add-i Inv-loop μ-loop
 add-i c = let d : tie.In-loop Inv-loop μ-loop = search in omega (arith, d .loop-test .taken)
@@ -40,20 +41,22 @@ loop-again : tie.Need-loop-again Inv-loop μ-loop
 loop-again c =
     let p : tie.After-put-one Inv-loop μ-loop = search in
     let d : tie.In-loop Inv-loop μ-loop = search in
-    let h : tie.At-loop Inv-loop μ-loop = search in (
+    let h : tie.At-loop Inv-loop μ-loop = search in
+    let a : tie.Start Inv-loop μ-loop = search in (
+      omega (arith, h .loop .inv .0),
       omega (arith, d .loop-test .taken),
-      p .put-one .kept .1 .1 .1 .0 ∙ h .loop .inv .1,
-      more _ (h .loop .i) _ _ _ (h .loop .inv .2) (p .put-one .ensures),
+      p .put-one .kept .1 .1 .1 .0 ∙ h .loop .inv .2,
+      turn-more (cellAt (pos 0) (ruleI32 (a .args .rule)) (a .args .src .now) pos (oneAt (a .args .starts .now) (read (a .args .limit)))) (a .args .from) (h .loop .i) (a .args .dst .now) _ _ (h .loop .inv .0) (h .loop .inv .3) (p .put-one .ensures),
     )
 
 same-length : tie.Need-same-length Inv-loop μ-loop
-same-length c = c .before .loop .inv .1
+same-length c = c .before .loop .inv .2
 
 returns : tie.Need-returns Inv-loop μ-loop
 returns c =
     let h = c .before in
     let a : tie.Start Inv-loop μ-loop = search in
-    put-ones-end (pos 0) (ruleI32 (a .args .rule)) (a .args .src .now) (a .args .starts .now) (a .args .limit) (h .loop .i) _ (a .args .dst .now) (h .loop .dst) (a .fits .limit) (omega arith) (h .loop .inv .2)
+    put-few-end (pos 0) (ruleI32 (a .args .rule)) (a .args .src .now) (a .args .starts .now) (a .args .limit) (a .args .from) (h .loop .i) (a .args .to) (a .args .dst .now) (h .loop .dst) (a .fits .limit) (omega (arith, h .loop .inv .1, c .loop-test .left)) (h .loop .inv .3)
 
 pub put-few-spec : {M : Type 1} → statement M
 put-few-spec =
