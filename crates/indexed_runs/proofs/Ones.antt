@@ -1,8 +1,8 @@
 -- Runs by clamped starts where every step is 1: a cell's place, and the parts of the slices that such a run is on. Assumes nothing.
 use mathlib.Core.Path.{_≡_, refl, sym, ap, ap₂, subst, _∙_}
 use mathlib.Core.List.{List, _++_}
-use Prim.Native.Nat.{ℕ, zero, suc, _+_, _-_, _*_, _/_, _%_, _<_, _≤_, _^_, min}
-use native.Mathlib.Nat.{div-add-mod, mul-suc, mul-zero}
+use Prim.Native.Nat.{ℕ, zero, suc, _+_, _-_, _*_, _<_, _≤_, _^_, min}
+use native.Mathlib.Nat.{mul-suc, mul-zero}
 use native.Mathlib.Omega.{arith}
 use lib.ListN.{length, getD, take, drop, length-drop, take-append-drop}
 use lib.Seq.{length-take-le, getD-take, getD-drop}
@@ -71,13 +71,15 @@ module _ {C : Type 0} (turn : ℕ → C → C) (a : ℕ) where
       let p : a + (b - a) ≡ b = omega arith in
       f ∙ ap (inOrder (λ k. turn (k + a)) (b - a)) e ∙ sym (split turn a (b - a) x) ∙ ap (λ (m : ℕ). inOrder turn m x) p
 
--- where cells are left of whole turns, there is a turn
-pub turn-left : (i width q n : ℕ) → i + width * q ≡ n → i < n → (p : ℕ) × (i + width + width * p ≡ n)
-turn-left i width zero n e h = absurd (omega (arith, mul-zero width))
-turn-left i width (suc p) n e h = (p, omega (arith, mul-suc width p))
+-- where turns are left there is one, and then one fewer
+pub turn-left : (i width q n : ℕ) → i + width * q ≡ n → 0 < q → i + width + width * (q - 1) ≡ n
+turn-left i width zero n e h = absurd (omega arith)
+turn-left i width (suc p) n e h =
+    let s : suc p - 1 ≡ p = omega arith in
+    ap (λ (m : ℕ). i + width + width * m) s ∙ omega (arith, mul-suc width p, e)
 
-pub turns-of : (n width : ℕ) → n % width + width * (n / width) ≡ n
-turns-of n width = omega (arith, div-add-mod n width)
+pub none-left : (i width q n : ℕ) → i + width * q ≡ n → q ≡ 0 → i ≡ n
+none-left i width q n e h = omega (arith, e, ap (λ (m : ℕ). width * m) h, mul-zero width)
 
 -- the end: the places by the parameters themselves
 module _ {A : Type 0} (z : A) (rule : A → A → A) (src : List A) (starts : List ℤ) (limit : ℤ) (i n : ℕ) (x y : List A) (fl : SFits w64 limit) (e : i ≡ n) where

@@ -1,6 +1,6 @@
 // Runs whose places on one side are given by starts, each clamped: windows of one cell, whose start changes with each cell.
 ghost use mathlib.Core.Path.{_≡_};
-ghost use Prim.Native.Nat.{_+_, _-_, _<_, _≤_, _^_};
+ghost use Prim.Native.Nat.{_+_, _*_, _-_, _<_, _≤_, _^_};
 ghost use lib.IntN.{pos, natAbs, _+ℤ_};
 ghost use lib.Signed.{_≤ℤ_};
 ghost use lib.ListN.{length};
@@ -503,19 +503,29 @@ fn put_few(
     }
 }
 
-// A cell for each start, by the rule: of the source in order; of the destination where the start says, clamped. So many to a turn,
+// A cell for each start, by the rule: of the source in order; of the destination where the start says, clamped. `width` to a turn,
 // behind those that are over.
-fn put_turns(rule: Rule, src: &[i32], starts: &[i64], dst: &mut [i32], limit: i64, width: usize)
-    requires { ⌜ (0 < width) × Ones (now starts) limit (length (now src)) (length (now dst)) ⌝ }
+fn put_turns(
+    rule: Rule,
+    src: &[i32],
+    starts: &[i64],
+    dst: &mut [i32],
+    limit: i64,
+    over: usize,
+    turns: usize,
+    width: usize,
+)
+    requires { ⌜ (over + width * turns ≡ length (now src)) × Ones (now starts) limit (length (now src)) (length (now dst)) ⌝ }
     ensures { λ _. ⌜ now (dst .exit) ≡ inOrder (cellAt (pos 0) (ruleI32 rule) (now (src .entry)) pos (oneAt (now (starts .entry)) limit)) (length (now (src .entry))) (now (dst .entry)) ⌝ }
 {
-    let n = src.len();
-    let mut i = n % width;
-    put_few(rule, src, starts, dst, limit, 0, i);
-    while i < n {
+    put_few(rule, src, starts, dst, limit, 0, over);
+    let mut i = over;
+    let mut left = turns;
+    while 0 < left {
         let e = i + width;
         put_few(rule, src, starts, dst, limit, i, e);
         i = e;
+        left -= 1;
     }
 }
 
@@ -525,18 +535,22 @@ pub fn put_ones(rule: Rule, src: &[i32], starts: &[i64], dst: &mut [i32], limit:
     requires { ⌜ Ones (now starts) limit (length (now src)) (length (now dst)) ⌝ }
     ensures { λ _. ⌜ now (dst .exit) ≡ inOrder (cellAt (pos 0) (ruleI32 rule) (now (src .entry)) pos (oneAt (now (starts .entry)) limit)) (length (now (src .entry))) (now (dst .entry)) ⌝ }
 {
+    let n = src.len();
+    let over = n % 4;
+    let fours = n / 4;
+    let twos = 2 * fours;
     match rule {
         Rule::Add => {
-            put_turns(Rule::Add, src, starts, dst, limit, 4);
+            put_turns(Rule::Add, src, starts, dst, limit, over, fours, 4);
         }
         Rule::Lowest => {
-            put_turns(Rule::Lowest, src, starts, dst, limit, 2);
+            put_turns(Rule::Lowest, src, starts, dst, limit, over, twos, 2);
         }
         Rule::Highest => {
-            put_turns(Rule::Highest, src, starts, dst, limit, 2);
+            put_turns(Rule::Highest, src, starts, dst, limit, over, twos, 2);
         }
         Rule::Replace => {
-            put_turns(Rule::Replace, src, starts, dst, limit, 2);
+            put_turns(Rule::Replace, src, starts, dst, limit, over, twos, 2);
         }
     }
 }

@@ -1,7 +1,7 @@
 // Written by tests/twins from crates/indexed_runs/src/lib.rt.
 // Runs whose places on one side are given by starts, each clamped: windows of one cell, whose start changes with each cell.
 ghost use mathlib.Core.Path.{_≡_};
-ghost use Prim.Native.Nat.{_+_, _-_, _<_, _≤_};
+ghost use Prim.Native.Nat.{_+_, _*_, _-_, _<_, _≤_};
 ghost use lib.Ieee.{nan};
 ghost use lib.IntN.{pos};
 ghost use lib.ListN.{length};
@@ -494,19 +494,29 @@ fn put_few(
     }
 }
 
-// A cell for each start, by the rule: of the source in order; of the destination where the start says, clamped. So many to a turn,
+// A cell for each start, by the rule: of the source in order; of the destination where the start says, clamped. `width` to a turn,
 // behind those that are over.
-fn put_turns(rule: RuleF64, src: &[f64], starts: &[i64], dst: &mut [f64], limit: i64, width: usize)
-    requires { ⌜ (0 < width) × Ones (now starts) limit (length (now src)) (length (now dst)) ⌝ }
+fn put_turns(
+    rule: RuleF64,
+    src: &[f64],
+    starts: &[i64],
+    dst: &mut [f64],
+    limit: i64,
+    over: usize,
+    turns: usize,
+    width: usize,
+)
+    requires { ⌜ (over + width * turns ≡ length (now src)) × Ones (now starts) limit (length (now src)) (length (now dst)) ⌝ }
     ensures { λ _. ⌜ now (dst .exit) ≡ inOrder (cellAt nan (ruleF64 rule) (now (src .entry)) pos (oneAt (now (starts .entry)) limit)) (length (now (src .entry))) (now (dst .entry)) ⌝ }
 {
-    let n = src.len();
-    let mut i = n % width;
-    put_few(rule, src, starts, dst, limit, 0, i);
-    while i < n {
+    put_few(rule, src, starts, dst, limit, 0, over);
+    let mut i = over;
+    let mut left = turns;
+    while 0 < left {
         let e = i + width;
         put_few(rule, src, starts, dst, limit, i, e);
         i = e;
+        left -= 1;
     }
 }
 
@@ -516,21 +526,34 @@ pub fn put_ones(rule: RuleF64, src: &[f64], starts: &[i64], dst: &mut [f64], lim
     requires { ⌜ Ones (now starts) limit (length (now src)) (length (now dst)) ⌝ }
     ensures { λ _. ⌜ now (dst .exit) ≡ inOrder (cellAt nan (ruleF64 rule) (now (src .entry)) pos (oneAt (now (starts .entry)) limit)) (length (now (src .entry))) (now (dst .entry)) ⌝ }
 {
+    let n = src.len();
+    let over = n % 4;
+    let fours = n / 4;
+    let twos = 2 * fours;
     match rule {
         RuleF64::Add => {
-            put_turns(RuleF64::Add, src, starts, dst, limit, 4);
+            put_turns(RuleF64::Add, src, starts, dst, limit, over, fours, 4);
         }
         RuleF64::Lowest => {
-            put_turns(RuleF64::Lowest, src, starts, dst, limit, 2);
+            put_turns(RuleF64::Lowest, src, starts, dst, limit, over, twos, 2);
         }
         RuleF64::Highest => {
-            put_turns(RuleF64::Highest, src, starts, dst, limit, 2);
+            put_turns(RuleF64::Highest, src, starts, dst, limit, over, twos, 2);
         }
         RuleF64::Replace => {
-            put_turns(RuleF64::Replace, src, starts, dst, limit, 2);
+            put_turns(RuleF64::Replace, src, starts, dst, limit, over, twos, 2);
         }
         RuleF64::Ceiling(ceiling) => {
-            put_turns(RuleF64::Ceiling(ceiling), src, starts, dst, limit, 2);
+            put_turns(
+                RuleF64::Ceiling(ceiling),
+                src,
+                starts,
+                dst,
+                limit,
+                over,
+                twos,
+                2,
+            );
         }
     }
 }

@@ -1,9 +1,8 @@
 -- Written by tests/twins from crates/indexed_runs/proofs/put_turns/Proof.antt.
 use mathlib.Core.Path.{_≡_, refl, _∙_}
 use mathlib.Core.List.{List}
-use Prim.Native.Nat.{ℕ, _+_, _*_, _-_, _/_, _≤_}
+use Prim.Native.Nat.{_+_, _*_, _-_, _≤_}
 use native.Mathlib.Omega.{arith}
-use native.Mathlib.Nat.{mod-le}
 use lib.Ieee.{Float, nan}
 use lib.ListN.{length}
 use lib.IntN.{pos}
@@ -15,38 +14,37 @@ use Rattle.runs.specs.Runs.{cellAt}
 use Rattle.runs.proofs.Turns.{none}
 use Rattle.runs.proofs.Place.{read}
 use Rattle.indexed_runs.specs.IndexedRuns.{oneAt}
-use Rattle.indexed_runs.proofs.Ones.{ones-left, turn-left, turns-of, turns-on, put-ones-end}
+use Rattle.indexed_runs.proofs.Ones.{ones-left, turn-left, none-left, turns-on, put-ones-end}
 use Rattle.indexed_runs_f64.proofs.put_turns.Statement.{statement}
 use Rattle.indexed_runs_f64.proofs.put_turns.Tie as tie
 
--- whole turns are left
 abbrev Inv-loop : tie.InvT-loop
-Inv-loop rule src starts dst₀ limit width n i₀ dst i =
-    ((q : ℕ) × (i + width * q ≡ n)) × (length dst ≡ length dst₀) × ((x : List Float) → dst₀ ≡ inOrder (cellAt nan (ruleF64 rule) src pos (oneAt starts (toZ w64 limit))) i₀ x → dst ≡ inOrder (cellAt nan (ruleF64 rule) src pos (oneAt starts (toZ w64 limit))) i x)
+Inv-loop rule src starts dst₀ limit over turns width i₀ left₀ dst i left =
+    (i + width * left ≡ length src) × (length dst ≡ length dst₀) × ((x : List Float) → dst₀ ≡ inOrder (cellAt nan (ruleF64 rule) src pos (oneAt starts (toZ w64 limit))) i₀ x → dst ≡ inOrder (cellAt nan (ruleF64 rule) src pos (oneAt starts (toZ w64 limit))) i x)
 
 abbrev μ-loop : tie.MeasureT-loop
-μ-loop rule src starts dst₀ limit width n i₀ dst i = n - i
+μ-loop rule src starts dst₀ limit over turns width i₀ left₀ dst i left = left
 
 module _ (d : tie.In-loop Inv-loop μ-loop) where
   abbrev start : tie.Start Inv-loop μ-loop
   start = search
 
-  -- the next turn
-  fits : d .before .loop .i + start .args .width ≤ length (start .args .src .now)
-  fits = let t = turn-left (d .before .loop .i) (start .args .width) (d .before .loop .inv .0 .0) (length (start .args .src .now)) (d .before .loop .inv .0 .1) (d .loop-test .taken) in omega (arith, t .1)
+  -- the turn, and those that are left after it
+  turn : d .before .loop .i + start .args .width + start .args .width * (d .before .loop .left - 1) ≡ length (start .args .src .now)
+  turn = turn-left (d .before .loop .i) (start .args .width) (d .before .loop .left) (length (start .args .src .now)) (d .before .loop .inv .0) (d .loop-test .taken)
 
-rem-i : tie.Need-rem-i Inv-loop μ-loop
-rem-i c = let a : tie.Start Inv-loop μ-loop = search in a .pre .0
+  fits : d .before .loop .i + start .args .width ≤ length (start .args .src .now)
+  fits = omega (arith, turn)
 
 put-few-requires : tie.Need-put-few-requires Inv-loop μ-loop
 put-few-requires c κs =
     let a : tie.Start Inv-loop μ-loop = search in
-    (omega arith, mod-le _ _, ones-left _ _ _ _ _ _ (a .fits .limit) (a .pre .1) refl refl)
+    (omega arith, omega (arith, a .pre .0), ones-left _ _ _ _ _ _ (a .fits .limit) (a .pre .1) refl refl)
 
 loop-holds : tie.Need-loop-holds Inv-loop μ-loop
 loop-holds c =
     let a : tie.Start Inv-loop μ-loop = search in
-    ((length (a .args .src .now) / a .args .width, turns-of (length (a .args .src .now)) (a .args .width)), refl, λ x e. e)
+    (a .pre .0, refl, λ x e. e)
 
 add-e : tie.Need-add-e Inv-loop μ-loop
 add-e c = omega (arith, fits c, start c .good .1 .0 .1)
@@ -58,8 +56,11 @@ put-few-requires-2 c κs =
     let f : tie.After-put-few Inv-loop μ-loop = search in
     (omega arith, fits d, ones-left _ _ _ _ _ _ (start d .fits .limit) (start d .pre .1) refl (h .loop .inv .1 ∙ f .put-few .kept .1 .1 .1 .0))
 
+sub-left : tie.Need-sub-left Inv-loop μ-loop
+sub-left c = let d : tie.In-loop Inv-loop μ-loop = search in omega (arith, d .loop-test .taken)
+
 loop-less : tie.Need-loop-less Inv-loop μ-loop
-loop-less c = let d : tie.In-loop Inv-loop μ-loop = search in omega (arith, d .loop-test .taken, start d .pre .0, fits d)
+loop-less c = let d : tie.In-loop Inv-loop μ-loop = search in omega (arith, d .loop-test .taken)
 
 loop-again : tie.Need-loop-again Inv-loop μ-loop
 loop-again c =
@@ -67,7 +68,7 @@ loop-again c =
     let d : tie.In-loop Inv-loop μ-loop = search in
     let h : tie.At-loop Inv-loop μ-loop = search in
     let a = start d in (
-      turn-left (h .loop .i) (a .args .width) (h .loop .inv .0 .0) (length (a .args .src .now)) (h .loop .inv .0 .1) (d .loop-test .taken),
+      turn d,
       p .put-few2 .kept .1 .1 .1 .0 ∙ h .loop .inv .1,
       λ x e. turns-on (cellAt nan (ruleF64 (a .args .rule)) (a .args .src .now) pos (oneAt (a .args .starts .now) (read (a .args .limit)))) (h .loop .i) (h .loop .i + a .args .width) x (h .loop .dst) _ (omega arith) (h .loop .inv .2 x e) (p .put-few2 .ensures),
     )
@@ -82,7 +83,7 @@ returns c =
     let f : tie.After-put-few Inv-loop μ-loop = search in
     let h = c .before in
     let a : tie.Start Inv-loop μ-loop = search in
-    put-ones-end nan (ruleF64 (a .args .rule)) (a .args .src .now) (a .args .starts .now) (a .args .limit) (h .loop .i) _ (a .args .dst .now) (h .loop .dst) (a .fits .limit) (omega (arith, h .loop .inv .0 .1, c .loop-test .left))
+    put-ones-end nan (ruleF64 (a .args .rule)) (a .args .src .now) (a .args .starts .now) (a .args .limit) (h .loop .i) _ (a .args .dst .now) (h .loop .dst) (a .fits .limit) (none-left (h .loop .i) (a .args .width) (h .loop .left) _ (h .loop .inv .0) (omega (arith, c .loop-test .left)))
     (h .loop .inv .2 (a .args .dst .now) (turns-on (cellAt nan (ruleF64 (a .args .rule)) (a .args .src .now) pos (oneAt (a .args .starts .now) (read (a .args .limit)))) 0 _ (a .args .dst .now) (a .args .dst .now) _ (omega arith) (none _ 0 (a .args .dst .now) refl) (f .put-few .ensures)))
 
 pub put-turns-spec : {M : Type 1} → statement M
@@ -91,11 +92,11 @@ put-turns-spec =
     (tie.spec
     Inv-loop
     μ-loop
-    rem-i
     put-few-requires
     loop-holds
     add-e
     put-few-requires-2
+    sub-left
     loop-less
     loop-again
     same-length
