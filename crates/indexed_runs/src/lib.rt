@@ -529,8 +529,7 @@ fn put_turns(
     }
 }
 
-// The same, by a loop of each rule's own: the rule is asked once, outside the loop. A sum is one instruction on the destination, and
-// goes four to a turn; the others go two to a turn.
+// The same, by a loop of each rule's own: the rule is asked once, outside the loop. Four go to a turn, and of a Replace two.
 pub fn put_ones(rule: Rule, src: &[i32], starts: &[i64], dst: &mut [i32], limit: i64)
     requires { ⌜ Ones (now starts) limit (length (now src)) (length (now dst)) ⌝ }
     ensures { λ _. ⌜ now (dst .exit) ≡ inOrder (cellAt (pos 0) (ruleI32 rule) (now (src .entry)) pos (oneAt (now (starts .entry)) limit)) (length (now (src .entry))) (now (dst .entry)) ⌝ }
@@ -544,10 +543,10 @@ pub fn put_ones(rule: Rule, src: &[i32], starts: &[i64], dst: &mut [i32], limit:
             put_turns(Rule::Add, src, starts, dst, limit, over, fours, 4);
         }
         Rule::Lowest => {
-            put_turns(Rule::Lowest, src, starts, dst, limit, over, twos, 2);
+            put_turns(Rule::Lowest, src, starts, dst, limit, over, fours, 4);
         }
         Rule::Highest => {
-            put_turns(Rule::Highest, src, starts, dst, limit, over, twos, 2);
+            put_turns(Rule::Highest, src, starts, dst, limit, over, fours, 4);
         }
         Rule::Replace => {
             put_turns(Rule::Replace, src, starts, dst, limit, over, twos, 2);

@@ -520,8 +520,7 @@ fn put_turns(
     }
 }
 
-// The same, by a loop of each rule's own: the rule is asked once, outside the loop. A sum is one instruction on the destination, and
-// goes four to a turn; the others go two to a turn.
+// The same, by a loop of each rule's own: the rule is asked once, outside the loop. Four go to a turn, and of a Replace two.
 pub fn put_ones(rule: RuleF64, src: &[f64], starts: &[i64], dst: &mut [f64], limit: i64)
     requires { ⌜ Ones (now starts) limit (length (now src)) (length (now dst)) ⌝ }
     ensures { λ _. ⌜ now (dst .exit) ≡ inOrder (cellAt nan (ruleF64 rule) (now (src .entry)) pos (oneAt (now (starts .entry)) limit)) (length (now (src .entry))) (now (dst .entry)) ⌝ }
@@ -535,10 +534,10 @@ pub fn put_ones(rule: RuleF64, src: &[f64], starts: &[i64], dst: &mut [f64], lim
             put_turns(RuleF64::Add, src, starts, dst, limit, over, fours, 4);
         }
         RuleF64::Lowest => {
-            put_turns(RuleF64::Lowest, src, starts, dst, limit, over, twos, 2);
+            put_turns(RuleF64::Lowest, src, starts, dst, limit, over, fours, 4);
         }
         RuleF64::Highest => {
-            put_turns(RuleF64::Highest, src, starts, dst, limit, over, twos, 2);
+            put_turns(RuleF64::Highest, src, starts, dst, limit, over, fours, 4);
         }
         RuleF64::Replace => {
             put_turns(RuleF64::Replace, src, starts, dst, limit, over, twos, 2);
@@ -551,8 +550,8 @@ pub fn put_ones(rule: RuleF64, src: &[f64], starts: &[i64], dst: &mut [f64], lim
                 dst,
                 limit,
                 over,
-                twos,
-                2,
+                fours,
+                4,
             );
         }
     }
