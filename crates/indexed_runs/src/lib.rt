@@ -219,8 +219,8 @@ pub fn take_run(
 }
 
 // n cells by the rule, where starts have components: the source's place from s by ss; the destination's is d, moved by the start read
-// at t by ts. That there are components is asked here, where it always is so, for the compiler's sake: otherwise it makes a second way
-// through the loop, for none, and then the loop is too long for one of each rule.
+// at t by ts. Whether there are any is asked for the compiler's sake: it would make a second loop for none, and the two are too long
+// for a loop of each rule.
 fn put_cells_by(
     rule: Rule,
     src: &[i32],
