@@ -5,6 +5,7 @@ pub mod Coordinates
 pub mod Start
 pub mod Gather
 pub mod Scatter
+pub mod Slid
 -- what it gives in the papers' own cases
 pub mod Answers
 -- what one element holds at the end, and demand 3; the same as loops
@@ -13,6 +14,9 @@ pub mod Sums
 pub mod Cells
 pub mod Demand3
 pub mod Loops
+-- counts
+pub mod Counting
+pub mod Moved
 -- the same of f64: exact sums, the sign of zero, NaN and infinities
 pub mod Whole
 pub mod Exact

@@ -3,12 +3,14 @@
 // of 9. Products, spans, the nested test and the reach over all axes are in `spans`. Every function answers for all its
 // arguments: of an array, the first `rank` entries count, or all where `rank` is larger.
 ghost use mathlib.Core.Path.{_≡_};
+ghost use mathlib.Core.Bool.{cond, _||_};
 ghost use mathlib.Core.List.{[]};
 ghost use Prim.Native.Nat.{_+_, _-_, _<_, min};
 ghost use lib.ListN.{take};
 ghost use lib.IntN.{pos, negℤ, _+ℤ_, _*ℤ_};
 ghost use Rattle.integer.specs.Defs.{checked, checkedU};
 ghost use Rattle.indexing.specs.Start.{clamp};
+ghost use Rattle.indexing.specs.Slid.{moved};
 ghost use Rattle.layout.specs.Answers.{numberOf, aOf, bOf, isDone};
 ghost use Rattle.layout.specs.Layouts.{rankLimit, padded, strideLength, rankAtMost, refusedLayout, layoutFrom};
 ghost use Rattle.layout.specs.Spans.{andThen, andThenU, spanOf, reachOf, widened, resetOf, offsetAdd, stridedOffset};
@@ -22,7 +24,7 @@ use integer::CheckedU;
 // The most axes that a layout can have.
 pub const RAW_FUSED_RANK_LIMIT: usize = 8;
 
-// What a call hands back: that it is done, or one of the refusals.
+// An answer: that it is done, or one of the refusals.
 pub enum Answer {
     Done,
     StrideLengthMismatch,
@@ -114,6 +116,22 @@ pub fn is_done(answer: Answer) -> bool
         Answer::BufferBounds(_, _) => false,
         Answer::JobBytes(_) => false,
         Answer::UnlistedRule(_) => false,
+    }
+}
+
+// What a gather or a scatter hands back: its answer, and the number that it reports, 0 where it is refused.
+pub struct CallAnswer {
+    pub answer: Answer,
+    pub reported: u64,
+}
+
+// What a call that is refused hands back.
+pub fn refused_call(answer: Answer) -> CallAnswer
+    ensures { λ r. ⌜ r ≡ record { answer = answer; reported = 0 } ⌝ }
+{
+    CallAnswer {
+        answer,
+        reported: 0,
     }
 }
 
@@ -401,22 +419,56 @@ pub fn validate_unique_axes(axes: &[u64], rank: u64) -> Answer
     answer
 }
 
-// The start of a window that is moved inside the extent.
-pub fn clamp_window_start(start: i64, extent: u64, window: u64) -> u64
-    ensures { λ r. ⌜ pos r ≡ clamp start extent window ⌝ }
+// A start that is moved inside the extent, and whether that is another start.
+pub struct ClampedStart {
+    pub start: u64,
+    pub moved: bool,
+}
+
+// The last start that leaves room for a window; 0 where none does.
+fn last_start(extent: u64, window: u64) -> u64
+    ensures { λ r. ⌜ r ≡ extent - window ⌝ }
+{
+    if extent < window { 0 } else { extent - window }
+}
+
+// The start of a window that is moved inside the extent, and whether it was moved.
+pub fn clamp_window_start(start: i64, extent: u64, window: u64) -> ClampedStart
+    ensures { λ r. ⌜ (pos (r .start) ≡ clamp start extent window) × (r .moved ≡ moved start extent window) ⌝ }
 {
     if start < 0 {
-        0
+        return ClampedStart {
+            start: 0,
+            moved: true,
+        };
+    }
+    let s = start as u64;
+    let last = last_start(extent, window);
+    if last < s {
+        ClampedStart {
+            start: last,
+            moved: true,
+        }
     } else {
-        let s = start as u64;
-        if extent < window {
-            0
-        } else if extent - window < s {
-            extent - window
-        } else {
-            s
+        ClampedStart {
+            start: s,
+            moved: false,
         }
     }
+}
+
+// Whether one of the two is so.
+pub fn either(a: bool, b: bool) -> bool
+    ensures { λ r. ⌜ r ≡ (a || b) ⌝ }
+{
+    if a { true } else { b }
+}
+
+// n where it counts, else 0.
+pub fn count_if(counts: bool, n: u64) -> u64
+    ensures { λ r. ⌜ r ≡ cond counts n 0 ⌝ }
+{
+    if counts { n } else { 0 }
 }
 
 // The magnitude of the stride times the last coordinate.
