@@ -10,30 +10,39 @@ use mathlib.Core.Bool.{_&&_}
 use Rattle.integer.specs.Z.{up}
 use Rattle.indexing.specs.Reach.{lowest, highest}
 use Rattle.layout.specs.declared.Answer.{Answer}
+use Rattle.layout.specs.declared.CallAnswer.{CallAnswer}
 use Rattle.layout.specs.declared.Reach.{Reach}
 use Rattle.layout.specs.declared.Reach.the-variants as R
 use Rattle.layout.specs.Answers.{isDone}
 use Rattle.layout.specs.Nested.{hasZero}
 use Rattle.layout.specs.Reach.{viewReach, bufferBounds}
-use Rattle.calls.specs.Calls.{planRefusal, Does, asIs}
+use Rattle.calls.specs.Calls.{planRefusal, answerWith, Does, asIs}
 
 pub plan-done : (t : Bool) → isDone (planRefusal t) ≡ true → t ≡ true
 plan-done true e = refl
 plan-done false e = absurd (true≢false (sym e))
 
 -- a refusal, and a call that is done
-pub refused : {A : Type 0} {x : Answer} {leaves before : List A} → isDone x ≡ false → Does asIs x leaves before before x
-refused {leaves = leaves} {before = before} e = record { answered = refl; left = sym (ap (λ (t : Bool). cond t leaves before) e) }
+pub refused : {A : Type 0} {x : Answer} {n : ℕ} {leaves before : List A} → isDone x ≡ false → {r : CallAnswer} → r ≡ record { answer = x; reported = 0 } → Does asIs x n leaves before before r
+refused {x = x} {n = n} {leaves = leaves} {before = before} e h =
+    record {
+      answered = h ∙ ap (λ (t : Bool). record { answer = x; reported = cond t n 0 }) (sym e);
+      left = sym (ap (λ (t : Bool). cond t leaves before) e);
+    }
 
-pub done : {A : Type 0} {x : Answer} {leaves before after : List A} → isDone x ≡ true → after ≡ leaves → Does asIs x leaves before after x
-done {leaves = leaves} {before = before} e h = record { answered = refl; left = h ∙ sym (ap (λ (t : Bool). cond t leaves before) e) }
+pub done : {A : Type 0} {x : Answer} {n m : ℕ} {leaves before after : List A} → isDone x ≡ true → after ≡ leaves → m ≡ n → Does asIs x n leaves before after (record { answer = x; reported = m })
+done {x = x} {n = n} {leaves = leaves} {before = before} e h k =
+    record {
+      answered = ap (λ (j : ℕ). record { answer = x; reported = j }) (k ∙ ap (λ (t : Bool). cond t n 0) (sym e));
+      left = h ∙ sym (ap (λ (t : Bool). cond t leaves before) e);
+    }
 
 -- by another name of the answer
-pub by-answer : {A B : Type 0} {says : Answer → B} {x y : Answer} {leaves before after : List A} {handed : B} → x ≡ y → Does says x leaves before after handed → Does says y leaves before after handed
-by-answer {says = says} {leaves = leaves} {before = before} e d = record { answered = d .answered ∙ ap says e; left = d .left ∙ ap (λ (z : Answer). cond (isDone z) leaves before) e }
+pub by-answer : {A B : Type 0} {says : CallAnswer → B} {x y : Answer} {n : ℕ} {leaves before after : List A} {handed : B} → x ≡ y → Does says x n leaves before after handed → Does says y n leaves before after handed
+by-answer {says = says} {n = n} {leaves = leaves} {before = before} e d = record { answered = d .answered ∙ ap (λ (z : Answer). says (answerWith z n)) e; left = d .left ∙ ap (λ (z : Answer). cond (isDone z) leaves before) e }
 
 -- and said in other words
-pub said : {A B : Type 0} (says : Answer → B) {x r : Answer} {leaves before after : List A} {handed : B} → handed ≡ says r → Does asIs x leaves before after r → Does says x leaves before after handed
+pub said : {A B : Type 0} (says : CallAnswer → B) {x : Answer} {r : CallAnswer} {n : ℕ} {leaves before after : List A} {handed : B} → handed ≡ says r → Does asIs x n leaves before after r → Does says x n leaves before after handed
 said says e d = record { answered = e ∙ ap says (d .answered); left = d .left }
 
 -- a view that passes the test of 9 is not outside its slice

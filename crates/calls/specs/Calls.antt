@@ -10,8 +10,10 @@ use Rattle.integer.specs.Defs.{eqZ}
 use Rattle.indexing.specs.Coordinates as C
 use Rattle.indexing.specs.Gather.{Gather, gathered}
 use Rattle.indexing.specs.Scatter.{Scatter, scattered}
+use Rattle.indexing.specs.Slid.{slidGather, slidScatter}
 use Rattle.layout.specs.declared.Answer.{Answer}
 use Rattle.layout.specs.declared.Answer.the-variants as A
+use Rattle.layout.specs.declared.CallAnswer.{CallAnswer}
 use Rattle.layout.specs.declared.Reach.{Reach}
 use Rattle.layout.specs.declared.View.{View}
 use Rattle.layout.specs.Answers.{isDone, orElse}
@@ -60,21 +62,25 @@ pub record ScatterCall (A : Type 0) : Type 0 where
   pub starts : List ℤ
   pub updates : List A
 
--- WHAT A CALL DOES, by its answer and by what it leaves where it is done: it hands back the answer, as `says` puts it, and the destination's slice
--- holds that; a refusal changes no element
-pub record Does {A B : Type 0} (says : Answer → B) (answer : Answer) (leaves before after : List A) (handed : B) : Type 0 where
-  pub answered : handed ≡ says answer
+-- the answer of a call, with the number that it reports where it is done; 0 where it is refused
+abbrev pub answerWith : Answer → ℕ → CallAnswer
+answerWith x number = record { answer = x; reported = cond (isDone x) number 0 }
+
+-- WHAT A CALL DOES, by its answer, by the number that it reports where it is done and by what it then leaves: it hands back the answer with the number, as
+-- `says` puts them, and the destination's slice holds that; a refusal changes no element
+pub record Does {A B : Type 0} (says : CallAnswer → B) (answer : Answer) (number : ℕ) (leaves before after : List A) (handed : B) : Type 0 where
+  pub answered : handed ≡ says (answerWith answer number)
   pub left : after ≡ cond (isDone answer) leaves before
 
--- the answer itself
-abbrev pub asIs : Answer → Answer
+-- the answer and the number themselves
+abbrev pub asIs : CallAnswer → CallAnswer
 asIs x = x
 
 -- what a gather does with an operand, and what a scatter does by a rule; z stands for an element outside a slice
-abbrev pub Gathers : {A B : Type 0} → A → (Answer → B) → GatherCall → List A → List A → List A → B → Type 0
+abbrev pub Gathers : {A B : Type 0} → A → (CallAnswer → B) → GatherCall → List A → List A → List A → B → Type 0
 Gathers z says c operand before after handed =
-    Does says (c .answer (length operand) (length before)) (gathered z (c .gather) (c .starts) operand before) before after handed
+    Does says (c .answer (length operand) (length before)) (slidGather (c .gather) (c .starts)) (gathered z (c .gather) (c .starts) operand before) before after handed
 
-abbrev pub Scatters : {A B : Type 0} → A → (A → A → A) → (Answer → B) → ScatterCall A → List A → List A → B → Type 0
+abbrev pub Scatters : {A B : Type 0} → A → (A → A → A) → (CallAnswer → B) → ScatterCall A → List A → List A → B → Type 0
 Scatters z rule says c before after handed =
-    Does says (c .answer (length before)) (scattered rule z (c .scatter) (c .starts) (c .updates) before) before after handed
+    Does says (c .answer (length before)) (slidScatter (c .scatter) (c .starts)) (scattered rule z (c .scatter) (c .starts) (c .updates) before) before after handed

@@ -1,10 +1,10 @@
 -- What a call of a gather has decided before it touches an element. Definitions only.
 use mathlib.Core.Path.{_≡_}
-use mathlib.Core.Bool.{true}
+use mathlib.Core.Bool.{true, cond}
 use Prim.Native.Nat.{ℕ}
-use lib.ListN.{length, replicate}
+use lib.ListN.{length, getD, replicate}
 use lib.IntN.{ℤ, pos, _*ℤ_}
-use Rattle.indexing.specs.Coordinates.{rank, pick, tabulate}
+use Rattle.indexing.specs.Coordinates.{rank, pick, tabulate, has}
 use Rattle.indexing.specs.Gather.{Gather}
 use Rattle.indexing.specs.Steps.{vectorStride, windowSteps, batchSteps}
 use Rattle.layout.specs.declared.Answer.{Answer}
@@ -24,6 +24,7 @@ gatherNumbers g =
     record {
       rank = rank (g .result);
       extents = padded rankLimit 1 (g .result .extents);
+      «batch_extents» = tabulate rankLimit (λ a. cond (has (g .spec .offset-dims) a) 1 (getD (padded rankLimit 1 (g .result .extents)) a 0));
       «window_steps» = padded rankLimit (pos 0) (windowSteps g);
       «batch_steps» = unlessNone (length (g .spec .start-index-map)) (replicate rankLimit (pos 0)) (padded rankLimit (pos 0) (batchSteps g));
       «dest_steps» = padded rankLimit (pos 0) (g .result .strides);

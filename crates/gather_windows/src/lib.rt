@@ -1,39 +1,31 @@
 // The cells of a gather: all cells of up to eight axes, where the source's place is moved by a start that is read at a place of its
-// own. What each leaves is the plain loop over every linear index, first axis fastest.
+// own. What each leaves is the plain loop over every linear index, first axis fastest; it hands back how many batch coordinates have a
+// start that the clamp moves.
 ghost use mathlib.Core.Path.{_≡_};
-ghost use mathlib.Core.Bool.{true};
 ghost use Prim.Native.Nat.{_≤_};
 ghost use lib.IntN.{pos};
-ghost use lib.ListN.{length};
+ghost use lib.ListN.{length, take};
 ghost use Rattle.indexing.specs.Loops.{inOrder};
+ghost use Rattle.indexing.specs.Slid.{slidOf};
+ghost use Rattle.indexing.specs.Coordinates.{product};
 ghost use Rattle.layout.specs.Layouts.{rankLimit};
 ghost use Rattle.rules.specs.Rules.{ruleI32};
 ghost use Rattle.runs.specs.Runs.{cellAt, line};
 ghost use Rattle.rules.specs.declared.Rule.the-variants as R;
-ghost use Rattle.indexed_runs.specs.IndexedRuns.{movedAt, Taking};
-ghost use Rattle.gather_windows.specs.Gathering.{gatheredBy, Gathering, StillAxis, StillAxes, GatherLevel};
+ghost use Rattle.indexed_runs.specs.IndexedRuns.{startsMoved, movedAt, Taking};
+ghost use Rattle.windows.specs.Windows.{placeAt};
+ghost use Rattle.gather_windows.specs.Gathering.{gatheredBy, Gathering, WindowAxes, Batched, GatherLevel};
 use layout::RAW_FUSED_RANK_LIMIT;
 use rules::Rule;
 
-// Whether an axis does not move the place that the start is read at.
-fn is_still(extent: u64, step: i64) -> bool
-    ensures { λ r. ⌜ (r ≡ true → StillAxis extent step) ⌝ }
-{
-    if extent == 1 { true } else { step == 0 }
-}
-
-// How many of the first axes do not move the place that the start is read at: they have one place, or a step of 0.
-pub fn still_axes(
-    extents: &[u64; RAW_FUSED_RANK_LIMIT],
-    steps: &[i64; RAW_FUSED_RANK_LIMIT],
-    rank: usize,
-) -> usize
+// How many of the first axes have one batch coordinate: a window goes along them, or they have one place.
+pub fn window_axes(batches: &[u64; RAW_FUSED_RANK_LIMIT], rank: usize) -> usize
     requires { ⌜ rank ≤ rankLimit ⌝ }
-    ensures { λ r. ⌜ StillAxes r (now (extents .entry)) (now (steps .entry)) rank ⌝ }
+    ensures { λ r. ⌜ WindowAxes r (now (batches .entry)) rank ⌝ }
 {
     let mut i: usize = 0;
     while i < rank {
-        if !is_still(extents[i], steps[i]) {
+        if batches[i] != 1 {
             return i;
         }
         i += 1;
@@ -57,18 +49,29 @@ pub fn gather_run(
     offsets: &[i64; RAW_FUSED_RANK_LIMIT],
     strides: &[i64; RAW_FUSED_RANK_LIMIT],
     limits: &[u64; RAW_FUSED_RANK_LIMIT],
-)
+) -> u64
     requires { ⌜ Taking (now starts) (now offsets) (now strides) (now limits) count s t d ss ts ds n (length (now src)) (length (now dst)) ⌝ }
-    ensures { λ _. ⌜ now (dst .exit) ≡ inOrder (cellAt (pos 0) (ruleI32 R.Replace) (now (src .entry)) (movedAt (now (starts .entry)) (now (offsets .entry)) (now (strides .entry)) (now (limits .entry)) count (line s ss) (line t ts)) (line d ds)) n (now (dst .entry)) ⌝ }
+    ensures { λ r. ⌜ (now (dst .exit) ≡ inOrder (cellAt (pos 0) (ruleI32 R.Replace) (now (src .entry)) (movedAt (now (starts .entry)) (now (offsets .entry)) (now (strides .entry)) (now (limits .entry)) count (line s ss) (line t ts)) (line d ds)) n (now (dst .entry))) × (r ≡ startsMoved (now (starts .entry)) (now (offsets .entry)) (now (limits .entry)) count n (line t ts)) ⌝ }
 {
     if n == 0 {
-        return;
+        return 0;
     }
     if count == 1 {
         if ss == 0 {
             let at = t + offsets[0];
-            indexed_runs::take_run(src, starts, dst, n, at, ts, s, strides[0], limits[0], d, ds);
-            return;
+            return indexed_runs::take_run(
+                src,
+                starts,
+                dst,
+                n,
+                at,
+                ts,
+                s,
+                strides[0],
+                limits[0],
+                d,
+                ds,
+            );
         }
     }
     indexed_runs::take_cells(
@@ -86,16 +89,18 @@ pub fn gather_run(
         offsets,
         strides,
         limits,
-    );
+    )
 }
 
-// The cells of the first `rank` axes. There are some, the axes before `low` have one place each, and those before `wide` move no
-// start: where only such axes are left, the start is read once, and what is left is a window.
+// The cells of the first `rank` axes. There are some, the axes before `low` have one place each, and those before `wide` one batch
+// coordinate: where only such axes are left, the start is read once, and what is left is a window. Each batch coordinate is counted
+// once: along a window axis, which has one, what is read again is not counted again.
 pub fn gather_axes(
     src: &[i32],
     starts: &[i64],
     dst: &mut [i32],
     extents: &[u64; RAW_FUSED_RANK_LIMIT],
+    batches: &[u64; RAW_FUSED_RANK_LIMIT],
     ss: &[i64; RAW_FUSED_RANK_LIMIT],
     ts: &[i64; RAW_FUSED_RANK_LIMIT],
     ds: &[i64; RAW_FUSED_RANK_LIMIT],
@@ -109,22 +114,25 @@ pub fn gather_axes(
     s: i64,
     t: i64,
     d: i64,
-)
-    requires { ⌜ GatherLevel (now starts) (now offsets) (now strides) (now limits) count s t d (now extents) (now ss) (now ts) (now ds) low wide rank (length (now src)) (length (now dst)) ⌝ }
-    ensures { λ _. ⌜ now (dst .exit) ≡ gatheredBy (pos 0) (ruleI32 R.Replace) (now (src .entry)) (now (starts .entry)) (now (offsets .entry)) (now (strides .entry)) (now (limits .entry)) count s t d (now (extents .entry)) (now (ss .entry)) (now (ts .entry)) (now (ds .entry)) rank (now (dst .entry)) ⌝ }
+) -> u64
+    requires { ⌜ GatherLevel (now starts) (now offsets) (now strides) (now limits) count s t d (now extents) (now batches) (now ss) (now ts) (now ds) low wide rank (length (now src)) (length (now dst)) ⌝ }
+    ensures { λ r. ⌜ (now (dst .exit) ≡ gatheredBy (pos 0) (ruleI32 R.Replace) (now (src .entry)) (now (starts .entry)) (now (offsets .entry)) (now (strides .entry)) (now (limits .entry)) count s t d (now (extents .entry)) (now (ss .entry)) (now (ts .entry)) (now (ds .entry)) rank (now (dst .entry))) × (r ≡ startsMoved (now (starts .entry)) (now (offsets .entry)) (now (limits .entry)) count (product (take rank (now (batches .entry)))) (placeAt t (now (batches .entry)) (now (ts .entry)) rank)) ⌝ }
 {
     if rank <= wide {
-        let a = indexed_runs::started(starts, s, t, count, offsets, strides, limits);
+        let m = indexed_runs::started(starts, s, t, count, offsets, strides, limits);
+        let a = m.at;
+        let moved = m.moved;
         windows::axes(Rule::Replace, src, dst, extents, ss, ds, low, rank, a, d);
-        return;
+        return layout::count_if(moved, 1);
     }
     let top = rank - 1;
     let n = extents[top];
+    let counted = batches[top];
     let x = ss[top];
     let y = ts[top];
     let z = ds[top];
     if top == low {
-        gather_run(
+        return gather_run(
             src,
             starts,
             dst,
@@ -140,19 +148,20 @@ pub fn gather_axes(
             strides,
             limits,
         );
-        return;
     }
+    let mut slid: u64 = 0;
     let mut j: u64 = 0;
     while j < n {
         let k = j as i64;
         let p = s + x * k;
         let q = t + y * k;
         let r = d + z * k;
-        gather_axes(
+        let below = gather_axes(
             src,
             starts,
             dst,
             extents,
+            batches,
             ss,
             ts,
             ds,
@@ -167,8 +176,11 @@ pub fn gather_axes(
             q,
             r,
         );
+        let more = layout::count_if(j < counted, below);
+        slid += more;
         j += 1;
     }
+    slid
 }
 
 // The cells of the first `rank` axes, of which there may be none.
@@ -177,6 +189,7 @@ pub fn gather_window(
     starts: &[i64],
     dst: &mut [i32],
     extents: &[u64; RAW_FUSED_RANK_LIMIT],
+    batches: &[u64; RAW_FUSED_RANK_LIMIT],
     ss: &[i64; RAW_FUSED_RANK_LIMIT],
     ts: &[i64; RAW_FUSED_RANK_LIMIT],
     ds: &[i64; RAW_FUSED_RANK_LIMIT],
@@ -188,12 +201,12 @@ pub fn gather_window(
     s: i64,
     t: i64,
     d: i64,
-)
-    requires { ⌜ Gathering (now starts) (now offsets) (now strides) (now limits) count s t d (now extents) (now ss) (now ts) (now ds) rank (length (now src)) (length (now dst)) ⌝ }
-    ensures { λ _. ⌜ now (dst .exit) ≡ gatheredBy (pos 0) (ruleI32 R.Replace) (now (src .entry)) (now (starts .entry)) (now (offsets .entry)) (now (strides .entry)) (now (limits .entry)) count s t d (now (extents .entry)) (now (ss .entry)) (now (ts .entry)) (now (ds .entry)) rank (now (dst .entry)) ⌝ }
+) -> u64
+    requires { ⌜ Gathering (now starts) (now offsets) (now strides) (now limits) count s t d (now extents) (now ss) (now ts) (now ds) rank (length (now src)) (length (now dst)) × Batched (now extents) (now batches) (now ts) rank ⌝ }
+    ensures { λ r. ⌜ (now (dst .exit) ≡ gatheredBy (pos 0) (ruleI32 R.Replace) (now (src .entry)) (now (starts .entry)) (now (offsets .entry)) (now (strides .entry)) (now (limits .entry)) count s t d (now (extents .entry)) (now (ss .entry)) (now (ts .entry)) (now (ds .entry)) rank (now (dst .entry))) × (r ≡ slidOf (product (take rank (now (extents .entry)))) (startsMoved (now (starts .entry)) (now (offsets .entry)) (now (limits .entry)) count (product (take rank (now (batches .entry)))) (placeAt t (now (batches .entry)) (now (ts .entry)) rank))) ⌝ }
 {
     if rank == 0 {
-        gather_run(
+        return gather_run(
             src,
             starts,
             dst,
@@ -209,18 +222,18 @@ pub fn gather_window(
             strides,
             limits,
         );
-        return;
     }
     if spans::has_zero(*extents, rank) {
-        return;
+        return 0;
     }
     let low = windows::run_axis(extents, rank);
-    let wide = still_axes(extents, ts, rank);
+    let wide = window_axes(batches, rank);
     gather_axes(
         src,
         starts,
         dst,
         extents,
+        batches,
         ss,
         ts,
         ds,
@@ -234,5 +247,5 @@ pub fn gather_window(
         s,
         t,
         d,
-    );
+    )
 }

@@ -3,3 +3,4 @@ pub mod Starts
 pub mod Cells
 pub mod Puts
 pub mod Ones
+pub mod Counts

@@ -1,5 +1,6 @@
 -- Runs by clamped starts where every step is 1: a cell's place, and the parts of the slices that such a run is on. Assumes nothing.
 use mathlib.Core.Path.{_≡_, refl, sym, ap, ap₂, subst, _∙_}
+use mathlib.Core.Bool.{Bool}
 use mathlib.Core.List.{List, _++_}
 use Prim.Native.Nat.{ℕ, zero, suc, _+_, _-_, _*_, _<_, _≤_, _^_, min}
 use native.Mathlib.Nat.{mul-suc, mul-zero}
@@ -16,12 +17,14 @@ use Rattle.integer.specs.Machine.{same-bits}
 use Rattle.indexing.specs.Coordinates.{InSlice, elementAt, store}
 use Rattle.indexing.specs.Start.{clamp}
 use Rattle.indexing.specs.Inside.{clamp-is}
+use Rattle.indexing.specs.Slid.{moved, howMany}
+use Rattle.indexing.specs.Counting.{many-same}
 use Rattle.indexing.specs.Loops.{inOrder}
 use Rattle.indexing.specs.Parts.{element-mid, store-mid}
 use Rattle.runs.specs.Runs.{cellAt, line}
 use Rattle.runs.proofs.Turns.{more, split, same-turns, same-places, length-cells}
 use Rattle.runs.proofs.Place.{read, Index, index}
-use Rattle.indexed_runs.specs.IndexedRuns.{clampedAt, Clamped, oneAt, Ones}
+use Rattle.indexed_runs.specs.IndexedRuns.{clampedAt, movesAt, Clamped, oneAt, Ones}
 
 -- ---- the clamp
 pub clamped-by : (r x limit : ℤ) → pos 0 ≤ℤ limit → up r ≡ min (up x) (up limit) → dn r ≡ 0 → r ≡ clamp x (natAbs limit) 0
@@ -43,20 +46,15 @@ module _ (starts : List ℤ) (limit : ℤ) (n cn : ℕ) (w : Ones starts limit n
   pub ones-is : pos (natAbs (read y)) ≡ oneAt starts limit i
   ones-is = ones-index .is ∙ start-is
 
+-- whether start i is moved
+pub ones-moved : (starts : List ℤ) (limit : ℤ) (i : ℕ) → SFits w64 limit → SFits w64 (getD starts i (pos 0)) → (b : Bool) → b ≡ moved (read (getD starts i (pos 0))) (natAbs (read limit)) 0 → b ≡ movesAt starts pos (natAbs limit) i
+ones-moved starts limit i fl fx b e = e ∙ ap₂ (λ (u v : ℤ). moved u (natAbs v) 0) (back fx) (back fl)
+
 -- ---- turns
 module _ {A : Type 0} (z : A) (rule : A → A → A) (src : List A) where
   -- a turn as the machine makes it: v is stored at index b
   pub one-turn : (f g : ℕ → ℤ) (y : List A) (i a b : ℕ) (v : A) → pos a ≡ f i → pos b ≡ g i → v ≡ rule (getD y b z) (getD src a z) → store y (pos b) v ≡ cellAt z rule src f g i y
   one-turn f g y i a b v p q w = ap (store y (pos b)) w ∙ ap₂ (λ (s d : ℤ). store y d (rule (elementAt z y d) (elementAt z src s))) p q
-
-pub four-turns : {C : Type 0} (turn : ℕ → C → C) (i : ℕ) (x y a b c d : C) → y ≡ inOrder turn i x → a ≡ turn i y → b ≡ turn (i + 1) a → c ≡ turn (i + 2) b → d ≡ turn (i + 3) c → d ≡ inOrder turn (i + 4) x
-four-turns turn i x y a b c d e ea eb ec ed =
-    let two : i + 1 + 1 ≡ i + 2 = omega arith in
-    let three : i + 2 + 1 ≡ i + 3 = omega arith in
-    let four : i + 3 + 1 ≡ i + 4 = omega arith in
-    let q : b ≡ inOrder turn (i + 2) x = subst (λ (m : ℕ). b ≡ inOrder turn m x) two (more turn (i + 1) x a b (more turn i x y a e ea) eb) in
-    let r : c ≡ inOrder turn (i + 3) x = subst (λ (m : ℕ). c ≡ inOrder turn m x) three (more turn (i + 2) x b c q ec) in
-    subst (λ (m : ℕ). d ≡ inOrder turn m x) four (more turn (i + 3) x c d r ed)
 
 -- turns from a on: one more, and all that are made so
 module _ {C : Type 0} (turn : ℕ → C → C) (a : ℕ) where
@@ -89,6 +87,10 @@ module _ {A : Type 0} (z : A) (rule : A → A → A) (src : List A) (starts : Li
   pub put-ones-end : y ≡ inOrder (cellAt z rule src pos (oneAt starts (read limit))) i x → y ≡ inOrder (cellAt z rule src pos (oneAt starts limit)) n x
   put-ones-end h = h ∙ ap₂ (λ (v : ℤ) (m : ℕ). inOrder (cellAt z rule src pos (oneAt starts v)) m x) (back fl) e
 
+pub take-few-end : {A : Type 0} (z : A) (rule : A → A → A) (src : List A) (starts : List ℤ) (limit : ℤ) (a i n : ℕ) (x y : List A) → SFits w64 limit → i ≡ n
+    → y ≡ inOrder (λ k. cellAt z rule src (oneAt starts (read limit)) pos (k + a)) (i - a) x → y ≡ inOrder (λ k. cellAt z rule src (oneAt starts limit) pos (k + a)) (n - a) x
+take-few-end z rule src starts limit a i n x y fl e h = h ∙ ap₂ (λ (v : ℤ) (m : ℕ). inOrder (λ k. cellAt z rule src (oneAt starts v) pos (k + a)) (m - a) x) (back fl) e
+
 pub put-few-end : {A : Type 0} (z : A) (rule : A → A → A) (src : List A) (starts : List ℤ) (limit : ℤ) (a i n : ℕ) (x y : List A) → SFits w64 limit → i ≡ n
     → y ≡ inOrder (λ k. cellAt z rule src pos (oneAt starts (read limit)) (k + a)) (i - a) x → y ≡ inOrder (λ k. cellAt z rule src pos (oneAt starts limit) (k + a)) (n - a) x
 put-few-end z rule src starts limit a i n x y fl e h = h ∙ ap₂ (λ (v : ℤ) (m : ℕ). inOrder (λ k. cellAt z rule src pos (oneAt starts v) (k + a)) (m - a) x) (back fl) e
@@ -117,6 +119,17 @@ module _ (starts : List ℤ) (t base other : ℤ) (limit n cn pn : ℕ) (w : Cla
       ∙ ap (λ (u : ℤ). base +ℤ u) (sym (one-times (clamp (elementAt (pos 0) (take p (drop a starts)) (pos k)) limit 0)))
       ∙ ap (λ (u : ℤ). base +ℤ pos 1 *ℤ clamp u limit 0) (part-element (pos 0) starts a p k (omega arith) ∙ ap (elementAt (pos 0) starts) (along (pos a) k))
       ∙ ap (λ (u : ℤ). clampedAt starts (line u (pos 1)) base (pos 1) limit k) ea
+
+  -- whether a start of the part is moved, and how many are
+  part-moved : (k : ℕ) → k < n → movesAt (take p (drop a starts)) pos (natAbs (toZ w64 limit)) k ≡ movesAt starts (line t (pos 1)) limit k
+  part-moved k h =
+      ap₂ (λ (u : ℤ) (v : ℤ). moved u (natAbs v) 0) (part-element (pos 0) starts a p k (omega arith) ∙ ap (elementAt (pos 0) starts) (along (pos a) k ∙ ap (λ (v : ℤ). line v (pos 1) k) ea)) limit-is
+
+  pub parts-count : {A : Type 0} (xs : List A) (b q r : ℕ) → q ≡ n → b + n ≤ length xs → r ≡ howMany (length (take q (drop b xs))) (movesAt (take p (drop a starts)) pos (natAbs (toZ w64 limit))) → r ≡ howMany n (movesAt starts (line t (pos 1)) limit)
+  parts-count xs b q r eq s e =
+      let lq : length (take q (drop b xs)) ≡ n = length-take-le q (drop b xs) (omega (arith, length-drop b xs)) ∙ eq in
+      e ∙ ap (λ (m : ℕ). howMany m (movesAt (take p (drop a starts)) pos (natAbs (toZ w64 limit)))) lq
+      ∙ many-same n (movesAt (take p (drop a starts)) pos (natAbs (toZ w64 limit))) (movesAt starts (line t (pos 1)) limit) part-moved
 
   -- a place is not below 0, and inside the part
   place-is : (k : ℕ) → place k ≡ pos (min (up (elementAt (pos 0) (take p (drop a starts)) (pos k))) (natAbs (toZ w64 limit) - 0))
@@ -214,6 +227,9 @@ module _ (ts stride by : ℤ) (ft : SFits w64 ts) (fs : SFits w64 stride) (fy : 
 
   plain : (other : ℤ) (k : ℕ) → SFits w64 other → line (read other) (pos 1) k ≡ line other by k
   plain other k f = ap₂ (λ (u v : ℤ). line u v k) (back f) (sym (one by fy ey))
+
+  pub row-count : (starts : List ℤ) (t : ℤ) (limit n c : ℕ) → SFits w64 t → c ≡ howMany n (movesAt starts (line (read t) (pos 1)) limit) → c ≡ howMany n (movesAt starts (line t ts) limit)
+  row-count starts t limit n c f h = h ∙ ap₂ (λ (u v : ℤ). howMany n (movesAt starts (line u v) limit)) (back f) (sym (one ts ft et))
 
   module _ {A : Type 0} (z : A) (rule : A → A → A) (src : List A) (starts : List ℤ) (t base other : ℤ) (limit n : ℕ) (x y : List A) (f : SFits w64 t) (g : SFits w64 base) (k : SFits w64 other) where
     pub take-row-end : y ≡ inOrder (cellAt z rule src (clampedAt starts (line (read t) (pos 1)) (read base) (pos 1) limit) (line (read other) (pos 1))) n x

@@ -1,5 +1,6 @@
 -- The components of a start as the machine adds them. Assumes nothing.
 use mathlib.Core.Path.{_≡_, sym, ap, ap₂, subst, _∙_}
+use mathlib.Core.Bool.{Bool}
 use mathlib.Core.List.{List}
 use Prim.Native.Nat.{ℕ, _+_, _-_, _<_, _≤_, _^_}
 use native.Mathlib.Numerals.{add-one}
@@ -11,9 +12,10 @@ use mir.Val.{SFits, toZ}
 use Rattle.integer.specs.Z.{back, zfacts, <-from, <-to}
 use Rattle.indexing.specs.Coordinates.{InSlice, elementAt}
 use Rattle.indexing.specs.Start.{clamp}
+use Rattle.indexing.specs.Slid.{moved}
 use Rattle.indexing.specs.Axes.{sumOf}
 use Rattle.runs.proofs.Place.{read, in-fits, gap-fits, Index, index}
-use Rattle.indexed_runs.specs.IndexedRuns.{componentAt, startAt, Starting}
+use Rattle.indexed_runs.specs.IndexedRuns.{componentAt, startAt, componentMoved, Starting}
 use Rattle.indexed_runs.proofs.Places.{clamped-fits}
 
 -- inside a slice is inside a longer one
@@ -39,6 +41,12 @@ module _ (starts offsets strides : List ℤ) (limits : List ℕ) where
 
     pub component-fits : length starts < 2 ^ 63 → SFits w64 (read t +ℤ read (getD offsets c (pos 0)))
     component-fits q = in-fits _ (length starts) (subst (InSlice (length starts)) (sym (ap₂ _+ℤ_ (back ft) (back fo))) (w .reads c h)) q
+
+    -- whether it is moved, where i is its index
+    pub component-moved : (i : ℕ) → pos i ≡ read t +ℤ read (getD offsets c (pos 0)) → SFits w64 (getD starts i (pos 0)) → (b : Bool) → b ≡ moved (read (getD starts i (pos 0))) (getD limits c 0) 0 → b ≡ componentMoved starts offsets limits (read t) c
+    component-moved i ei fx b e =
+        e ∙ ap (λ (u : ℤ). moved u (getD limits c 0) 0) (back fx)
+        ∙ ap (λ (u : ℤ). moved (elementAt (pos 0) starts u) (getD limits c 0) 0) (ei ∙ ap (λ (v : ℤ). read t +ℤ v) (back fo))
 
     -- what is added, where a is the place so far, i the index of the component, x what is read there and y that clamped
     module _ (fk : SFits w64 (getD strides c (pos 0))) (a : ℤ) (ea : a ≡ read s +ℤ startAt starts offsets strides limits (read t) c) (i : ℕ) (ei : pos i ≡ read t +ℤ read (getD offsets c (pos 0)))

@@ -1,5 +1,6 @@
 -- Places by clamped starts. Definitions only.
 use mathlib.Core.Path.{_≡_}
+use mathlib.Core.Bool.{Bool}
 use mathlib.Core.List.{List}
 use Prim.Native.Nat.{ℕ, _-_, _<_, _≤_, _^_}
 use lib.ListN.{length, getD}
@@ -7,6 +8,7 @@ use lib.IntN.{ℤ, pos, natAbs, _+ℤ_, _*ℤ_}
 use lib.Signed.{_≤ℤ_}
 use Rattle.indexing.specs.Coordinates.{InSlice, elementAt}
 use Rattle.indexing.specs.Start.{clamp}
+use Rattle.indexing.specs.Slid.{moved, oneOf, howMany}
 use Rattle.indexing.specs.Axes.{sumOf}
 use Rattle.layout.specs.Layouts.{rankLimit}
 use Rattle.runs.specs.Runs.{line, Line}
@@ -18,6 +20,17 @@ componentAt starts offsets strides limits t j = getD strides j (pos 0) *ℤ clam
 -- and what the first c components add
 abbrev pub startAt : List ℤ → List ℤ → List ℤ → List ℕ → ℤ → ℕ → ℤ
 startAt starts offsets strides limits t c = sumOf c (componentAt starts offsets strides limits t)
+
+-- whether the clamp moves component j of the start read at t, and whether it moves one of the first c
+abbrev pub componentMoved : List ℤ → List ℤ → List ℕ → ℤ → ℕ → Bool
+componentMoved starts offsets limits t j = moved (elementAt (pos 0) starts (t +ℤ getD offsets j (pos 0))) (getD limits j 0) 0
+
+abbrev pub startMoved : List ℤ → List ℤ → List ℕ → ℤ → ℕ → Bool
+startMoved starts offsets limits t c = oneOf c (componentMoved starts offsets limits t)
+
+-- of the starts read at n places, how many have a component that the clamp moves
+abbrev pub startsMoved : List ℤ → List ℤ → List ℕ → ℕ → ℕ → (ℕ → ℤ) → ℕ
+startsMoved starts offsets limits count n at = howMany n (λ k. startMoved starts offsets limits (at k) count)
 
 -- the components of the start at t lie inside their slice, and s moved by the first of them, whatever their number, inside one of m elements
 pub record Starting (starts offsets strides : List ℤ) (limits : List ℕ) (s t : ℤ) (count m : ℕ) : Type 0 where
@@ -46,6 +59,10 @@ pub record Putting (starts offsets strides : List ℤ) (limits : List ℕ) (coun
 -- the place of cell k where there is one component: the start at `at k`, clamped, times the stride
 abbrev pub clampedAt : List ℤ → (ℕ → ℤ) → ℤ → ℤ → ℕ → ℕ → ℤ
 clampedAt starts at base stride limit k = base +ℤ stride *ℤ clamp (elementAt (pos 0) starts (at k)) limit 0
+
+-- and whether the clamp moves that start
+abbrev pub movesAt : List ℤ → (ℕ → ℤ) → ℕ → ℕ → Bool
+movesAt starts at limit k = moved (elementAt (pos 0) starts (at k)) limit 0
 
 -- inside their slices lie the n starts, the base and the places that the starts give, and the n places of the other side
 pub record Clamped (starts : List ℤ) (t ts base stride other step : ℤ) (limit n cn pn : ℕ) : Type 0 where

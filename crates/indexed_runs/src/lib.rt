@@ -1,20 +1,30 @@
-// Runs whose places on one side are given by starts, each clamped: windows of one cell, whose start changes with each cell.
+// Runs whose places on one side are given by starts, each clamped: windows of one cell, whose start changes with each cell. Each hands
+// back how many of its starts the clamp moved.
 ghost use mathlib.Core.Path.{_≡_};
+ghost use mathlib.Core.Bool.{cond, not};
 ghost use Prim.Native.Nat.{_+_, _*_, _-_, _<_, _≤_, _^_};
 ghost use lib.IntN.{pos, natAbs, _+ℤ_};
 ghost use lib.Signed.{_≤ℤ_};
 ghost use lib.ListN.{length};
 ghost use Rattle.integer.specs.Z.{up};
+ghost use Rattle.integer.specs.Defs.{minℤ, eqZ};
 ghost use Rattle.indexing.specs.Start.{clamp};
+ghost use Rattle.indexing.specs.Slid.{moved, howMany};
 ghost use Rattle.indexing.specs.Loops.{inOrder};
 ghost use Rattle.rules.specs.Rules.{ruleI32};
 ghost use Rattle.runs.specs.Runs.{cellAt, line};
 ghost use Rattle.rules.specs.declared.Rule.the-variants as R;
-ghost use Rattle.indexed_runs.specs.IndexedRuns.{startAt, Starting, movedAt, Taking, Putting, clampedAt, Clamped, oneAt, Ones};
+ghost use Rattle.indexed_runs.specs.IndexedRuns.{startAt, startMoved, startsMoved, movesAt, Starting, movedAt, Taking, Putting, clampedAt, Clamped, oneAt, Ones};
 use layout::RAW_FUSED_RANK_LIMIT;
 use rules::Rule;
 
-// s, moved by the components of the start that is read at t: each is clamped, and times its stride.
+// A place, and whether a start on the way to it was moved.
+pub struct StartPlace {
+    pub at: i64,
+    pub moved: bool,
+}
+
+// s, moved by the components of the start that is read at t: each is clamped, and times its stride; and whether the clamp moved one.
 pub fn started(
     starts: &[i64],
     s: i64,
@@ -23,21 +33,24 @@ pub fn started(
     offsets: &[i64; RAW_FUSED_RANK_LIMIT],
     strides: &[i64; RAW_FUSED_RANK_LIMIT],
     limits: &[u64; RAW_FUSED_RANK_LIMIT],
-) -> i64
+) -> StartPlace
     requires { ⌜ Starting (now starts) (now offsets) (now strides) (now limits) s t count (2 ^ 63 - 1) ⌝ }
-    ensures { λ r. ⌜ r ≡ s +ℤ startAt (now (starts .entry)) (now (offsets .entry)) (now (strides .entry)) (now (limits .entry)) t count ⌝ }
+    ensures { λ r. ⌜ (r .at ≡ s +ℤ startAt (now (starts .entry)) (now (offsets .entry)) (now (strides .entry)) (now (limits .entry)) t count) × (r .moved ≡ startMoved (now (starts .entry)) (now (offsets .entry)) (now (limits .entry)) t count) ⌝ }
 {
     let mut at: i64 = s;
+    let mut moved = false;
     let mut c: usize = 0;
     while c < count {
         let p = (t + offsets[c]) as usize;
         let x = starts[p];
         let y = layout::clamp_window_start(x, limits[c], 0);
-        let k = y as i64;
+        let k = y.start as i64;
+        let m = y.moved;
         at = at + strides[c] * k;
+        moved = layout::either(moved, m);
         c += 1;
     }
-    at
+    StartPlace { at, moved }
 }
 
 // n cells: the source's place from s by ss, moved by the start read at t by ts; the destination's from d by ds.
@@ -56,21 +69,27 @@ pub fn take_cells(
     offsets: &[i64; RAW_FUSED_RANK_LIMIT],
     strides: &[i64; RAW_FUSED_RANK_LIMIT],
     limits: &[u64; RAW_FUSED_RANK_LIMIT],
-)
+) -> u64
     requires { ⌜ Taking (now starts) (now offsets) (now strides) (now limits) count s t d ss ts ds n (length (now src)) (length (now dst)) ⌝ }
-    ensures { λ _. ⌜ now (dst .exit) ≡ inOrder (cellAt (pos 0) (ruleI32 R.Replace) (now (src .entry)) (movedAt (now (starts .entry)) (now (offsets .entry)) (now (strides .entry)) (now (limits .entry)) count (line s ss) (line t ts)) (line d ds)) n (now (dst .entry)) ⌝ }
+    ensures { λ r. ⌜ (now (dst .exit) ≡ inOrder (cellAt (pos 0) (ruleI32 R.Replace) (now (src .entry)) (movedAt (now (starts .entry)) (now (offsets .entry)) (now (strides .entry)) (now (limits .entry)) count (line s ss) (line t ts)) (line d ds)) n (now (dst .entry))) × (r ≡ startsMoved (now (starts .entry)) (now (offsets .entry)) (now (limits .entry)) count n (line t ts)) ⌝ }
 {
+    let mut slid: u64 = 0;
     let mut i: usize = 0;
     while i < n {
         let k = i as i64;
         let p = s + ss * k;
         let q = t + ts * k;
         let m = started(starts, p, q, count, offsets, strides, limits);
-        let a = m as usize;
+        let x = m.at;
+        let y = m.moved;
+        let a = x as usize;
         let b = (d + ds * k) as usize;
         dst[b] = src[a];
+        let one = layout::count_if(y, 1);
+        slid += one;
         i += 1;
     }
+    slid
 }
 
 // x, or 0 where it is below.
@@ -80,13 +99,29 @@ fn not_below_zero(x: i64) -> i64
     if x < 0 { 0 } else { x }
 }
 
-// x moved inside 0 .. limit.
-pub fn clamped(x: i64, limit: i64) -> i64
+// The lesser of two.
+fn at_most(x: i64, limit: i64) -> i64
+    ensures { λ r. ⌜ r ≡ minℤ x limit ⌝ }
+{
+    if limit < x { limit } else { x }
+}
+
+// Whether two are not the same.
+fn differ(a: i64, b: i64) -> bool
+    ensures { λ r. ⌜ r ≡ not (eqZ a b) ⌝ }
+{
+    if a == b { false } else { true }
+}
+
+// x moved inside 0 .. limit, and whether that is another.
+pub fn clamped(x: i64, limit: i64) -> StartPlace
     requires { ⌜ pos 0 ≤ℤ limit ⌝ }
-    ensures { λ r. ⌜ r ≡ clamp x (natAbs limit) 0 ⌝ }
+    ensures { λ r. ⌜ (r .at ≡ clamp x (natAbs limit) 0) × (r .moved ≡ moved x (natAbs limit) 0) ⌝ }
 {
     let y = not_below_zero(x);
-    if limit < y { limit } else { y }
+    let at = at_most(y, limit);
+    let moved = differ(at, x);
+    StartPlace { at, moved }
 }
 
 // n cells: the source's place by the start read at t by ts, clamped, times the stride; the destination's from d by ds.
@@ -102,65 +137,94 @@ pub fn take_strided(
     limit: u64,
     d: i64,
     ds: i64,
-)
+) -> u64
     requires { ⌜ Clamped (now starts) t ts base stride d ds limit n (length (now src)) (length (now dst)) ⌝ }
-    ensures { λ _. ⌜ now (dst .exit) ≡ inOrder (cellAt (pos 0) (ruleI32 R.Replace) (now (src .entry)) (clampedAt (now (starts .entry)) (line t ts) base stride limit) (line d ds)) n (now (dst .entry)) ⌝ }
+    ensures { λ r. ⌜ (now (dst .exit) ≡ inOrder (cellAt (pos 0) (ruleI32 R.Replace) (now (src .entry)) (clampedAt (now (starts .entry)) (line t ts) base stride limit) (line d ds)) n (now (dst .entry))) × (r ≡ howMany n (movesAt (now (starts .entry)) (line t ts) limit)) ⌝ }
 {
+    let mut slid: u64 = 0;
     let mut i: usize = 0;
     while i < n {
         let k = i as i64;
         let p = (t + ts * k) as usize;
         let x = starts[p];
         let y = layout::clamp_window_start(x, limit, 0);
-        let c = y as i64;
+        let c = y.start as i64;
+        let m = y.moved;
         let a = (base + stride * c) as usize;
         let b = (d + ds * k) as usize;
         dst[b] = src[a];
+        let one = layout::count_if(m, 1);
+        slid += one;
         i += 1;
     }
+    slid
 }
 
-// Cell i: of the source where start i says, clamped; of the destination in order.
-fn take_one(src: &[i32], starts: &[i64], dst: &mut [i32], limit: i64, i: usize)
+// Cell i: of the source where start i says, clamped; of the destination in order. 1 where the start is moved.
+fn take_one(src: &[i32], starts: &[i64], dst: &mut [i32], limit: i64, i: usize) -> u64
     requires { ⌜ (i < length (now dst)) × Ones (now starts) limit (length (now dst)) (length (now src)) ⌝ }
-    ensures { λ _. ⌜ now (dst .exit) ≡ cellAt (pos 0) (ruleI32 R.Replace) (now (src .entry)) (oneAt (now (starts .entry)) limit) pos i (now (dst .entry)) ⌝ }
+    ensures { λ r. ⌜ (now (dst .exit) ≡ cellAt (pos 0) (ruleI32 R.Replace) (now (src .entry)) (oneAt (now (starts .entry)) limit) pos i (now (dst .entry))) × (r ≡ cond (movesAt (now (starts .entry)) pos (natAbs limit) i) 1 0) ⌝ }
 {
     let x = starts[i];
     let y = clamped(x, limit);
-    let a = y as usize;
+    let at = y.at;
+    let m = y.moved;
+    let a = at as usize;
     dst[i] = src[a];
+    layout::count_if(m, 1)
 }
 
-// The first n cells.
-fn take_few(src: &[i32], starts: &[i64], dst: &mut [i32], limit: i64, n: usize)
-    requires { ⌜ (n ≤ length (now dst)) × Ones (now starts) limit (length (now dst)) (length (now src)) ⌝ }
-    ensures { λ _. ⌜ now (dst .exit) ≡ inOrder (cellAt (pos 0) (ruleI32 R.Replace) (now (src .entry)) (oneAt (now (starts .entry)) limit) pos) n (now (dst .entry)) ⌝ }
+// The cells from `from` up to `to`.
+fn take_few(src: &[i32], starts: &[i64], dst: &mut [i32], limit: i64, from: usize, to: usize) -> u64
+    requires { ⌜ (from ≤ to) × (to ≤ length (now dst)) × Ones (now starts) limit (length (now dst)) (length (now src)) ⌝ }
+    ensures { λ r. ⌜ (now (dst .exit) ≡ inOrder (λ k. cellAt (pos 0) (ruleI32 R.Replace) (now (src .entry)) (oneAt (now (starts .entry)) limit) pos (k + from)) (to - from) (now (dst .entry))) × (r ≡ howMany (to - from) (λ k. movesAt (now (starts .entry)) pos (natAbs limit) (k + from))) ⌝ }
 {
-    let mut i: usize = 0;
-    while i < n {
-        take_one(src, starts, dst, limit, i);
+    let mut slid: u64 = 0;
+    let mut i = from;
+    while i < to {
+        let one = take_one(src, starts, dst, limit, i);
+        slid += one;
         i += 1;
     }
+    slid
 }
 
-// A cell for each start: of the source where the start says, clamped; of the destination in order. Four to a turn, behind those
+// A cell for each start: of the source where the start says, clamped; of the destination in order. `width` to a turn, behind those
 // that are over.
-pub fn take_ones(src: &[i32], starts: &[i64], dst: &mut [i32], limit: i64)
+fn take_turns(
+    src: &[i32],
+    starts: &[i64],
+    dst: &mut [i32],
+    limit: i64,
+    over: usize,
+    turns: usize,
+    width: usize,
+) -> u64
+    requires { ⌜ (over + width * turns ≡ length (now dst)) × Ones (now starts) limit (length (now dst)) (length (now src)) ⌝ }
+    ensures { λ r. ⌜ (now (dst .exit) ≡ inOrder (cellAt (pos 0) (ruleI32 R.Replace) (now (src .entry)) (oneAt (now (starts .entry)) limit) pos) (length (now (dst .entry))) (now (dst .entry))) × (r ≡ howMany (length (now (dst .entry))) (movesAt (now (starts .entry)) pos (natAbs limit))) ⌝ }
+{
+    let mut slid = take_few(src, starts, dst, limit, 0, over);
+    let mut i = over;
+    let mut left = turns;
+    while 0 < left {
+        let e = i + width;
+        let few = take_few(src, starts, dst, limit, i, e);
+        slid += few;
+        i = e;
+        left -= 1;
+    }
+    slid
+}
+
+// The same, four to a turn.
+pub fn take_ones(src: &[i32], starts: &[i64], dst: &mut [i32], limit: i64) -> u64
     requires { ⌜ Ones (now starts) limit (length (now dst)) (length (now src)) ⌝ }
-    ensures { λ _. ⌜ now (dst .exit) ≡ inOrder (cellAt (pos 0) (ruleI32 R.Replace) (now (src .entry)) (oneAt (now (starts .entry)) limit) pos) (length (now (dst .entry))) (now (dst .entry)) ⌝ }
+    ensures { λ r. ⌜ (now (dst .exit) ≡ inOrder (cellAt (pos 0) (ruleI32 R.Replace) (now (src .entry)) (oneAt (now (starts .entry)) limit) pos) (length (now (dst .entry))) (now (dst .entry))) × (r ≡ howMany (length (now (dst .entry))) (movesAt (now (starts .entry)) pos (natAbs limit))) ⌝ }
 {
     let n = dst.len();
-    let mut fours = n / 4;
-    let mut i = n - 4 * fours;
-    take_few(src, starts, dst, limit, i);
-    while 0 < fours {
-        take_one(src, starts, dst, limit, i);
-        take_one(src, starts, dst, limit, i + 1);
-        take_one(src, starts, dst, limit, i + 2);
-        take_one(src, starts, dst, limit, i + 3);
-        i += 4;
-        fours -= 1;
-    }
+    let over = n % 4;
+    let fours = n / 4;
+    take_turns(src, starts, dst, limit, over, fours, 4)
 }
 
 // n cells whose every step is 1: on the parts of the starts and the destination that they are, and the source from the base on.
@@ -173,9 +237,9 @@ pub fn take_row(
     base: i64,
     limit: u64,
     d: i64,
-)
+) -> u64
     requires { ⌜ (0 < n) × Clamped (now starts) t (pos 1) base (pos 1) d (pos 1) limit n (length (now src)) (length (now dst)) ⌝ }
-    ensures { λ _. ⌜ now (dst .exit) ≡ inOrder (cellAt (pos 0) (ruleI32 R.Replace) (now (src .entry)) (clampedAt (now (starts .entry)) (line t (pos 1)) base (pos 1) limit) (line d (pos 1))) n (now (dst .entry)) ⌝ }
+    ensures { λ r. ⌜ (now (dst .exit) ≡ inOrder (cellAt (pos 0) (ruleI32 R.Replace) (now (src .entry)) (clampedAt (now (starts .entry)) (line t (pos 1)) base (pos 1) limit) (line d (pos 1))) n (now (dst .entry))) × (r ≡ howMany n (movesAt (now (starts .entry)) (line t (pos 1)) limit)) ⌝ }
 {
     let l = limit as i64;
     let a = t as usize;
@@ -184,7 +248,7 @@ pub fn take_row(
     let e = a + n;
     let f = b + n;
     let m = src.len();
-    take_ones(&src[c..m], &starts[a..e], &mut dst[b..f], l);
+    take_ones(&src[c..m], &starts[a..e], &mut dst[b..f], l)
 }
 
 // n cells: by take_row where every step is 1, else by take_strided.
@@ -200,22 +264,21 @@ pub fn take_run(
     limit: u64,
     d: i64,
     ds: i64,
-)
+) -> u64
     requires { ⌜ Clamped (now starts) t ts base stride d ds limit n (length (now src)) (length (now dst)) ⌝ }
-    ensures { λ _. ⌜ now (dst .exit) ≡ inOrder (cellAt (pos 0) (ruleI32 R.Replace) (now (src .entry)) (clampedAt (now (starts .entry)) (line t ts) base stride limit) (line d ds)) n (now (dst .entry)) ⌝ }
+    ensures { λ r. ⌜ (now (dst .exit) ≡ inOrder (cellAt (pos 0) (ruleI32 R.Replace) (now (src .entry)) (clampedAt (now (starts .entry)) (line t ts) base stride limit) (line d ds)) n (now (dst .entry))) × (r ≡ howMany n (movesAt (now (starts .entry)) (line t ts) limit)) ⌝ }
 {
     if n == 0 {
-        return;
+        return 0;
     }
     if ts == 1 {
         if stride == 1 {
             if ds == 1 {
-                take_row(src, starts, dst, n, t, base, limit, d);
-                return;
+                return take_row(src, starts, dst, n, t, base, limit, d);
             }
         }
     }
-    take_strided(src, starts, dst, n, t, ts, base, stride, limit, d, ds);
+    take_strided(src, starts, dst, n, t, ts, base, stride, limit, d, ds)
 }
 
 // n cells by the rule, where starts have components: the source's place from s by ss; the destination's is d, moved by the start read
@@ -236,24 +299,30 @@ fn put_cells_by(
     offsets: &[i64; RAW_FUSED_RANK_LIMIT],
     strides: &[i64; RAW_FUSED_RANK_LIMIT],
     limits: &[u64; RAW_FUSED_RANK_LIMIT],
-)
+) -> u64
     requires { ⌜ (0 < count) × Putting (now starts) (now offsets) (now strides) (now limits) count s t d ss ts n (length (now src)) (length (now dst)) ⌝ }
-    ensures { λ _. ⌜ now (dst .exit) ≡ inOrder (cellAt (pos 0) (ruleI32 rule) (now (src .entry)) (line s ss) (movedAt (now (starts .entry)) (now (offsets .entry)) (now (strides .entry)) (now (limits .entry)) count (λ _. d) (line t ts))) n (now (dst .entry)) ⌝ }
+    ensures { λ r. ⌜ (now (dst .exit) ≡ inOrder (cellAt (pos 0) (ruleI32 rule) (now (src .entry)) (line s ss) (movedAt (now (starts .entry)) (now (offsets .entry)) (now (strides .entry)) (now (limits .entry)) count (λ _. d) (line t ts))) n (now (dst .entry))) × (r ≡ startsMoved (now (starts .entry)) (now (offsets .entry)) (now (limits .entry)) count n (line t ts)) ⌝ }
 {
     if count == 0 {
-        return;
+        return 0;
     }
+    let mut slid: u64 = 0;
     let mut i: usize = 0;
     while i < n {
         let k = i as i64;
         let q = t + ts * k;
         let m = started(starts, d, q, count, offsets, strides, limits);
-        let b = m as usize;
+        let x = m.at;
+        let y = m.moved;
+        let b = x as usize;
         let a = (s + ss * k) as usize;
         let v = rules::apply(rule, dst[b], src[a]);
         dst[b] = v;
+        let one = layout::count_if(y, 1);
+        slid += one;
         i += 1;
     }
+    slid
 }
 
 // The same, by a loop of each rule's own: the rule is asked once, outside the loop.
@@ -272,9 +341,9 @@ pub fn put_cells(
     offsets: &[i64; RAW_FUSED_RANK_LIMIT],
     strides: &[i64; RAW_FUSED_RANK_LIMIT],
     limits: &[u64; RAW_FUSED_RANK_LIMIT],
-)
+) -> u64
     requires { ⌜ (0 < count) × Putting (now starts) (now offsets) (now strides) (now limits) count s t d ss ts n (length (now src)) (length (now dst)) ⌝ }
-    ensures { λ _. ⌜ now (dst .exit) ≡ inOrder (cellAt (pos 0) (ruleI32 rule) (now (src .entry)) (line s ss) (movedAt (now (starts .entry)) (now (offsets .entry)) (now (strides .entry)) (now (limits .entry)) count (λ _. d) (line t ts))) n (now (dst .entry)) ⌝ }
+    ensures { λ r. ⌜ (now (dst .exit) ≡ inOrder (cellAt (pos 0) (ruleI32 rule) (now (src .entry)) (line s ss) (movedAt (now (starts .entry)) (now (offsets .entry)) (now (strides .entry)) (now (limits .entry)) count (λ _. d) (line t ts))) n (now (dst .entry))) × (r ≡ startsMoved (now (starts .entry)) (now (offsets .entry)) (now (limits .entry)) count n (line t ts)) ⌝ }
 {
     match rule {
         Rule::Add => {
@@ -293,7 +362,7 @@ pub fn put_cells(
                 offsets,
                 strides,
                 limits,
-            );
+            )
         }
         Rule::Lowest => {
             put_cells_by(
@@ -311,7 +380,7 @@ pub fn put_cells(
                 offsets,
                 strides,
                 limits,
-            );
+            )
         }
         Rule::Highest => {
             put_cells_by(
@@ -329,7 +398,7 @@ pub fn put_cells(
                 offsets,
                 strides,
                 limits,
-            );
+            )
         }
         Rule::Replace => {
             put_cells_by(
@@ -347,7 +416,7 @@ pub fn put_cells(
                 offsets,
                 strides,
                 limits,
-            );
+            )
         }
     }
 }
@@ -366,23 +435,28 @@ fn put_strided_by(
     limit: u64,
     s: i64,
     ss: i64,
-)
+) -> u64
     requires { ⌜ Clamped (now starts) t ts base stride s ss limit n (length (now dst)) (length (now src)) ⌝ }
-    ensures { λ _. ⌜ now (dst .exit) ≡ inOrder (cellAt (pos 0) (ruleI32 rule) (now (src .entry)) (line s ss) (clampedAt (now (starts .entry)) (line t ts) base stride limit)) n (now (dst .entry)) ⌝ }
+    ensures { λ r. ⌜ (now (dst .exit) ≡ inOrder (cellAt (pos 0) (ruleI32 rule) (now (src .entry)) (line s ss) (clampedAt (now (starts .entry)) (line t ts) base stride limit)) n (now (dst .entry))) × (r ≡ howMany n (movesAt (now (starts .entry)) (line t ts) limit)) ⌝ }
 {
+    let mut slid: u64 = 0;
     let mut i: usize = 0;
     while i < n {
         let k = i as i64;
         let p = (t + ts * k) as usize;
         let x = starts[p];
         let y = layout::clamp_window_start(x, limit, 0);
-        let c = y as i64;
+        let c = y.start as i64;
+        let m = y.moved;
         let b = (base + stride * c) as usize;
         let a = (s + ss * k) as usize;
         let v = rules::apply(rule, dst[b], src[a]);
         dst[b] = v;
+        let one = layout::count_if(m, 1);
+        slid += one;
         i += 1;
     }
+    slid
 }
 
 // The same, by a loop of each rule's own: the rule is asked once, outside the loop.
@@ -399,9 +473,9 @@ pub fn put_strided(
     limit: u64,
     s: i64,
     ss: i64,
-)
+) -> u64
     requires { ⌜ Clamped (now starts) t ts base stride s ss limit n (length (now dst)) (length (now src)) ⌝ }
-    ensures { λ _. ⌜ now (dst .exit) ≡ inOrder (cellAt (pos 0) (ruleI32 rule) (now (src .entry)) (line s ss) (clampedAt (now (starts .entry)) (line t ts) base stride limit)) n (now (dst .entry)) ⌝ }
+    ensures { λ r. ⌜ (now (dst .exit) ≡ inOrder (cellAt (pos 0) (ruleI32 rule) (now (src .entry)) (line s ss) (clampedAt (now (starts .entry)) (line t ts) base stride limit)) n (now (dst .entry))) × (r ≡ howMany n (movesAt (now (starts .entry)) (line t ts) limit)) ⌝ }
 {
     match rule {
         Rule::Add => {
@@ -418,7 +492,7 @@ pub fn put_strided(
                 limit,
                 s,
                 ss,
-            );
+            )
         }
         Rule::Lowest => {
             put_strided_by(
@@ -434,7 +508,7 @@ pub fn put_strided(
                 limit,
                 s,
                 ss,
-            );
+            )
         }
         Rule::Highest => {
             put_strided_by(
@@ -450,7 +524,7 @@ pub fn put_strided(
                 limit,
                 s,
                 ss,
-            );
+            )
         }
         Rule::Replace => {
             put_strided_by(
@@ -466,21 +540,24 @@ pub fn put_strided(
                 limit,
                 s,
                 ss,
-            );
+            )
         }
     }
 }
 
-// Cell i by the rule: of the source in order; of the destination where start i says, clamped.
-fn put_one(rule: Rule, src: &[i32], starts: &[i64], dst: &mut [i32], limit: i64, i: usize)
+// Cell i by the rule: of the source in order; of the destination where start i says, clamped. 1 where the start is moved.
+fn put_one(rule: Rule, src: &[i32], starts: &[i64], dst: &mut [i32], limit: i64, i: usize) -> u64
     requires { ⌜ (i < length (now src)) × Ones (now starts) limit (length (now src)) (length (now dst)) ⌝ }
-    ensures { λ _. ⌜ now (dst .exit) ≡ cellAt (pos 0) (ruleI32 rule) (now (src .entry)) pos (oneAt (now (starts .entry)) limit) i (now (dst .entry)) ⌝ }
+    ensures { λ r. ⌜ (now (dst .exit) ≡ cellAt (pos 0) (ruleI32 rule) (now (src .entry)) pos (oneAt (now (starts .entry)) limit) i (now (dst .entry))) × (r ≡ cond (movesAt (now (starts .entry)) pos (natAbs limit) i) 1 0) ⌝ }
 {
     let x = starts[i];
     let y = clamped(x, limit);
-    let b = y as usize;
+    let at = y.at;
+    let m = y.moved;
+    let b = at as usize;
     let v = rules::apply(rule, dst[b], src[i]);
     dst[b] = v;
+    layout::count_if(m, 1)
 }
 
 // The cells from `from` up to `to`.
@@ -492,15 +569,18 @@ fn put_few(
     limit: i64,
     from: usize,
     to: usize,
-)
+) -> u64
     requires { ⌜ (from ≤ to) × (to ≤ length (now src)) × Ones (now starts) limit (length (now src)) (length (now dst)) ⌝ }
-    ensures { λ _. ⌜ now (dst .exit) ≡ inOrder (λ k. cellAt (pos 0) (ruleI32 rule) (now (src .entry)) pos (oneAt (now (starts .entry)) limit) (k + from)) (to - from) (now (dst .entry)) ⌝ }
+    ensures { λ r. ⌜ (now (dst .exit) ≡ inOrder (λ k. cellAt (pos 0) (ruleI32 rule) (now (src .entry)) pos (oneAt (now (starts .entry)) limit) (k + from)) (to - from) (now (dst .entry))) × (r ≡ howMany (to - from) (λ k. movesAt (now (starts .entry)) pos (natAbs limit) (k + from))) ⌝ }
 {
+    let mut slid: u64 = 0;
     let mut i = from;
     while i < to {
-        put_one(rule, src, starts, dst, limit, i);
+        let one = put_one(rule, src, starts, dst, limit, i);
+        slid += one;
         i += 1;
     }
+    slid
 }
 
 // A cell for each start, by the rule: of the source in order; of the destination where the start says, clamped. `width` to a turn,
@@ -514,43 +594,37 @@ fn put_turns(
     over: usize,
     turns: usize,
     width: usize,
-)
+) -> u64
     requires { ⌜ (over + width * turns ≡ length (now src)) × Ones (now starts) limit (length (now src)) (length (now dst)) ⌝ }
-    ensures { λ _. ⌜ now (dst .exit) ≡ inOrder (cellAt (pos 0) (ruleI32 rule) (now (src .entry)) pos (oneAt (now (starts .entry)) limit)) (length (now (src .entry))) (now (dst .entry)) ⌝ }
+    ensures { λ r. ⌜ (now (dst .exit) ≡ inOrder (cellAt (pos 0) (ruleI32 rule) (now (src .entry)) pos (oneAt (now (starts .entry)) limit)) (length (now (src .entry))) (now (dst .entry))) × (r ≡ howMany (length (now (src .entry))) (movesAt (now (starts .entry)) pos (natAbs limit))) ⌝ }
 {
-    put_few(rule, src, starts, dst, limit, 0, over);
+    let mut slid = put_few(rule, src, starts, dst, limit, 0, over);
     let mut i = over;
     let mut left = turns;
     while 0 < left {
         let e = i + width;
-        put_few(rule, src, starts, dst, limit, i, e);
+        let few = put_few(rule, src, starts, dst, limit, i, e);
+        slid += few;
         i = e;
         left -= 1;
     }
+    slid
 }
 
 // The same, by a loop of each rule's own: the rule is asked once, outside the loop. Four go to a turn, and of a Replace two.
-pub fn put_ones(rule: Rule, src: &[i32], starts: &[i64], dst: &mut [i32], limit: i64)
+pub fn put_ones(rule: Rule, src: &[i32], starts: &[i64], dst: &mut [i32], limit: i64) -> u64
     requires { ⌜ Ones (now starts) limit (length (now src)) (length (now dst)) ⌝ }
-    ensures { λ _. ⌜ now (dst .exit) ≡ inOrder (cellAt (pos 0) (ruleI32 rule) (now (src .entry)) pos (oneAt (now (starts .entry)) limit)) (length (now (src .entry))) (now (dst .entry)) ⌝ }
+    ensures { λ r. ⌜ (now (dst .exit) ≡ inOrder (cellAt (pos 0) (ruleI32 rule) (now (src .entry)) pos (oneAt (now (starts .entry)) limit)) (length (now (src .entry))) (now (dst .entry))) × (r ≡ howMany (length (now (src .entry))) (movesAt (now (starts .entry)) pos (natAbs limit))) ⌝ }
 {
     let n = src.len();
     let over = n % 4;
     let fours = n / 4;
     let twos = 2 * fours;
     match rule {
-        Rule::Add => {
-            put_turns(Rule::Add, src, starts, dst, limit, over, fours, 4);
-        }
-        Rule::Lowest => {
-            put_turns(Rule::Lowest, src, starts, dst, limit, over, fours, 4);
-        }
-        Rule::Highest => {
-            put_turns(Rule::Highest, src, starts, dst, limit, over, fours, 4);
-        }
-        Rule::Replace => {
-            put_turns(Rule::Replace, src, starts, dst, limit, over, twos, 2);
-        }
+        Rule::Add => { put_turns(Rule::Add, src, starts, dst, limit, over, fours, 4) }
+        Rule::Lowest => { put_turns(Rule::Lowest, src, starts, dst, limit, over, fours, 4) }
+        Rule::Highest => { put_turns(Rule::Highest, src, starts, dst, limit, over, fours, 4) }
+        Rule::Replace => { put_turns(Rule::Replace, src, starts, dst, limit, over, twos, 2) }
     }
 }
 
@@ -565,9 +639,9 @@ pub fn put_row(
     base: i64,
     limit: u64,
     s: i64,
-)
+) -> u64
     requires { ⌜ (0 < n) × Clamped (now starts) t (pos 1) base (pos 1) s (pos 1) limit n (length (now dst)) (length (now src)) ⌝ }
-    ensures { λ _. ⌜ now (dst .exit) ≡ inOrder (cellAt (pos 0) (ruleI32 rule) (now (src .entry)) (line s (pos 1)) (clampedAt (now (starts .entry)) (line t (pos 1)) base (pos 1) limit)) n (now (dst .entry)) ⌝ }
+    ensures { λ r. ⌜ (now (dst .exit) ≡ inOrder (cellAt (pos 0) (ruleI32 rule) (now (src .entry)) (line s (pos 1)) (clampedAt (now (starts .entry)) (line t (pos 1)) base (pos 1) limit)) n (now (dst .entry))) × (r ≡ howMany n (movesAt (now (starts .entry)) (line t (pos 1)) limit)) ⌝ }
 {
     let l = limit as i64;
     let a = s as usize;
@@ -576,7 +650,7 @@ pub fn put_row(
     let e = a + n;
     let f = b + n;
     let m = dst.len();
-    put_ones(rule, &src[a..e], &starts[b..f], &mut dst[c..m], l);
+    put_ones(rule, &src[a..e], &starts[b..f], &mut dst[c..m], l)
 }
 
 // n cells by the rule: by put_row where every step is 1, else by put_strided.
@@ -593,20 +667,19 @@ pub fn put_run(
     limit: u64,
     s: i64,
     ss: i64,
-)
+) -> u64
     requires { ⌜ Clamped (now starts) t ts base stride s ss limit n (length (now dst)) (length (now src)) ⌝ }
-    ensures { λ _. ⌜ now (dst .exit) ≡ inOrder (cellAt (pos 0) (ruleI32 rule) (now (src .entry)) (line s ss) (clampedAt (now (starts .entry)) (line t ts) base stride limit)) n (now (dst .entry)) ⌝ }
+    ensures { λ r. ⌜ (now (dst .exit) ≡ inOrder (cellAt (pos 0) (ruleI32 rule) (now (src .entry)) (line s ss) (clampedAt (now (starts .entry)) (line t ts) base stride limit)) n (now (dst .entry))) × (r ≡ howMany n (movesAt (now (starts .entry)) (line t ts) limit)) ⌝ }
 {
     if n == 0 {
-        return;
+        return 0;
     }
     if ts == 1 {
         if stride == 1 {
             if ss == 1 {
-                put_row(rule, src, starts, dst, n, t, base, limit, s);
-                return;
+                return put_row(rule, src, starts, dst, n, t, base, limit, s);
             }
         }
     }
-    put_strided(rule, src, starts, dst, n, t, ts, base, stride, limit, s, ss);
+    put_strided(rule, src, starts, dst, n, t, ts, base, stride, limit, s, ss)
 }

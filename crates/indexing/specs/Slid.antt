@@ -29,8 +29,8 @@ unfoldable pub slides : List ℕ → List ℕ → List ℕ → (ℕ → ℤ) →
 slides extents windows axes start = oneOf (length axes) (λ c. moved (start c) (getD extents (getD axes c 0) 0) (getD windows (getD axes c 0) 0))
 
 -- "the number is 0 when the destination of a gather, or the updates, have no cells"
-abbrev pub slidOf : ℕ → ℕ → (ℕ → Bool) → ℕ
-slidOf cells batches slid = cond (eqb cells 0) 0 (howMany batches slid)
+abbrev pub slidOf : ℕ → ℕ → ℕ
+slidOf cells count = cond (eqb cells 0) 0 count
 
 -- the result's extents with 1 on offset_dims: the coordinates in them are the batch coordinates, each once
 unfoldable pub batchExtents : Gather → List ℕ
@@ -39,9 +39,9 @@ batchExtents g = tabulate (rank (g .result)) (λ a. cond (has (g .spec .offset-d
 -- the number of a gather, and of a scatter: batch coordinate b is at linear index b
 unfoldable pub slidGather : Gather → List ℤ → ℕ
 slidGather g starts =
-    slidOf (cells g) (product (batchExtents g)) (λ b. slides (g .operand .extents) (g .spec .slice-sizes) (g .spec .start-index-map) (gatherStart g starts (unravel (batchExtents g) b)))
+    slidOf (cells g) (howMany (product (batchExtents g)) (λ b. slides (g .operand .extents) (g .spec .slice-sizes) (g .spec .start-index-map) (gatherStart g starts (unravel (batchExtents g) b))))
 
 unfoldable pub slidScatter : Scatter → List ℤ → ℕ
 slidScatter s starts =
-    slidOf (product (s .updates .extents)) (product (batchShape s))
-    (λ b. slides (s .result .extents) (windows s) (s .spec .scatter-dims-to-operand-dims) (startIndex (s .indices) (s .spec .index-vector-dim) starts (unravel (batchShape s) b)))
+    slidOf (product (s .updates .extents))
+    (howMany (product (batchShape s)) (λ b. slides (s .result .extents) (windows s) (s .spec .scatter-dims-to-operand-dims) (startIndex (s .indices) (s .spec .index-vector-dim) starts (unravel (batchShape s) b))))

@@ -1,7 +1,12 @@
 -- The batches of a prepared scatter, from the place `at` in the part of the destination that is lent on. Definitions only.
 use mathlib.Core.List.{List}
 use Prim.Native.Nat.{ℕ}
+use lib.ListN.{take}
 use lib.IntN.{ℤ}
+use Rattle.indexing.specs.Coordinates.{product}
+use Rattle.indexing.specs.Slid.{slidOf}
+use Rattle.windows.specs.Windows.{placeAt}
+use Rattle.indexed_runs.specs.IndexedRuns.{startsMoved}
 use Rattle.scatter_windows.specs.Scattering.{scatteredBy, Scattering}
 use Rattle.driven.specs.Driving.{Rowed}
 use Rattle.scatter_move.specs.declared.PreparedScatter.{PreparedScatter}
@@ -18,3 +23,10 @@ abbrev pub afterBatches : {A : Type 0} → A → (A → A → A) → PreparedSca
 afterBatches z rule p src starts at dst =
     let w = p .numbers in
     scatteredBy z rule src starts (w .offsets) (w .strides) (w .limits) (w .count) (p .index) (p .updates) at (w .«batch_extents») (w .«index_steps») (w .«update_steps») (w .«batch_rank») (w .«window_extents») (w .«window_steps») (w .«dest_steps») (w .«window_rank») dst
+
+-- and how many of them have a start that the clamp moves; none where windows have no cells
+abbrev pub batchesMoved : PreparedScatter → List ℤ → ℕ
+batchesMoved p starts =
+    let w = p .numbers in
+    slidOf (product (take (w .«window_rank») (w .«window_extents»)))
+    (startsMoved starts (w .offsets) (w .limits) (w .count) (product (take (w .«batch_rank») (w .«batch_extents»))) (placeAt (p .index) (w .«batch_extents») (w .«index_steps») (w .«batch_rank»)))

@@ -5,11 +5,13 @@ ghost use lib.Ieee.{nan};
 ghost use lib.IntN.{pos};
 ghost use lib.ListN.{length};
 ghost use Rattle.indexing.specs.Scatter.{scattered};
+ghost use Rattle.indexing.specs.Slid.{slidScatter};
 ghost use Rattle.rules.specs.Rules.{ruleI32, ruleF64};
 ghost use Rattle.calls.specs.Calls.{Does, asIs};
-ghost use Rattle.scatter_move.specs.Batches.{BatchesFrom, afterBatches};
+ghost use Rattle.scatter_move.specs.Batches.{BatchesFrom, afterBatches, batchesMoved};
 ghost use Rattle.scatter_move.specs.Prepared.{stepsAt, Cells, Movable};
 use layout::Answer;
+use layout::CallAnswer;
 use layout::RAW_FUSED_RANK_LIMIT;
 use layout::Reach;
 use replay::WindowReplayAxis;
@@ -118,9 +120,9 @@ fn run_i32(
     source: &[i32],
     into: &mut [i32],
     at: i64,
-)
+) -> u64
     requires { ⌜ BatchesFrom p rows (now starts) at (length (now source)) (length (now into)) ⌝ }
-    ensures { λ _. ⌜ now (into .exit) ≡ afterBatches (pos 0) (ruleI32 rule) p (now (source .entry)) (now (starts .entry)) at (now (into .entry)) ⌝ }
+    ensures { λ r. ⌜ (now (into .exit) ≡ afterBatches (pos 0) (ruleI32 rule) p (now (source .entry)) (now (starts .entry)) at (now (into .entry))) × (r ≡ batchesMoved p (now (starts .entry))) ⌝ }
 {
     let numbers = p.numbers;
     let batch_extents = numbers.batch_extents;
@@ -154,7 +156,7 @@ fn run_i32(
         p.index,
         p.updates,
         at,
-    );
+    )
 }
 
 // The scatter where the destination has cells, from the index low to the index high: it is lent on as that part.
@@ -166,16 +168,16 @@ fn cells_i32(
     into: &mut [i32],
     low: usize,
     high: usize,
-)
+) -> u64
     requires { ⌜ Cells p low high (length (now starts)) (length (now source)) (length (now into)) ⌝ }
-    ensures { λ _. ⌜ ((k : Cells p low high (length (now (starts .entry))) (length (now (source .entry))) (length (now (into .entry)))) → now (into .exit) ≡ scattered (ruleI32 rule) (pos 0) (k .scatter) (now (starts .entry)) (now (source .entry)) (now (into .entry))) ⌝ }
+    ensures { λ r. ⌜ ((k : Cells p low high (length (now (starts .entry))) (length (now (source .entry))) (length (now (into .entry)))) → (now (into .exit) ≡ scattered (ruleI32 rule) (pos 0) (k .scatter) (now (starts .entry)) (now (source .entry)) (now (into .entry))) × (r ≡ slidScatter (k .scatter) (now (starts .entry)))) ⌝ }
 {
     let end = high + 1;
     let from = low as i64;
     let at = p.dest - from;
     let axes = p.batch_axes;
     let rows = replay::rows_of(axes);
-    run_i32(rule, p, rows, starts, source, &mut into[low..end], at);
+    run_i32(rule, p, rows, starts, source, &mut into[low..end], at)
 }
 
 // A scatter of i32 that is prepared: where it is refused nothing is done.
@@ -185,22 +187,28 @@ pub fn move_i32(
     starts: &[i64],
     source: &[i32],
     into: &mut [i32],
-) -> Answer
+) -> CallAnswer
     requires { ⌜ Movable p (length (now starts)) (length (now source)) (length (now into)) ⌝ }
-    ensures { λ r. ⌜ ((k : Movable p (length (now (starts .entry))) (length (now (source .entry))) (length (now (into .entry)))) → Does asIs (p .answer) (scattered (ruleI32 rule) (pos 0) (k .scatter) (now (starts .entry)) (now (source .entry)) (now (into .entry))) (now (into .entry)) (now (into .exit)) r) ⌝ }
+    ensures { λ r. ⌜ ((k : Movable p (length (now (starts .entry))) (length (now (source .entry))) (length (now (into .entry)))) → Does asIs (p .answer) (slidScatter (k .scatter) (now (starts .entry))) (scattered (ruleI32 rule) (pos 0) (k .scatter) (now (starts .entry)) (now (source .entry)) (now (into .entry))) (now (into .entry)) (now (into .exit)) r) ⌝ }
 {
     let answer = p.answer;
     if !layout::is_done(answer) {
-        return answer;
+        return layout::refused_call(answer);
     }
     let reach = p.reach;
     match reach {
         Reach::Cells(low, high) => {
-            cells_i32(rule, p, starts, source, into, low, high);
-            answer
+            let reported = cells_i32(rule, p, starts, source, into, low, high);
+            CallAnswer { answer, reported }
         }
-        Reach::NoCells => answer,
-        Reach::Outside => answer,
+        Reach::NoCells => CallAnswer {
+            answer,
+            reported: 0,
+        },
+        Reach::Outside => CallAnswer {
+            answer,
+            reported: 0,
+        },
     }
 }
 
@@ -213,9 +221,9 @@ fn run_f64(
     source: &[f64],
     into: &mut [f64],
     at: i64,
-)
+) -> u64
     requires { ⌜ BatchesFrom p rows (now starts) at (length (now source)) (length (now into)) ⌝ }
-    ensures { λ _. ⌜ now (into .exit) ≡ afterBatches nan (ruleF64 rule) p (now (source .entry)) (now (starts .entry)) at (now (into .entry)) ⌝ }
+    ensures { λ r. ⌜ (now (into .exit) ≡ afterBatches nan (ruleF64 rule) p (now (source .entry)) (now (starts .entry)) at (now (into .entry))) × (r ≡ batchesMoved p (now (starts .entry))) ⌝ }
 {
     let numbers = p.numbers;
     let batch_extents = numbers.batch_extents;
@@ -249,7 +257,7 @@ fn run_f64(
         p.index,
         p.updates,
         at,
-    );
+    )
 }
 
 // The scatter where the destination has cells, from the index low to the index high: it is lent on as that part.
@@ -261,16 +269,16 @@ fn cells_f64(
     into: &mut [f64],
     low: usize,
     high: usize,
-)
+) -> u64
     requires { ⌜ Cells p low high (length (now starts)) (length (now source)) (length (now into)) ⌝ }
-    ensures { λ _. ⌜ ((k : Cells p low high (length (now (starts .entry))) (length (now (source .entry))) (length (now (into .entry)))) → now (into .exit) ≡ scattered (ruleF64 rule) nan (k .scatter) (now (starts .entry)) (now (source .entry)) (now (into .entry))) ⌝ }
+    ensures { λ r. ⌜ ((k : Cells p low high (length (now (starts .entry))) (length (now (source .entry))) (length (now (into .entry)))) → (now (into .exit) ≡ scattered (ruleF64 rule) nan (k .scatter) (now (starts .entry)) (now (source .entry)) (now (into .entry))) × (r ≡ slidScatter (k .scatter) (now (starts .entry)))) ⌝ }
 {
     let end = high + 1;
     let from = low as i64;
     let at = p.dest - from;
     let axes = p.batch_axes;
     let rows = replay::rows_of(axes);
-    run_f64(rule, p, rows, starts, source, &mut into[low..end], at);
+    run_f64(rule, p, rows, starts, source, &mut into[low..end], at)
 }
 
 // A scatter of f64 that is prepared: where it is refused nothing is done.
@@ -280,21 +288,27 @@ pub fn move_f64(
     starts: &[i64],
     source: &[f64],
     into: &mut [f64],
-) -> Answer
+) -> CallAnswer
     requires { ⌜ Movable p (length (now starts)) (length (now source)) (length (now into)) ⌝ }
-    ensures { λ r. ⌜ ((k : Movable p (length (now (starts .entry))) (length (now (source .entry))) (length (now (into .entry)))) → Does asIs (p .answer) (scattered (ruleF64 rule) nan (k .scatter) (now (starts .entry)) (now (source .entry)) (now (into .entry))) (now (into .entry)) (now (into .exit)) r) ⌝ }
+    ensures { λ r. ⌜ ((k : Movable p (length (now (starts .entry))) (length (now (source .entry))) (length (now (into .entry)))) → Does asIs (p .answer) (slidScatter (k .scatter) (now (starts .entry))) (scattered (ruleF64 rule) nan (k .scatter) (now (starts .entry)) (now (source .entry)) (now (into .entry))) (now (into .entry)) (now (into .exit)) r) ⌝ }
 {
     let answer = p.answer;
     if !layout::is_done(answer) {
-        return answer;
+        return layout::refused_call(answer);
     }
     let reach = p.reach;
     match reach {
         Reach::Cells(low, high) => {
-            cells_f64(rule, p, starts, source, into, low, high);
-            answer
+            let reported = cells_f64(rule, p, starts, source, into, low, high);
+            CallAnswer { answer, reported }
         }
-        Reach::NoCells => answer,
-        Reach::Outside => answer,
+        Reach::NoCells => CallAnswer {
+            answer,
+            reported: 0,
+        },
+        Reach::Outside => CallAnswer {
+            answer,
+            reported: 0,
+        },
     }
 }

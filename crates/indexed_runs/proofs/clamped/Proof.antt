@@ -1,39 +1,45 @@
-use mathlib.Core.Path.{_≡_, sym, ap, subst, _∙_}
+use mathlib.Core.Path.{_≡_, refl, sym, ap, ap₂, subst, _∙_}
+use mathlib.Core.Bool.{not}
+use Prim.Native.Nat.{ℕ, min}
 use native.Mathlib.Omega.{arith}
-use lib.IntN.{ℤ, pos}
+use lib.IntN.{ℤ, pos, natAbs}
+use lib.Signed.{_≤ℤ_}
 use mir.Syntax.{w64}
 use mir.Val.{SFits}
 use Rattle.integer.specs.Z.{up, dn, only, known, back, zfacts}
+use Rattle.integer.specs.Defs.{minℤ, eqZ}
+use Rattle.integer.specs.Laws.{minℤ-by}
+use Rattle.indexing.specs.Start.{clamp}
+use Rattle.indexing.specs.Slid.{moved}
 use Rattle.indexed_runs.proofs.Ones.{clamped-by}
 use Rattle.indexed_runs.proofs.clamped.Statement.{statement}
 use Rattle.indexed_runs.proofs.clamped.Tie as tie
 
--- what is not below 0
-module _ (c : tie.After-not-below-zero) where
-  abbrev from : ℤ
-  from = c .before .args .x
+up-min : (a : ℕ) (limit : ℤ) → pos 0 ≤ℤ limit → up (minℤ (pos a) limit) ≡ min a (up limit)
+up-min a limit h = minℤ-by (pos a) limit (λ m. up m ≡ min a (up limit)) (λ l. omega (arith, zfacts, only limit, l, h)) (λ l. omega (arith, zfacts, only limit, l, h))
 
-  is : c .not-below-zero .result ≡ pos (up from)
-  is = c .not-below-zero .ensures ∙ ap (λ (z : ℤ). pos (up z)) (back (c .before .fits .x))
+dn-min : (a : ℕ) (limit : ℤ) → pos 0 ≤ℤ limit → dn (minℤ (pos a) limit) ≡ 0
+dn-min a limit h = minℤ-by (pos a) limit (λ m. dn m ≡ 0) (λ l. omega (arith, zfacts)) (λ l. omega (arith, zfacts, only limit, h))
 
-  fits : SFits w64 (c .not-below-zero .result)
-  fits = subst (SFits w64) (sym is) (record { sfits = omega (arith, zfacts, known (c .before .fits .x), only from) })
-
-  ups : up (c .not-below-zero .result) ≡ up from
-  ups = ap up is
-
-  dns : dn (c .not-below-zero .result) ≡ 0
-  dns = ap dn is
+moved-is : (x : ℤ) (limit : ℕ) → not (eqZ (clamp x limit 0) x) ≡ moved x limit 0
+unfolding moved
+moved-is x limit = refl
 
 returns : tie.Need-returns
-returns c = let q = c .before in
+returns c =
+    let m = c .before in
+    let q = m .before in
     let a = q .before in
-    clamped-by _ (a .args .x) (a .args .limit) (a .pre) (omega (arith, zfacts, ups q, dns q, known (fits q), known (a .fits .limit), only (a .args .limit))) (omega (arith, zfacts, a .pre, known (a .fits .limit), only (a .args .limit)))
-
-returns-2 : tie.Need-returns-2
-returns-2 c = let q = c .before in
-    let a = q .before in
-    clamped-by _ (a .args .x) (a .args .limit) (a .pre) (omega (arith, zfacts, ups q, dns q, known (fits q), known (a .fits .limit), only (a .args .limit), a .pre)) (omega (arith, zfacts, ups q, dns q, known (fits q)))
+    let x = a .args .x in
+    let limit = a .args .limit in
+    let y : q .not-below-zero .result ≡ pos (up x) = q .not-below-zero .ensures ∙ ap (λ (z : ℤ). pos (up z)) (back (a .fits .x)) in
+    let fy : SFits w64 (q .not-below-zero .result) = subst (SFits w64) (sym y) (record { sfits = omega (arith, zfacts, known (a .fits .x), only x) }) in
+    let e : m .at-most .result ≡ minℤ (pos (up x)) limit = m .at-most .ensures ∙ ap₂ minℤ (back fy ∙ y) (back (a .fits .limit)) in
+    let ups : up (m .at-most .result) ≡ min (up x) (up limit) = ap up e ∙ up-min (up x) limit (a .pre) in
+    let dns : dn (m .at-most .result) ≡ 0 = ap dn e ∙ dn-min (up x) limit (a .pre) in
+    let is : m .at-most .result ≡ clamp x (natAbs limit) 0 = clamped-by _ x limit (a .pre) ups dns in
+    let fr : SFits w64 (m .at-most .result) = record { sfits = omega (arith, zfacts, ups, dns, known (a .fits .x), known (a .fits .limit), only x) } in
+    (back fr ∙ is, c .differ .ensures ∙ ap₂ (λ (u v : ℤ). not (eqZ u v)) (back fr ∙ is) (back (a .fits .x)) ∙ moved-is x (natAbs limit))
 
 pub clamped-spec : {M : Type 1} → statement M
-clamped-spec = tie.close (tie.spec (λ c κs. tt) returns returns-2)
+clamped-spec = tie.close (tie.spec (λ c κs. tt) (λ c κs. tt) (λ c κs. tt) returns)

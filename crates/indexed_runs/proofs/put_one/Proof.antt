@@ -1,4 +1,5 @@
-use mathlib.Core.Path.{_≡_, refl}
+use mathlib.Core.Path.{_≡_, refl, ap, _∙_}
+use mathlib.Core.Bool.{Bool, cond}
 use native.Mathlib.Omega.{arith}
 use borrow.Author.Needs.{needs, sfits-of}
 use lib.ListN.{length, getD}
@@ -7,7 +8,7 @@ use Rattle.rules.specs.Rules.{ruleI32}
 use Rattle.rules.proofs.Stored.{stored}
 use Rattle.runs.proofs.Place.{read, Index}
 use Rattle.indexed_runs.specs.IndexedRuns.{oneAt}
-use Rattle.indexed_runs.proofs.Ones.{ones-index, ones-is, one-turn}
+use Rattle.indexed_runs.proofs.Ones.{ones-index, ones-is, ones-moved, one-turn}
 use Rattle.indexed_runs.proofs.put_one.Statement.{statement}
 use Rattle.indexed_runs.proofs.put_one.Tie as tie
 
@@ -16,11 +17,11 @@ module _ (c : tie.After-clamped) where
   abbrev at-start : tie.Start
   at-start = search
 
-  place : Index (c .clamped .result) (length (at-start .args .dst .now))
-  place = let a = at-start in ones-index _ _ _ _ (a .pre .1) (a .fits .limit) (omega (arith, a .good .1 .1 .1 .0 .1)) _ (a .pre .0) (sfits-of (c .before .x .given)) _ (c .clamped .ensures)
+  place : Index (c .clamped .result .at) (length (at-start .args .dst .now))
+  place = let a = at-start in ones-index _ _ _ _ (a .pre .1) (a .fits .limit) (omega (arith, a .good .1 .1 .1 .0 .1)) _ (a .pre .0) (sfits-of (c .before .x .given)) _ (c .clamped .ensures .0)
 
-  by-start : pos (natAbs (read (c .clamped .result))) ≡ oneAt (at-start .args .starts .now) (at-start .args .limit) (at-start .args .i)
-  by-start = let a = at-start in ones-is _ _ _ _ (a .pre .1) (a .fits .limit) (omega (arith, a .good .1 .1 .1 .0 .1)) _ (a .pre .0) (sfits-of (c .before .x .given)) _ (c .clamped .ensures)
+  by-start : pos (natAbs (read (c .clamped .result .at))) ≡ oneAt (at-start .args .starts .now) (at-start .args .limit) (at-start .args .i)
+  by-start = let a = at-start in ones-is _ _ _ _ (a .pre .1) (a .fits .limit) (omega (arith, a .good .1 .1 .1 .0 .1)) _ (a .pre .0) (sfits-of (c .before .x .given)) _ (c .clamped .ensures .0)
 
 mul-x : tie.Need-mul-x
 mul-x c = search needs
@@ -32,10 +33,14 @@ clamped-requires : tie.Need-clamped-requires
 clamped-requires c κs = search needs
 
 cast-b : tie.Need-cast-b
-cast-b c = place c .cast
+cast-b c =
+    let l : tie.After-clamped = search in
+    place l .cast
 
 mul-apply : tie.Need-mul-apply
-mul-apply c = omega (arith, place c .below, at-start c .good .1 .1 .1 .0 .1)
+mul-apply c =
+    let l : tie.After-clamped = search in
+    omega (arith, place l .below, at-start l .good .1 .1 .1 .0 .1)
 
 slice-copy-out-apply : tie.Need-slice-copy-out-apply
 slice-copy-out-apply c = let l : tie.After-clamped = search in place l .below
@@ -47,20 +52,28 @@ shared-slice-copy-out-apply : tie.Need-shared-slice-copy-out-apply
 shared-slice-copy-out-apply c = search needs
 
 mul-v : tie.Need-mul-v
-mul-v c = omega (arith, place (c .before .before .before) .below, at-start (c .before .before .before) .good .1 .1 .1 .0 .1)
+mul-v c =
+    let l : tie.After-clamped = search in
+    omega (arith, place l .below, at-start l .good .1 .1 .1 .0 .1)
 
 slice-set-from-v : tie.Need-slice-set-from-v
-slice-set-from-v c = place (c .before .before .before) .below
+slice-set-from-v c =
+    let l : tie.After-clamped = search in
+    place l .below
 
 same-length : tie.Need-same-length
 same-length c = search needs
 
 returns : tie.Need-returns
-returns c = let q = c .before .before .before in
+returns c =
+    let w : tie.After-apply = search in
+    let q : tie.After-clamped = search in
     let a = at-start q in
-    let m = natAbs (read (q .clamped .result)) in
-    one-turn (pos 0) (ruleI32 (a .args .rule)) (a .args .src .now) pos (oneAt (a .args .starts .now) (a .args .limit)) (a .args .dst .now) (a .args .i) (a .args .i) m _ refl (by-start q)
-    (stored (a .args .rule) (getD (a .args .dst .now) m (pos 0)) (getD (a .args .src .now) (a .args .i) (pos 0)) (c .apply .result) (sfits-of (c .before .before .apply-arg .given)) (sfits-of (c .before .apply-arg2 .given)) (c .apply .ensures))
+    let m = natAbs (read (q .clamped .result .at)) in (
+      one-turn (pos 0) (ruleI32 (a .args .rule)) (a .args .src .now) pos (oneAt (a .args .starts .now) (a .args .limit)) (a .args .dst .now) (a .args .i) (a .args .i) m _ refl (by-start q)
+          (stored (a .args .rule) (getD (a .args .dst .now) m (pos 0)) (getD (a .args .src .now) (a .args .i) (pos 0)) (w .apply .result) (sfits-of (w .before .before .apply-arg .given)) (sfits-of (w .before .apply-arg2 .given)) (w .apply .ensures)),
+      c .count-if .ensures ∙ ap (λ (b : Bool). cond b 1 0) (ones-moved (a .args .starts .now) (a .args .limit) (a .args .i) (a .fits .limit) (sfits-of (q .before .x .given)) _ (q .clamped .ensures .1)),
+    )
 
 pub put-one-spec : {M : Type 1} → statement M
 put-one-spec =
@@ -77,5 +90,6 @@ put-one-spec =
     (λ c κs. tt)
     mul-v
     slice-set-from-v
+    (λ c κs. tt)
     same-length
     returns)

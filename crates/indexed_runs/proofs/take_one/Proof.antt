@@ -1,4 +1,5 @@
-use mathlib.Core.Path.{_≡_, refl}
+use mathlib.Core.Path.{_≡_, refl, ap, _∙_}
+use mathlib.Core.Bool.{Bool, cond}
 use native.Mathlib.Omega.{arith}
 use borrow.Author.Needs.{needs, sfits-of}
 use lib.ListN.{length}
@@ -8,7 +9,7 @@ use Rattle.rules.specs.Rules.{ruleI32}
 use Rattle.rules.specs.declared.Rule.the-variants as R
 use Rattle.runs.proofs.Place.{read, Index}
 use Rattle.indexed_runs.specs.IndexedRuns.{oneAt}
-use Rattle.indexed_runs.proofs.Ones.{ones-index, ones-is, one-turn}
+use Rattle.indexed_runs.proofs.Ones.{ones-index, ones-is, ones-moved, one-turn}
 use Rattle.indexed_runs.proofs.take_one.Statement.{statement}
 use Rattle.indexed_runs.proofs.take_one.Tie as tie
 
@@ -17,11 +18,11 @@ module _ (c : tie.After-clamped) where
   abbrev at-start : tie.Start
   at-start = search
 
-  place : Index (c .clamped .result) (length (at-start .args .src .now))
-  place = let a = at-start in ones-index _ _ _ _ (a .pre .1) (a .fits .limit) (omega (arith, a .good .0 .1)) _ (a .pre .0) (sfits-of (c .before .x .given)) _ (c .clamped .ensures)
+  place : Index (c .clamped .result .at) (length (at-start .args .src .now))
+  place = let a = at-start in ones-index _ _ _ _ (a .pre .1) (a .fits .limit) (omega (arith, a .good .0 .1)) _ (a .pre .0) (sfits-of (c .before .x .given)) _ (c .clamped .ensures .0)
 
-  by-start : pos (natAbs (read (c .clamped .result))) ≡ oneAt (at-start .args .starts .now) (at-start .args .limit) (at-start .args .i)
-  by-start = let a = at-start in ones-is _ _ _ _ (a .pre .1) (a .fits .limit) (omega (arith, a .good .0 .1)) _ (a .pre .0) (sfits-of (c .before .x .given)) _ (c .clamped .ensures)
+  by-start : pos (natAbs (read (c .clamped .result .at))) ≡ oneAt (at-start .args .starts .now) (at-start .args .limit) (at-start .args .i)
+  by-start = let a = at-start in ones-is _ _ _ _ (a .pre .1) (a .fits .limit) (omega (arith, a .good .0 .1)) _ (a .pre .0) (sfits-of (c .before .x .given)) _ (c .clamped .ensures .0)
 
 mul-x : tie.Need-mul-x
 mul-x c = search needs
@@ -33,16 +34,20 @@ clamped-requires : tie.Need-clamped-requires
 clamped-requires c κs = search needs
 
 cast-a : tie.Need-cast-a
-cast-a c = place c .cast
+cast-a c =
+    let l : tie.After-clamped = search in
+    place l .cast
 
 mul-dst : tie.Need-mul-dst
-mul-dst c = omega (arith, place c .below, at-start c .good .0 .1)
+mul-dst c =
+    let l : tie.After-clamped = search in
+    omega (arith, place l .below, at-start l .good .0 .1)
 
 shared-slice-copy-out-dst : tie.Need-shared-slice-copy-out-dst
 shared-slice-copy-out-dst c = let l : tie.After-clamped = search in place l .below
 
-mul-t14 : tie.Need-mul-t14
-mul-t14 c = search needs
+mul-t16 : tie.Need-mul-t16
+mul-t16 c = search needs
 
 slice-set-from-dst : tie.Need-slice-set-from-dst
 slice-set-from-dst c = search needs
@@ -51,9 +56,13 @@ same-length : tie.Need-same-length
 same-length c = search needs
 
 returns : tie.Need-returns
-returns c = let q = c .before in
-    let a = at-start q in
-    one-turn (pos 0) (ruleI32 R.Replace) (a .args .src .now) (oneAt (a .args .starts .now) (a .args .limit)) pos (a .args .dst .now) (a .args .i) (natAbs (read (q .clamped .result))) (a .args .i) _ (by-start q) refl (back (sfits-of (c .dst .given)))
+returns c =
+    let v : tie.After-dst = search in
+    let q : tie.After-clamped = search in
+    let a = at-start q in (
+      one-turn (pos 0) (ruleI32 R.Replace) (a .args .src .now) (oneAt (a .args .starts .now) (a .args .limit)) pos (a .args .dst .now) (a .args .i) (natAbs (read (q .clamped .result .at))) (a .args .i) _ (by-start q) refl (back (sfits-of (v .dst .given))),
+      c .count-if .ensures ∙ ap (λ (b : Bool). cond b 1 0) (ones-moved (a .args .starts .now) (a .args .limit) (a .args .i) (a .fits .limit) (sfits-of (q .before .x .given)) _ (q .clamped .ensures .1)),
+    )
 
 pub take-one-spec : {M : Type 1} → statement M
 take-one-spec =
@@ -65,7 +74,8 @@ take-one-spec =
     cast-a
     mul-dst
     shared-slice-copy-out-dst
-    mul-t14
+    mul-t16
     slice-set-from-dst
+    (λ c κs. tt)
     same-length
     returns)
