@@ -2,3 +2,4 @@ pub mod Levels
 pub mod Single
 pub mod Stills
 pub mod Whole
+pub mod Batches

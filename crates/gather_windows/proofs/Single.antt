@@ -16,10 +16,12 @@ use Rattle.indexing.specs.Coordinates.{InSlice, elementAt}
 use Rattle.indexing.specs.Start.{clamp}
 use Rattle.indexing.specs.Axes.{sumOf}
 use Rattle.indexing.specs.Loops.{inOrder}
+use Rattle.indexing.specs.Slid.{moved, oneOf, howMany}
+use Rattle.indexing.specs.Counting.{many-same}
 use Rattle.runs.specs.Runs.{cellAt, line}
 use Rattle.runs.proofs.Turns.{same-places}
 use Rattle.runs.proofs.Place.{read, in-fits, line-zero}
-use Rattle.indexed_runs.specs.IndexedRuns.{componentAt, startAt, movedAt, Taking, clampedAt, Clamped}
+use Rattle.indexed_runs.specs.IndexedRuns.{componentAt, startAt, startMoved, startsMoved, movesAt, movedAt, Taking, clampedAt, Clamped}
 
 still : (s : ℤ) (k : ℕ) → line s (pos 0) k ≡ s
 still s k = ap (λ (m : ℕ). s +ℤ pos m) (zero-mul k) ∙ +ℤ-idr s
@@ -94,3 +96,15 @@ module _ (starts offsets strides : List ℤ) (limits : List ℕ) (count : ℕ) (
       ∙ ap₂ (λ (u v : ℤ). inOrder (cellAt z rule src (clampedAt starts (line (t +ℤ getD offsets 0 (pos 0)) ts) s (getD strides 0 (pos 0)) (getD limits 0 0)) (line u v)) n x) (back fd) (back fds)
       ∙ sym (same-places z rule src (movedAt starts offsets strides limits 1 (line s (pos 0)) (line t ts)) (line d ds) (clampedAt starts (line (t +ℤ getD offsets 0 (pos 0)) ts) s (getD strides 0 (pos 0)) (getD limits 0 0)) (line d ds) n (λ k _. single-place starts offsets strides limits s t ts k) (λ k _. refl) x)
       ∙ ap₂ (λ (m : ℕ) (u : ℤ). inOrder (cellAt z rule src (movedAt starts offsets strides limits m (line s u) (line t ts)) (line d ds)) n x) (sym one) (sym zero-step)
+
+  -- whether the one component is moved
+  only-moved : (k : ℕ) → movesAt starts (line (t +ℤ getD offsets 0 (pos 0)) ts) (getD limits 0 0) k ≡ startMoved starts offsets limits (line t ts k) 1
+  unfolding oneOf
+  only-moved k = ap (λ (u : ℤ). moved (elementAt (pos 0) starts u) (getD limits 0 0) 0) (ahead starts offsets strides limits s t ts k)
+
+  pub single-count : (c : ℕ) → c ≡ howMany n (movesAt starts (line (read (read t +ℤ read (getD offsets 0 (pos 0)))) (read ts)) (getD limits 0 0)) → c ≡ startsMoved starts offsets limits count n (line t ts)
+  single-count c h =
+      h
+      ∙ ap₂ (λ (f u : ℤ). howMany n (movesAt starts (line f u) (getD limits 0 0))) (back at-sum ∙ ap₂ _+ℤ_ (back ft) (back fo)) (back fts)
+      ∙ many-same n (movesAt starts (line (t +ℤ getD offsets 0 (pos 0)) ts) (getD limits 0 0)) (λ k. startMoved starts offsets limits (line t ts k) 1) (λ k _. only-moved k)
+      ∙ ap (λ (m : ℕ). startsMoved starts offsets limits m n (line t ts)) (sym one)

@@ -1,6 +1,6 @@
 -- What is done at the cells of a gather, in order, and where they lie. Definitions only.
 use mathlib.Core.Path.{_≡_}
-use mathlib.Core.Logic.{_≢_}
+use mathlib.Core.Logic.{_≢_, _⊎_}
 use mathlib.Core.List.{List}
 use Prim.Native.Nat.{ℕ, _-_, _<_, _≤_, _^_}
 use lib.ListN.{length, getD, take}
@@ -38,24 +38,28 @@ Still wide shape ts = (i : ℕ) → i < wide → StillAxis (getD shape i 0) (get
 abbrev pub BatchAxis : ℕ → ℕ → ℤ → Type 0
 BatchAxis extent batches step = (batches ≡ extent) ⊎ ((batches ≡ 1) × (step ≡ pos 0))
 
--- the first axes with their batches, whose number fits a u64 where there are cells
+-- the first axes with their batch coordinates, whose number fits a u64 where there are cells
 pub record Batched (shape batches : List ℕ) (ts : List ℤ) (rank : ℕ) : Type 0 where
   pub room : rank ≤ length batches
   pub each : (i : ℕ) → i < rank → BatchAxis (getD shape i 0) (getD batches i 0) (getD ts i (pos 0))
   pub fits : AllPos (take rank shape) → product (take rank batches) < 2 ^ 64
 
--- the first axes that have one batch coordinate, and no more
+-- the first axes that have one batch coordinate, as many as there are
 pub record WindowAxes (wide : ℕ) (batches : List ℕ) (rank : ℕ) : Type 0 where
   pub within : wide ≤ rank
   pub ones : Units wide batches
   pub stops : wide < rank → getD batches wide 0 ≢ 1
 
--- cells, an axis before which no axis has more than one place, and axes with one batch coordinate; the run goes along an axis of batches
-pub record GatherLevel (starts offsets strides : List ℤ) (limits : List ℕ) (count : ℕ) (s t d : ℤ) (shape batches : List ℕ) (ss ts ds : List ℤ) (low wide rank sn dn : ℕ) : Type 0 where
+-- cells, an axis before which no axis has more than one place, and axes that move no start
+pub record GatherLevel (starts offsets strides : List ℤ) (limits : List ℕ) (count : ℕ) (s t d : ℤ) (shape : List ℕ) (ss ts ds : List ℤ) (low wide rank sn dn : ℕ) : Type 0 where
   pub below : low < rank
   pub units : Units low shape
   pub positive : AllPos (take rank shape)
+  pub still : Still wide shape ts
+  pub walk : Gathering starts offsets strides limits count s t d shape ss ts ds rank sn dn
+
+-- batch coordinates, axes before `wide` that have one each, and an axis `low` that runs go along
+pub record BatchLevel (shape batches : List ℕ) (ts : List ℤ) (low wide rank : ℕ) : Type 0 where
   pub ones : Units wide batches
   pub run : wide ≤ low → getD batches low 0 ≡ getD shape low 0
-  pub walk : Gathering starts offsets strides limits count s t d shape ss ts ds rank sn dn
   pub batched : Batched shape batches ts rank

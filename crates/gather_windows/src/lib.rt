@@ -2,6 +2,8 @@
 // own. What each leaves is the plain loop over every linear index, first axis fastest; it hands back how many batch coordinates have a
 // start that the clamp moves.
 ghost use mathlib.Core.Path.{_≡_};
+ghost use mathlib.Core.Bool.{cond};
+ghost use lib.Dec.{ltb};
 ghost use Prim.Native.Nat.{_≤_};
 ghost use lib.IntN.{pos};
 ghost use lib.ListN.{length, take};
@@ -14,7 +16,7 @@ ghost use Rattle.runs.specs.Runs.{cellAt, line};
 ghost use Rattle.rules.specs.declared.Rule.the-variants as R;
 ghost use Rattle.indexed_runs.specs.IndexedRuns.{startsMoved, movedAt, Taking};
 ghost use Rattle.windows.specs.Windows.{placeAt};
-ghost use Rattle.gather_windows.specs.Gathering.{gatheredBy, Gathering, WindowAxes, Batched, GatherLevel};
+ghost use Rattle.gather_windows.specs.Gathering.{gatheredBy, Gathering, WindowAxes, Batched, GatherLevel, BatchLevel};
 use layout::RAW_FUSED_RANK_LIMIT;
 use rules::Rule;
 
@@ -92,6 +94,13 @@ pub fn gather_run(
     )
 }
 
+// What is counted at place j of an axis: a place that has a batch coordinate of its own counts.
+fn counted_at(j: u64, batches: u64, count: u64) -> u64
+    ensures { λ r. ⌜ r ≡ cond (ltb j batches) count 0 ⌝ }
+{
+    if j < batches { count } else { 0 }
+}
+
 // The cells of the first `rank` axes. There are some, the axes before `low` have one place each, and those before `wide` one batch
 // coordinate: where only such axes are left, the start is read once, and what is left is a window. Each batch coordinate is counted
 // once: along a window axis, which has one, what is read again is not counted again.
@@ -115,7 +124,7 @@ pub fn gather_axes(
     t: i64,
     d: i64,
 ) -> u64
-    requires { ⌜ GatherLevel (now starts) (now offsets) (now strides) (now limits) count s t d (now extents) (now batches) (now ss) (now ts) (now ds) low wide rank (length (now src)) (length (now dst)) ⌝ }
+    requires { ⌜ GatherLevel (now starts) (now offsets) (now strides) (now limits) count s t d (now extents) (now ss) (now ts) (now ds) low wide rank (length (now src)) (length (now dst)) × BatchLevel (now extents) (now batches) (now ts) low wide rank ⌝ }
     ensures { λ r. ⌜ (now (dst .exit) ≡ gatheredBy (pos 0) (ruleI32 R.Replace) (now (src .entry)) (now (starts .entry)) (now (offsets .entry)) (now (strides .entry)) (now (limits .entry)) count s t d (now (extents .entry)) (now (ss .entry)) (now (ts .entry)) (now (ds .entry)) rank (now (dst .entry))) × (r ≡ startsMoved (now (starts .entry)) (now (offsets .entry)) (now (limits .entry)) count (product (take rank (now (batches .entry)))) (placeAt t (now (batches .entry)) (now (ts .entry)) rank)) ⌝ }
 {
     if rank <= wide {
@@ -176,7 +185,7 @@ pub fn gather_axes(
             q,
             r,
         );
-        let more = layout::count_if(j < counted, below);
+        let more = counted_at(j, counted, below);
         slid += more;
         j += 1;
     }
