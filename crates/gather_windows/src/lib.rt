@@ -95,7 +95,7 @@ pub fn gather_run(
 }
 
 // What is counted at place j of an axis: a place that has a batch coordinate of its own counts.
-fn counted_at(j: u64, batches: u64, count: u64) -> u64
+pub fn counted_at(j: u64, batches: u64, count: u64) -> u64
     ensures { λ r. ⌜ r ≡ cond (ltb j batches) count 0 ⌝ }
 {
     if j < batches { count } else { 0 }

@@ -1,15 +1,19 @@
 // Written by tests/twins from crates/gather_windows/src/lib.rt.
 // The cells of a gather: all cells of up to eight axes, where the source's place is moved by a start that is read at a place of its
-// own. What each leaves is the plain loop over every linear index, first axis fastest.
+// own. What each leaves is the plain loop over every linear index, first axis fastest; it hands back how many batch coordinates have a
+// start that the clamp moves.
 ghost use mathlib.Core.Path.{_≡_};
 ghost use lib.Ieee.{nan};
-ghost use lib.ListN.{length};
+ghost use lib.ListN.{length, take};
 ghost use Rattle.indexing.specs.Loops.{inOrder};
+ghost use Rattle.indexing.specs.Slid.{slidOf};
+ghost use Rattle.indexing.specs.Coordinates.{product};
 ghost use Rattle.rules.specs.Rules.{ruleF64};
 ghost use Rattle.runs.specs.Runs.{cellAt, line};
 ghost use Rattle.rules.specs.declared.RuleF64.the-variants as R;
-ghost use Rattle.indexed_runs.specs.IndexedRuns.{movedAt, Taking};
-ghost use Rattle.gather_windows.specs.Gathering.{gatheredBy, Gathering, GatherLevel};
+ghost use Rattle.indexed_runs.specs.IndexedRuns.{startsMoved, movedAt, Taking};
+ghost use Rattle.windows.specs.Windows.{placeAt};
+ghost use Rattle.gather_windows.specs.Gathering.{gatheredBy, Gathering, Batched, GatherLevel, BatchLevel};
 use layout::RAW_FUSED_RANK_LIMIT;
 use rules::RuleF64;
 
@@ -29,17 +33,17 @@ pub fn gather_run(
     offsets: &[i64; RAW_FUSED_RANK_LIMIT],
     strides: &[i64; RAW_FUSED_RANK_LIMIT],
     limits: &[u64; RAW_FUSED_RANK_LIMIT],
-)
+) -> u64
     requires { ⌜ Taking (now starts) (now offsets) (now strides) (now limits) count s t d ss ts ds n (length (now src)) (length (now dst)) ⌝ }
-    ensures { λ _. ⌜ now (dst .exit) ≡ inOrder (cellAt nan (ruleF64 R.Replace) (now (src .entry)) (movedAt (now (starts .entry)) (now (offsets .entry)) (now (strides .entry)) (now (limits .entry)) count (line s ss) (line t ts)) (line d ds)) n (now (dst .entry)) ⌝ }
+    ensures { λ r. ⌜ (now (dst .exit) ≡ inOrder (cellAt nan (ruleF64 R.Replace) (now (src .entry)) (movedAt (now (starts .entry)) (now (offsets .entry)) (now (strides .entry)) (now (limits .entry)) count (line s ss) (line t ts)) (line d ds)) n (now (dst .entry))) × (r ≡ startsMoved (now (starts .entry)) (now (offsets .entry)) (now (limits .entry)) count n (line t ts)) ⌝ }
 {
     if n == 0 {
-        return;
+        return 0;
     }
     if count == 1 {
         if ss == 0 {
             let at = t + offsets[0];
-            indexed_runs_f64::take_run(
+            return indexed_runs_f64::take_run(
                 src,
                 starts,
                 dst,
@@ -52,7 +56,6 @@ pub fn gather_run(
                 d,
                 ds,
             );
-            return;
         }
     }
     indexed_runs_f64::take_cells(
@@ -70,16 +73,18 @@ pub fn gather_run(
         offsets,
         strides,
         limits,
-    );
+    )
 }
 
-// The cells of the first `rank` axes. There are some, the axes before `low` have one place each, and those before `wide` move no
-// start: where only such axes are left, the start is read once, and what is left is a window.
+// The cells of the first `rank` axes. There are some, the axes before `low` have one place each, and those before `wide` one batch
+// coordinate: where only such axes are left, the start is read once, and what is left is a window. Each batch coordinate is counted
+// once: along a window axis, which has one, what is read again is not counted again.
 pub fn gather_axes(
     src: &[f64],
     starts: &[i64],
     dst: &mut [f64],
     extents: &[u64; RAW_FUSED_RANK_LIMIT],
+    batches: &[u64; RAW_FUSED_RANK_LIMIT],
     ss: &[i64; RAW_FUSED_RANK_LIMIT],
     ts: &[i64; RAW_FUSED_RANK_LIMIT],
     ds: &[i64; RAW_FUSED_RANK_LIMIT],
@@ -93,22 +98,25 @@ pub fn gather_axes(
     s: i64,
     t: i64,
     d: i64,
-)
-    requires { ⌜ GatherLevel (now starts) (now offsets) (now strides) (now limits) count s t d (now extents) (now ss) (now ts) (now ds) low wide rank (length (now src)) (length (now dst)) ⌝ }
-    ensures { λ _. ⌜ now (dst .exit) ≡ gatheredBy nan (ruleF64 R.Replace) (now (src .entry)) (now (starts .entry)) (now (offsets .entry)) (now (strides .entry)) (now (limits .entry)) count s t d (now (extents .entry)) (now (ss .entry)) (now (ts .entry)) (now (ds .entry)) rank (now (dst .entry)) ⌝ }
+) -> u64
+    requires { ⌜ GatherLevel (now starts) (now offsets) (now strides) (now limits) count s t d (now extents) (now ss) (now ts) (now ds) low wide rank (length (now src)) (length (now dst)) × BatchLevel (now extents) (now batches) (now ts) low wide rank ⌝ }
+    ensures { λ r. ⌜ (now (dst .exit) ≡ gatheredBy nan (ruleF64 R.Replace) (now (src .entry)) (now (starts .entry)) (now (offsets .entry)) (now (strides .entry)) (now (limits .entry)) count s t d (now (extents .entry)) (now (ss .entry)) (now (ts .entry)) (now (ds .entry)) rank (now (dst .entry))) × (r ≡ startsMoved (now (starts .entry)) (now (offsets .entry)) (now (limits .entry)) count (product (take rank (now (batches .entry)))) (placeAt t (now (batches .entry)) (now (ts .entry)) rank)) ⌝ }
 {
     if rank <= wide {
-        let a = indexed_runs::started(starts, s, t, count, offsets, strides, limits);
+        let m = indexed_runs::started(starts, s, t, count, offsets, strides, limits);
+        let a = m.at;
+        let moved = m.moved;
         windows_f64::axes(RuleF64::Replace, src, dst, extents, ss, ds, low, rank, a, d);
-        return;
+        return layout::count_if(moved, 1);
     }
     let top = rank - 1;
     let n = extents[top];
+    let counted = batches[top];
     let x = ss[top];
     let y = ts[top];
     let z = ds[top];
     if top == low {
-        gather_run(
+        return gather_run(
             src,
             starts,
             dst,
@@ -124,19 +132,20 @@ pub fn gather_axes(
             strides,
             limits,
         );
-        return;
     }
+    let mut slid: u64 = 0;
     let mut j: u64 = 0;
     while j < n {
         let k = j as i64;
         let p = s + x * k;
         let q = t + y * k;
         let r = d + z * k;
-        gather_axes(
+        let below = gather_axes(
             src,
             starts,
             dst,
             extents,
+            batches,
             ss,
             ts,
             ds,
@@ -151,8 +160,11 @@ pub fn gather_axes(
             q,
             r,
         );
+        let more = gather_windows::counted_at(j, counted, below);
+        slid += more;
         j += 1;
     }
+    slid
 }
 
 // The cells of the first `rank` axes, of which there may be none.
@@ -161,6 +173,7 @@ pub fn gather_window(
     starts: &[i64],
     dst: &mut [f64],
     extents: &[u64; RAW_FUSED_RANK_LIMIT],
+    batches: &[u64; RAW_FUSED_RANK_LIMIT],
     ss: &[i64; RAW_FUSED_RANK_LIMIT],
     ts: &[i64; RAW_FUSED_RANK_LIMIT],
     ds: &[i64; RAW_FUSED_RANK_LIMIT],
@@ -172,12 +185,12 @@ pub fn gather_window(
     s: i64,
     t: i64,
     d: i64,
-)
-    requires { ⌜ Gathering (now starts) (now offsets) (now strides) (now limits) count s t d (now extents) (now ss) (now ts) (now ds) rank (length (now src)) (length (now dst)) ⌝ }
-    ensures { λ _. ⌜ now (dst .exit) ≡ gatheredBy nan (ruleF64 R.Replace) (now (src .entry)) (now (starts .entry)) (now (offsets .entry)) (now (strides .entry)) (now (limits .entry)) count s t d (now (extents .entry)) (now (ss .entry)) (now (ts .entry)) (now (ds .entry)) rank (now (dst .entry)) ⌝ }
+) -> u64
+    requires { ⌜ Gathering (now starts) (now offsets) (now strides) (now limits) count s t d (now extents) (now ss) (now ts) (now ds) rank (length (now src)) (length (now dst)) × Batched (now extents) (now batches) (now ts) rank ⌝ }
+    ensures { λ r. ⌜ (now (dst .exit) ≡ gatheredBy nan (ruleF64 R.Replace) (now (src .entry)) (now (starts .entry)) (now (offsets .entry)) (now (strides .entry)) (now (limits .entry)) count s t d (now (extents .entry)) (now (ss .entry)) (now (ts .entry)) (now (ds .entry)) rank (now (dst .entry))) × (r ≡ slidOf (product (take rank (now (extents .entry)))) (startsMoved (now (starts .entry)) (now (offsets .entry)) (now (limits .entry)) count (product (take rank (now (batches .entry)))) (placeAt t (now (batches .entry)) (now (ts .entry)) rank))) ⌝ }
 {
     if rank == 0 {
-        gather_run(
+        return gather_run(
             src,
             starts,
             dst,
@@ -193,18 +206,18 @@ pub fn gather_window(
             strides,
             limits,
         );
-        return;
     }
     if spans::has_zero(*extents, rank) {
-        return;
+        return 0;
     }
     let low = windows::run_axis(extents, rank);
-    let wide = gather_windows::still_axes(extents, ts, rank);
+    let wide = gather_windows::window_axes(batches, rank);
     gather_axes(
         src,
         starts,
         dst,
         extents,
+        batches,
         ss,
         ts,
         ds,
@@ -218,5 +231,5 @@ pub fn gather_window(
         s,
         t,
         d,
-    );
+    )
 }

@@ -346,78 +346,70 @@ pub fn put_cells(
     ensures { λ r. ⌜ (now (dst .exit) ≡ inOrder (cellAt (pos 0) (ruleI32 rule) (now (src .entry)) (line s ss) (movedAt (now (starts .entry)) (now (offsets .entry)) (now (strides .entry)) (now (limits .entry)) count (λ _. d) (line t ts))) n (now (dst .entry))) × (r ≡ startsMoved (now (starts .entry)) (now (offsets .entry)) (now (limits .entry)) count n (line t ts)) ⌝ }
 {
     match rule {
-        Rule::Add => {
-            put_cells_by(
-                Rule::Add,
-                src,
-                starts,
-                dst,
-                n,
-                s,
-                t,
-                d,
-                ss,
-                ts,
-                count,
-                offsets,
-                strides,
-                limits,
-            )
-        }
-        Rule::Lowest => {
-            put_cells_by(
-                Rule::Lowest,
-                src,
-                starts,
-                dst,
-                n,
-                s,
-                t,
-                d,
-                ss,
-                ts,
-                count,
-                offsets,
-                strides,
-                limits,
-            )
-        }
-        Rule::Highest => {
-            put_cells_by(
-                Rule::Highest,
-                src,
-                starts,
-                dst,
-                n,
-                s,
-                t,
-                d,
-                ss,
-                ts,
-                count,
-                offsets,
-                strides,
-                limits,
-            )
-        }
-        Rule::Replace => {
-            put_cells_by(
-                Rule::Replace,
-                src,
-                starts,
-                dst,
-                n,
-                s,
-                t,
-                d,
-                ss,
-                ts,
-                count,
-                offsets,
-                strides,
-                limits,
-            )
-        }
+        Rule::Add => put_cells_by(
+            Rule::Add,
+            src,
+            starts,
+            dst,
+            n,
+            s,
+            t,
+            d,
+            ss,
+            ts,
+            count,
+            offsets,
+            strides,
+            limits,
+        ),
+        Rule::Lowest => put_cells_by(
+            Rule::Lowest,
+            src,
+            starts,
+            dst,
+            n,
+            s,
+            t,
+            d,
+            ss,
+            ts,
+            count,
+            offsets,
+            strides,
+            limits,
+        ),
+        Rule::Highest => put_cells_by(
+            Rule::Highest,
+            src,
+            starts,
+            dst,
+            n,
+            s,
+            t,
+            d,
+            ss,
+            ts,
+            count,
+            offsets,
+            strides,
+            limits,
+        ),
+        Rule::Replace => put_cells_by(
+            Rule::Replace,
+            src,
+            starts,
+            dst,
+            n,
+            s,
+            t,
+            d,
+            ss,
+            ts,
+            count,
+            offsets,
+            strides,
+            limits,
+        ),
     }
 }
 
@@ -478,70 +470,62 @@ pub fn put_strided(
     ensures { λ r. ⌜ (now (dst .exit) ≡ inOrder (cellAt (pos 0) (ruleI32 rule) (now (src .entry)) (line s ss) (clampedAt (now (starts .entry)) (line t ts) base stride limit)) n (now (dst .entry))) × (r ≡ howMany n (movesAt (now (starts .entry)) (line t ts) limit)) ⌝ }
 {
     match rule {
-        Rule::Add => {
-            put_strided_by(
-                Rule::Add,
-                src,
-                starts,
-                dst,
-                n,
-                t,
-                ts,
-                base,
-                stride,
-                limit,
-                s,
-                ss,
-            )
-        }
-        Rule::Lowest => {
-            put_strided_by(
-                Rule::Lowest,
-                src,
-                starts,
-                dst,
-                n,
-                t,
-                ts,
-                base,
-                stride,
-                limit,
-                s,
-                ss,
-            )
-        }
-        Rule::Highest => {
-            put_strided_by(
-                Rule::Highest,
-                src,
-                starts,
-                dst,
-                n,
-                t,
-                ts,
-                base,
-                stride,
-                limit,
-                s,
-                ss,
-            )
-        }
-        Rule::Replace => {
-            put_strided_by(
-                Rule::Replace,
-                src,
-                starts,
-                dst,
-                n,
-                t,
-                ts,
-                base,
-                stride,
-                limit,
-                s,
-                ss,
-            )
-        }
+        Rule::Add => put_strided_by(
+            Rule::Add,
+            src,
+            starts,
+            dst,
+            n,
+            t,
+            ts,
+            base,
+            stride,
+            limit,
+            s,
+            ss,
+        ),
+        Rule::Lowest => put_strided_by(
+            Rule::Lowest,
+            src,
+            starts,
+            dst,
+            n,
+            t,
+            ts,
+            base,
+            stride,
+            limit,
+            s,
+            ss,
+        ),
+        Rule::Highest => put_strided_by(
+            Rule::Highest,
+            src,
+            starts,
+            dst,
+            n,
+            t,
+            ts,
+            base,
+            stride,
+            limit,
+            s,
+            ss,
+        ),
+        Rule::Replace => put_strided_by(
+            Rule::Replace,
+            src,
+            starts,
+            dst,
+            n,
+            t,
+            ts,
+            base,
+            stride,
+            limit,
+            s,
+            ss,
+        ),
     }
 }
 
@@ -621,10 +605,10 @@ pub fn put_ones(rule: Rule, src: &[i32], starts: &[i64], dst: &mut [i32], limit:
     let fours = n / 4;
     let twos = 2 * fours;
     match rule {
-        Rule::Add => { put_turns(Rule::Add, src, starts, dst, limit, over, fours, 4) }
-        Rule::Lowest => { put_turns(Rule::Lowest, src, starts, dst, limit, over, fours, 4) }
-        Rule::Highest => { put_turns(Rule::Highest, src, starts, dst, limit, over, fours, 4) }
-        Rule::Replace => { put_turns(Rule::Replace, src, starts, dst, limit, over, twos, 2) }
+        Rule::Add => put_turns(Rule::Add, src, starts, dst, limit, over, fours, 4),
+        Rule::Lowest => put_turns(Rule::Lowest, src, starts, dst, limit, over, fours, 4),
+        Rule::Highest => put_turns(Rule::Highest, src, starts, dst, limit, over, fours, 4),
+        Rule::Replace => put_turns(Rule::Replace, src, starts, dst, limit, over, twos, 2),
     }
 }
 

@@ -1,15 +1,18 @@
 // Written by tests/twins from crates/indexed_runs/src/lib.rt.
-// Runs whose places on one side are given by starts, each clamped: windows of one cell, whose start changes with each cell.
+// Runs whose places on one side are given by starts, each clamped: windows of one cell, whose start changes with each cell. Each hands
+// back how many of its starts the clamp moved.
 ghost use mathlib.Core.Path.{_≡_};
+ghost use mathlib.Core.Bool.{cond};
 ghost use Prim.Native.Nat.{_+_, _*_, _-_, _<_, _≤_};
 ghost use lib.Ieee.{nan};
-ghost use lib.IntN.{pos};
+ghost use lib.IntN.{pos, natAbs};
 ghost use lib.ListN.{length};
+ghost use Rattle.indexing.specs.Slid.{howMany};
 ghost use Rattle.indexing.specs.Loops.{inOrder};
 ghost use Rattle.rules.specs.Rules.{ruleF64};
 ghost use Rattle.runs.specs.Runs.{cellAt, line};
 ghost use Rattle.rules.specs.declared.RuleF64.the-variants as R;
-ghost use Rattle.indexed_runs.specs.IndexedRuns.{movedAt, Taking, Putting, clampedAt, Clamped, oneAt, Ones};
+ghost use Rattle.indexed_runs.specs.IndexedRuns.{startsMoved, movesAt, movedAt, Taking, Putting, clampedAt, Clamped, oneAt, Ones};
 use layout::RAW_FUSED_RANK_LIMIT;
 use rules::RuleF64;
 
@@ -29,21 +32,27 @@ pub fn take_cells(
     offsets: &[i64; RAW_FUSED_RANK_LIMIT],
     strides: &[i64; RAW_FUSED_RANK_LIMIT],
     limits: &[u64; RAW_FUSED_RANK_LIMIT],
-)
+) -> u64
     requires { ⌜ Taking (now starts) (now offsets) (now strides) (now limits) count s t d ss ts ds n (length (now src)) (length (now dst)) ⌝ }
-    ensures { λ _. ⌜ now (dst .exit) ≡ inOrder (cellAt nan (ruleF64 R.Replace) (now (src .entry)) (movedAt (now (starts .entry)) (now (offsets .entry)) (now (strides .entry)) (now (limits .entry)) count (line s ss) (line t ts)) (line d ds)) n (now (dst .entry)) ⌝ }
+    ensures { λ r. ⌜ (now (dst .exit) ≡ inOrder (cellAt nan (ruleF64 R.Replace) (now (src .entry)) (movedAt (now (starts .entry)) (now (offsets .entry)) (now (strides .entry)) (now (limits .entry)) count (line s ss) (line t ts)) (line d ds)) n (now (dst .entry))) × (r ≡ startsMoved (now (starts .entry)) (now (offsets .entry)) (now (limits .entry)) count n (line t ts)) ⌝ }
 {
+    let mut slid: u64 = 0;
     let mut i: usize = 0;
     while i < n {
         let k = i as i64;
         let p = s + ss * k;
         let q = t + ts * k;
         let m = indexed_runs::started(starts, p, q, count, offsets, strides, limits);
-        let a = m as usize;
+        let x = m.at;
+        let y = m.moved;
+        let a = x as usize;
         let b = (d + ds * k) as usize;
         dst[b] = src[a];
+        let one = layout::count_if(y, 1);
+        slid += one;
         i += 1;
     }
+    slid
 }
 
 // n cells: the source's place by the start read at t by ts, clamped, times the stride; the destination's from d by ds.
@@ -59,65 +68,94 @@ pub fn take_strided(
     limit: u64,
     d: i64,
     ds: i64,
-)
+) -> u64
     requires { ⌜ Clamped (now starts) t ts base stride d ds limit n (length (now src)) (length (now dst)) ⌝ }
-    ensures { λ _. ⌜ now (dst .exit) ≡ inOrder (cellAt nan (ruleF64 R.Replace) (now (src .entry)) (clampedAt (now (starts .entry)) (line t ts) base stride limit) (line d ds)) n (now (dst .entry)) ⌝ }
+    ensures { λ r. ⌜ (now (dst .exit) ≡ inOrder (cellAt nan (ruleF64 R.Replace) (now (src .entry)) (clampedAt (now (starts .entry)) (line t ts) base stride limit) (line d ds)) n (now (dst .entry))) × (r ≡ howMany n (movesAt (now (starts .entry)) (line t ts) limit)) ⌝ }
 {
+    let mut slid: u64 = 0;
     let mut i: usize = 0;
     while i < n {
         let k = i as i64;
         let p = (t + ts * k) as usize;
         let x = starts[p];
         let y = layout::clamp_window_start(x, limit, 0);
-        let c = y as i64;
+        let c = y.start as i64;
+        let m = y.moved;
         let a = (base + stride * c) as usize;
         let b = (d + ds * k) as usize;
         dst[b] = src[a];
+        let one = layout::count_if(m, 1);
+        slid += one;
         i += 1;
     }
+    slid
 }
 
-// Cell i: of the source where start i says, clamped; of the destination in order.
-fn take_one(src: &[f64], starts: &[i64], dst: &mut [f64], limit: i64, i: usize)
+// Cell i: of the source where start i says, clamped; of the destination in order. 1 where the start is moved.
+fn take_one(src: &[f64], starts: &[i64], dst: &mut [f64], limit: i64, i: usize) -> u64
     requires { ⌜ (i < length (now dst)) × Ones (now starts) limit (length (now dst)) (length (now src)) ⌝ }
-    ensures { λ _. ⌜ now (dst .exit) ≡ cellAt nan (ruleF64 R.Replace) (now (src .entry)) (oneAt (now (starts .entry)) limit) pos i (now (dst .entry)) ⌝ }
+    ensures { λ r. ⌜ (now (dst .exit) ≡ cellAt nan (ruleF64 R.Replace) (now (src .entry)) (oneAt (now (starts .entry)) limit) pos i (now (dst .entry))) × (r ≡ cond (movesAt (now (starts .entry)) pos (natAbs limit) i) 1 0) ⌝ }
 {
     let x = starts[i];
     let y = indexed_runs::clamped(x, limit);
-    let a = y as usize;
+    let at = y.at;
+    let m = y.moved;
+    let a = at as usize;
     dst[i] = src[a];
+    layout::count_if(m, 1)
 }
 
-// The first n cells.
-fn take_few(src: &[f64], starts: &[i64], dst: &mut [f64], limit: i64, n: usize)
-    requires { ⌜ (n ≤ length (now dst)) × Ones (now starts) limit (length (now dst)) (length (now src)) ⌝ }
-    ensures { λ _. ⌜ now (dst .exit) ≡ inOrder (cellAt nan (ruleF64 R.Replace) (now (src .entry)) (oneAt (now (starts .entry)) limit) pos) n (now (dst .entry)) ⌝ }
+// The cells from `from` up to `to`.
+fn take_few(src: &[f64], starts: &[i64], dst: &mut [f64], limit: i64, from: usize, to: usize) -> u64
+    requires { ⌜ (from ≤ to) × (to ≤ length (now dst)) × Ones (now starts) limit (length (now dst)) (length (now src)) ⌝ }
+    ensures { λ r. ⌜ (now (dst .exit) ≡ inOrder (λ k. cellAt nan (ruleF64 R.Replace) (now (src .entry)) (oneAt (now (starts .entry)) limit) pos (k + from)) (to - from) (now (dst .entry))) × (r ≡ howMany (to - from) (λ k. movesAt (now (starts .entry)) pos (natAbs limit) (k + from))) ⌝ }
 {
-    let mut i: usize = 0;
-    while i < n {
-        take_one(src, starts, dst, limit, i);
+    let mut slid: u64 = 0;
+    let mut i = from;
+    while i < to {
+        let one = take_one(src, starts, dst, limit, i);
+        slid += one;
         i += 1;
     }
+    slid
 }
 
-// A cell for each start: of the source where the start says, clamped; of the destination in order. Four to a turn, behind those
+// A cell for each start: of the source where the start says, clamped; of the destination in order. `width` to a turn, behind those
 // that are over.
-pub fn take_ones(src: &[f64], starts: &[i64], dst: &mut [f64], limit: i64)
+fn take_turns(
+    src: &[f64],
+    starts: &[i64],
+    dst: &mut [f64],
+    limit: i64,
+    over: usize,
+    turns: usize,
+    width: usize,
+) -> u64
+    requires { ⌜ (over + width * turns ≡ length (now dst)) × Ones (now starts) limit (length (now dst)) (length (now src)) ⌝ }
+    ensures { λ r. ⌜ (now (dst .exit) ≡ inOrder (cellAt nan (ruleF64 R.Replace) (now (src .entry)) (oneAt (now (starts .entry)) limit) pos) (length (now (dst .entry))) (now (dst .entry))) × (r ≡ howMany (length (now (dst .entry))) (movesAt (now (starts .entry)) pos (natAbs limit))) ⌝ }
+{
+    let mut slid = take_few(src, starts, dst, limit, 0, over);
+    let mut i = over;
+    let mut left = turns;
+    while 0 < left {
+        let e = i + width;
+        let few = take_few(src, starts, dst, limit, i, e);
+        slid += few;
+        i = e;
+        left -= 1;
+    }
+    slid
+}
+
+// The same, four to a turn.
+pub fn take_ones(src: &[f64], starts: &[i64], dst: &mut [f64], limit: i64) -> u64
     requires { ⌜ Ones (now starts) limit (length (now dst)) (length (now src)) ⌝ }
-    ensures { λ _. ⌜ now (dst .exit) ≡ inOrder (cellAt nan (ruleF64 R.Replace) (now (src .entry)) (oneAt (now (starts .entry)) limit) pos) (length (now (dst .entry))) (now (dst .entry)) ⌝ }
+    ensures { λ r. ⌜ (now (dst .exit) ≡ inOrder (cellAt nan (ruleF64 R.Replace) (now (src .entry)) (oneAt (now (starts .entry)) limit) pos) (length (now (dst .entry))) (now (dst .entry))) × (r ≡ howMany (length (now (dst .entry))) (movesAt (now (starts .entry)) pos (natAbs limit))) ⌝ }
 {
     let n = dst.len();
-    let mut fours = n / 4;
-    let mut i = n - 4 * fours;
-    take_few(src, starts, dst, limit, i);
-    while 0 < fours {
-        take_one(src, starts, dst, limit, i);
-        take_one(src, starts, dst, limit, i + 1);
-        take_one(src, starts, dst, limit, i + 2);
-        take_one(src, starts, dst, limit, i + 3);
-        i += 4;
-        fours -= 1;
-    }
+    let over = n % 4;
+    let fours = n / 4;
+    take_turns(src, starts, dst, limit, over, fours, 4)
 }
 
 // n cells whose every step is 1: on the parts of the starts and the destination that they are, and the source from the base on.
@@ -130,9 +168,9 @@ pub fn take_row(
     base: i64,
     limit: u64,
     d: i64,
-)
+) -> u64
     requires { ⌜ (0 < n) × Clamped (now starts) t (pos 1) base (pos 1) d (pos 1) limit n (length (now src)) (length (now dst)) ⌝ }
-    ensures { λ _. ⌜ now (dst .exit) ≡ inOrder (cellAt nan (ruleF64 R.Replace) (now (src .entry)) (clampedAt (now (starts .entry)) (line t (pos 1)) base (pos 1) limit) (line d (pos 1))) n (now (dst .entry)) ⌝ }
+    ensures { λ r. ⌜ (now (dst .exit) ≡ inOrder (cellAt nan (ruleF64 R.Replace) (now (src .entry)) (clampedAt (now (starts .entry)) (line t (pos 1)) base (pos 1) limit) (line d (pos 1))) n (now (dst .entry))) × (r ≡ howMany n (movesAt (now (starts .entry)) (line t (pos 1)) limit)) ⌝ }
 {
     let l = limit as i64;
     let a = t as usize;
@@ -141,7 +179,7 @@ pub fn take_row(
     let e = a + n;
     let f = b + n;
     let m = src.len();
-    take_ones(&src[c..m], &starts[a..e], &mut dst[b..f], l);
+    take_ones(&src[c..m], &starts[a..e], &mut dst[b..f], l)
 }
 
 // n cells: by take_row where every step is 1, else by take_strided.
@@ -157,22 +195,21 @@ pub fn take_run(
     limit: u64,
     d: i64,
     ds: i64,
-)
+) -> u64
     requires { ⌜ Clamped (now starts) t ts base stride d ds limit n (length (now src)) (length (now dst)) ⌝ }
-    ensures { λ _. ⌜ now (dst .exit) ≡ inOrder (cellAt nan (ruleF64 R.Replace) (now (src .entry)) (clampedAt (now (starts .entry)) (line t ts) base stride limit) (line d ds)) n (now (dst .entry)) ⌝ }
+    ensures { λ r. ⌜ (now (dst .exit) ≡ inOrder (cellAt nan (ruleF64 R.Replace) (now (src .entry)) (clampedAt (now (starts .entry)) (line t ts) base stride limit) (line d ds)) n (now (dst .entry))) × (r ≡ howMany n (movesAt (now (starts .entry)) (line t ts) limit)) ⌝ }
 {
     if n == 0 {
-        return;
+        return 0;
     }
     if ts == 1 {
         if stride == 1 {
             if ds == 1 {
-                take_row(src, starts, dst, n, t, base, limit, d);
-                return;
+                return take_row(src, starts, dst, n, t, base, limit, d);
             }
         }
     }
-    take_strided(src, starts, dst, n, t, ts, base, stride, limit, d, ds);
+    take_strided(src, starts, dst, n, t, ts, base, stride, limit, d, ds)
 }
 
 // n cells by the rule, where starts have components: the source's place from s by ss; the destination's is d, moved by the start read
@@ -193,24 +230,30 @@ fn put_cells_by(
     offsets: &[i64; RAW_FUSED_RANK_LIMIT],
     strides: &[i64; RAW_FUSED_RANK_LIMIT],
     limits: &[u64; RAW_FUSED_RANK_LIMIT],
-)
+) -> u64
     requires { ⌜ (0 < count) × Putting (now starts) (now offsets) (now strides) (now limits) count s t d ss ts n (length (now src)) (length (now dst)) ⌝ }
-    ensures { λ _. ⌜ now (dst .exit) ≡ inOrder (cellAt nan (ruleF64 rule) (now (src .entry)) (line s ss) (movedAt (now (starts .entry)) (now (offsets .entry)) (now (strides .entry)) (now (limits .entry)) count (λ _. d) (line t ts))) n (now (dst .entry)) ⌝ }
+    ensures { λ r. ⌜ (now (dst .exit) ≡ inOrder (cellAt nan (ruleF64 rule) (now (src .entry)) (line s ss) (movedAt (now (starts .entry)) (now (offsets .entry)) (now (strides .entry)) (now (limits .entry)) count (λ _. d) (line t ts))) n (now (dst .entry))) × (r ≡ startsMoved (now (starts .entry)) (now (offsets .entry)) (now (limits .entry)) count n (line t ts)) ⌝ }
 {
     if count == 0 {
-        return;
+        return 0;
     }
+    let mut slid: u64 = 0;
     let mut i: usize = 0;
     while i < n {
         let k = i as i64;
         let q = t + ts * k;
         let m = indexed_runs::started(starts, d, q, count, offsets, strides, limits);
-        let b = m as usize;
+        let x = m.at;
+        let y = m.moved;
+        let b = x as usize;
         let a = (s + ss * k) as usize;
         let v = rules::apply_f64(rule, dst[b], src[a]);
         dst[b] = v;
+        let one = layout::count_if(y, 1);
+        slid += one;
         i += 1;
     }
+    slid
 }
 
 // The same, by a loop of each rule's own: the rule is asked once, outside the loop.
@@ -229,101 +272,91 @@ pub fn put_cells(
     offsets: &[i64; RAW_FUSED_RANK_LIMIT],
     strides: &[i64; RAW_FUSED_RANK_LIMIT],
     limits: &[u64; RAW_FUSED_RANK_LIMIT],
-)
+) -> u64
     requires { ⌜ (0 < count) × Putting (now starts) (now offsets) (now strides) (now limits) count s t d ss ts n (length (now src)) (length (now dst)) ⌝ }
-    ensures { λ _. ⌜ now (dst .exit) ≡ inOrder (cellAt nan (ruleF64 rule) (now (src .entry)) (line s ss) (movedAt (now (starts .entry)) (now (offsets .entry)) (now (strides .entry)) (now (limits .entry)) count (λ _. d) (line t ts))) n (now (dst .entry)) ⌝ }
+    ensures { λ r. ⌜ (now (dst .exit) ≡ inOrder (cellAt nan (ruleF64 rule) (now (src .entry)) (line s ss) (movedAt (now (starts .entry)) (now (offsets .entry)) (now (strides .entry)) (now (limits .entry)) count (λ _. d) (line t ts))) n (now (dst .entry))) × (r ≡ startsMoved (now (starts .entry)) (now (offsets .entry)) (now (limits .entry)) count n (line t ts)) ⌝ }
 {
     match rule {
-        RuleF64::Add => {
-            put_cells_by(
-                RuleF64::Add,
-                src,
-                starts,
-                dst,
-                n,
-                s,
-                t,
-                d,
-                ss,
-                ts,
-                count,
-                offsets,
-                strides,
-                limits,
-            );
-        }
-        RuleF64::Lowest => {
-            put_cells_by(
-                RuleF64::Lowest,
-                src,
-                starts,
-                dst,
-                n,
-                s,
-                t,
-                d,
-                ss,
-                ts,
-                count,
-                offsets,
-                strides,
-                limits,
-            );
-        }
-        RuleF64::Highest => {
-            put_cells_by(
-                RuleF64::Highest,
-                src,
-                starts,
-                dst,
-                n,
-                s,
-                t,
-                d,
-                ss,
-                ts,
-                count,
-                offsets,
-                strides,
-                limits,
-            );
-        }
-        RuleF64::Replace => {
-            put_cells_by(
-                RuleF64::Replace,
-                src,
-                starts,
-                dst,
-                n,
-                s,
-                t,
-                d,
-                ss,
-                ts,
-                count,
-                offsets,
-                strides,
-                limits,
-            );
-        }
-        RuleF64::Ceiling(ceiling) => {
-            put_cells_by(
-                RuleF64::Ceiling(ceiling),
-                src,
-                starts,
-                dst,
-                n,
-                s,
-                t,
-                d,
-                ss,
-                ts,
-                count,
-                offsets,
-                strides,
-                limits,
-            );
-        }
+        RuleF64::Add => put_cells_by(
+            RuleF64::Add,
+            src,
+            starts,
+            dst,
+            n,
+            s,
+            t,
+            d,
+            ss,
+            ts,
+            count,
+            offsets,
+            strides,
+            limits,
+        ),
+        RuleF64::Lowest => put_cells_by(
+            RuleF64::Lowest,
+            src,
+            starts,
+            dst,
+            n,
+            s,
+            t,
+            d,
+            ss,
+            ts,
+            count,
+            offsets,
+            strides,
+            limits,
+        ),
+        RuleF64::Highest => put_cells_by(
+            RuleF64::Highest,
+            src,
+            starts,
+            dst,
+            n,
+            s,
+            t,
+            d,
+            ss,
+            ts,
+            count,
+            offsets,
+            strides,
+            limits,
+        ),
+        RuleF64::Replace => put_cells_by(
+            RuleF64::Replace,
+            src,
+            starts,
+            dst,
+            n,
+            s,
+            t,
+            d,
+            ss,
+            ts,
+            count,
+            offsets,
+            strides,
+            limits,
+        ),
+        RuleF64::Ceiling(ceiling) => put_cells_by(
+            RuleF64::Ceiling(ceiling),
+            src,
+            starts,
+            dst,
+            n,
+            s,
+            t,
+            d,
+            ss,
+            ts,
+            count,
+            offsets,
+            strides,
+            limits,
+        ),
     }
 }
 
@@ -341,23 +374,28 @@ fn put_strided_by(
     limit: u64,
     s: i64,
     ss: i64,
-)
+) -> u64
     requires { ⌜ Clamped (now starts) t ts base stride s ss limit n (length (now dst)) (length (now src)) ⌝ }
-    ensures { λ _. ⌜ now (dst .exit) ≡ inOrder (cellAt nan (ruleF64 rule) (now (src .entry)) (line s ss) (clampedAt (now (starts .entry)) (line t ts) base stride limit)) n (now (dst .entry)) ⌝ }
+    ensures { λ r. ⌜ (now (dst .exit) ≡ inOrder (cellAt nan (ruleF64 rule) (now (src .entry)) (line s ss) (clampedAt (now (starts .entry)) (line t ts) base stride limit)) n (now (dst .entry))) × (r ≡ howMany n (movesAt (now (starts .entry)) (line t ts) limit)) ⌝ }
 {
+    let mut slid: u64 = 0;
     let mut i: usize = 0;
     while i < n {
         let k = i as i64;
         let p = (t + ts * k) as usize;
         let x = starts[p];
         let y = layout::clamp_window_start(x, limit, 0);
-        let c = y as i64;
+        let c = y.start as i64;
+        let m = y.moved;
         let b = (base + stride * c) as usize;
         let a = (s + ss * k) as usize;
         let v = rules::apply_f64(rule, dst[b], src[a]);
         dst[b] = v;
+        let one = layout::count_if(m, 1);
+        slid += one;
         i += 1;
     }
+    slid
 }
 
 // The same, by a loop of each rule's own: the rule is asked once, outside the loop.
@@ -374,104 +412,97 @@ pub fn put_strided(
     limit: u64,
     s: i64,
     ss: i64,
-)
+) -> u64
     requires { ⌜ Clamped (now starts) t ts base stride s ss limit n (length (now dst)) (length (now src)) ⌝ }
-    ensures { λ _. ⌜ now (dst .exit) ≡ inOrder (cellAt nan (ruleF64 rule) (now (src .entry)) (line s ss) (clampedAt (now (starts .entry)) (line t ts) base stride limit)) n (now (dst .entry)) ⌝ }
+    ensures { λ r. ⌜ (now (dst .exit) ≡ inOrder (cellAt nan (ruleF64 rule) (now (src .entry)) (line s ss) (clampedAt (now (starts .entry)) (line t ts) base stride limit)) n (now (dst .entry))) × (r ≡ howMany n (movesAt (now (starts .entry)) (line t ts) limit)) ⌝ }
 {
     match rule {
-        RuleF64::Add => {
-            put_strided_by(
-                RuleF64::Add,
-                src,
-                starts,
-                dst,
-                n,
-                t,
-                ts,
-                base,
-                stride,
-                limit,
-                s,
-                ss,
-            );
-        }
-        RuleF64::Lowest => {
-            put_strided_by(
-                RuleF64::Lowest,
-                src,
-                starts,
-                dst,
-                n,
-                t,
-                ts,
-                base,
-                stride,
-                limit,
-                s,
-                ss,
-            );
-        }
-        RuleF64::Highest => {
-            put_strided_by(
-                RuleF64::Highest,
-                src,
-                starts,
-                dst,
-                n,
-                t,
-                ts,
-                base,
-                stride,
-                limit,
-                s,
-                ss,
-            );
-        }
-        RuleF64::Replace => {
-            put_strided_by(
-                RuleF64::Replace,
-                src,
-                starts,
-                dst,
-                n,
-                t,
-                ts,
-                base,
-                stride,
-                limit,
-                s,
-                ss,
-            );
-        }
-        RuleF64::Ceiling(ceiling) => {
-            put_strided_by(
-                RuleF64::Ceiling(ceiling),
-                src,
-                starts,
-                dst,
-                n,
-                t,
-                ts,
-                base,
-                stride,
-                limit,
-                s,
-                ss,
-            );
-        }
+        RuleF64::Add => put_strided_by(
+            RuleF64::Add,
+            src,
+            starts,
+            dst,
+            n,
+            t,
+            ts,
+            base,
+            stride,
+            limit,
+            s,
+            ss,
+        ),
+        RuleF64::Lowest => put_strided_by(
+            RuleF64::Lowest,
+            src,
+            starts,
+            dst,
+            n,
+            t,
+            ts,
+            base,
+            stride,
+            limit,
+            s,
+            ss,
+        ),
+        RuleF64::Highest => put_strided_by(
+            RuleF64::Highest,
+            src,
+            starts,
+            dst,
+            n,
+            t,
+            ts,
+            base,
+            stride,
+            limit,
+            s,
+            ss,
+        ),
+        RuleF64::Replace => put_strided_by(
+            RuleF64::Replace,
+            src,
+            starts,
+            dst,
+            n,
+            t,
+            ts,
+            base,
+            stride,
+            limit,
+            s,
+            ss,
+        ),
+        RuleF64::Ceiling(ceiling) => put_strided_by(
+            RuleF64::Ceiling(ceiling),
+            src,
+            starts,
+            dst,
+            n,
+            t,
+            ts,
+            base,
+            stride,
+            limit,
+            s,
+            ss,
+        ),
     }
 }
 
-// Cell i by the rule: of the source in order; of the destination where start i says, clamped.
-fn put_one(rule: RuleF64, src: &[f64], starts: &[i64], dst: &mut [f64], limit: i64, i: usize)
+// Cell i by the rule: of the source in order; of the destination where start i says, clamped. 1 where the start is moved.
+fn put_one(rule: RuleF64, src: &[f64], starts: &[i64], dst: &mut [f64], limit: i64, i: usize) -> u64
     requires { ⌜ (i < length (now src)) × Ones (now starts) limit (length (now src)) (length (now dst)) ⌝ }
-    ensures { λ _. ⌜ now (dst .exit) ≡ cellAt nan (ruleF64 rule) (now (src .entry)) pos (oneAt (now (starts .entry)) limit) i (now (dst .entry)) ⌝ }
+    ensures { λ r. ⌜ (now (dst .exit) ≡ cellAt nan (ruleF64 rule) (now (src .entry)) pos (oneAt (now (starts .entry)) limit) i (now (dst .entry))) × (r ≡ cond (movesAt (now (starts .entry)) pos (natAbs limit) i) 1 0) ⌝ }
 {
     let x = starts[i];
     let y = indexed_runs::clamped(x, limit);
-    let b = y as usize;
+    let at = y.at;
+    let m = y.moved;
+    let b = at as usize;
     let v = rules::apply_f64(rule, dst[b], src[i]);
     dst[b] = v;
+    layout::count_if(m, 1)
 }
 
 // The cells from `from` up to `to`.
@@ -483,15 +514,18 @@ fn put_few(
     limit: i64,
     from: usize,
     to: usize,
-)
+) -> u64
     requires { ⌜ (from ≤ to) × (to ≤ length (now src)) × Ones (now starts) limit (length (now src)) (length (now dst)) ⌝ }
-    ensures { λ _. ⌜ now (dst .exit) ≡ inOrder (λ k. cellAt nan (ruleF64 rule) (now (src .entry)) pos (oneAt (now (starts .entry)) limit) (k + from)) (to - from) (now (dst .entry)) ⌝ }
+    ensures { λ r. ⌜ (now (dst .exit) ≡ inOrder (λ k. cellAt nan (ruleF64 rule) (now (src .entry)) pos (oneAt (now (starts .entry)) limit) (k + from)) (to - from) (now (dst .entry))) × (r ≡ howMany (to - from) (λ k. movesAt (now (starts .entry)) pos (natAbs limit) (k + from))) ⌝ }
 {
+    let mut slid: u64 = 0;
     let mut i = from;
     while i < to {
-        put_one(rule, src, starts, dst, limit, i);
+        let one = put_one(rule, src, starts, dst, limit, i);
+        slid += one;
         i += 1;
     }
+    slid
 }
 
 // A cell for each start, by the rule: of the source in order; of the destination where the start says, clamped. `width` to a turn,
@@ -505,55 +539,47 @@ fn put_turns(
     over: usize,
     turns: usize,
     width: usize,
-)
+) -> u64
     requires { ⌜ (over + width * turns ≡ length (now src)) × Ones (now starts) limit (length (now src)) (length (now dst)) ⌝ }
-    ensures { λ _. ⌜ now (dst .exit) ≡ inOrder (cellAt nan (ruleF64 rule) (now (src .entry)) pos (oneAt (now (starts .entry)) limit)) (length (now (src .entry))) (now (dst .entry)) ⌝ }
+    ensures { λ r. ⌜ (now (dst .exit) ≡ inOrder (cellAt nan (ruleF64 rule) (now (src .entry)) pos (oneAt (now (starts .entry)) limit)) (length (now (src .entry))) (now (dst .entry))) × (r ≡ howMany (length (now (src .entry))) (movesAt (now (starts .entry)) pos (natAbs limit))) ⌝ }
 {
-    put_few(rule, src, starts, dst, limit, 0, over);
+    let mut slid = put_few(rule, src, starts, dst, limit, 0, over);
     let mut i = over;
     let mut left = turns;
     while 0 < left {
         let e = i + width;
-        put_few(rule, src, starts, dst, limit, i, e);
+        let few = put_few(rule, src, starts, dst, limit, i, e);
+        slid += few;
         i = e;
         left -= 1;
     }
+    slid
 }
 
 // The same, by a loop of each rule's own: the rule is asked once, outside the loop. Four go to a turn, and of a Replace two.
-pub fn put_ones(rule: RuleF64, src: &[f64], starts: &[i64], dst: &mut [f64], limit: i64)
+pub fn put_ones(rule: RuleF64, src: &[f64], starts: &[i64], dst: &mut [f64], limit: i64) -> u64
     requires { ⌜ Ones (now starts) limit (length (now src)) (length (now dst)) ⌝ }
-    ensures { λ _. ⌜ now (dst .exit) ≡ inOrder (cellAt nan (ruleF64 rule) (now (src .entry)) pos (oneAt (now (starts .entry)) limit)) (length (now (src .entry))) (now (dst .entry)) ⌝ }
+    ensures { λ r. ⌜ (now (dst .exit) ≡ inOrder (cellAt nan (ruleF64 rule) (now (src .entry)) pos (oneAt (now (starts .entry)) limit)) (length (now (src .entry))) (now (dst .entry))) × (r ≡ howMany (length (now (src .entry))) (movesAt (now (starts .entry)) pos (natAbs limit))) ⌝ }
 {
     let n = src.len();
     let over = n % 4;
     let fours = n / 4;
     let twos = 2 * fours;
     match rule {
-        RuleF64::Add => {
-            put_turns(RuleF64::Add, src, starts, dst, limit, over, fours, 4);
-        }
-        RuleF64::Lowest => {
-            put_turns(RuleF64::Lowest, src, starts, dst, limit, over, fours, 4);
-        }
-        RuleF64::Highest => {
-            put_turns(RuleF64::Highest, src, starts, dst, limit, over, fours, 4);
-        }
-        RuleF64::Replace => {
-            put_turns(RuleF64::Replace, src, starts, dst, limit, over, twos, 2);
-        }
-        RuleF64::Ceiling(ceiling) => {
-            put_turns(
-                RuleF64::Ceiling(ceiling),
-                src,
-                starts,
-                dst,
-                limit,
-                over,
-                fours,
-                4,
-            );
-        }
+        RuleF64::Add => put_turns(RuleF64::Add, src, starts, dst, limit, over, fours, 4),
+        RuleF64::Lowest => put_turns(RuleF64::Lowest, src, starts, dst, limit, over, fours, 4),
+        RuleF64::Highest => put_turns(RuleF64::Highest, src, starts, dst, limit, over, fours, 4),
+        RuleF64::Replace => put_turns(RuleF64::Replace, src, starts, dst, limit, over, twos, 2),
+        RuleF64::Ceiling(ceiling) => put_turns(
+            RuleF64::Ceiling(ceiling),
+            src,
+            starts,
+            dst,
+            limit,
+            over,
+            fours,
+            4,
+        ),
     }
 }
 
@@ -568,9 +594,9 @@ pub fn put_row(
     base: i64,
     limit: u64,
     s: i64,
-)
+) -> u64
     requires { ⌜ (0 < n) × Clamped (now starts) t (pos 1) base (pos 1) s (pos 1) limit n (length (now dst)) (length (now src)) ⌝ }
-    ensures { λ _. ⌜ now (dst .exit) ≡ inOrder (cellAt nan (ruleF64 rule) (now (src .entry)) (line s (pos 1)) (clampedAt (now (starts .entry)) (line t (pos 1)) base (pos 1) limit)) n (now (dst .entry)) ⌝ }
+    ensures { λ r. ⌜ (now (dst .exit) ≡ inOrder (cellAt nan (ruleF64 rule) (now (src .entry)) (line s (pos 1)) (clampedAt (now (starts .entry)) (line t (pos 1)) base (pos 1) limit)) n (now (dst .entry))) × (r ≡ howMany n (movesAt (now (starts .entry)) (line t (pos 1)) limit)) ⌝ }
 {
     let l = limit as i64;
     let a = s as usize;
@@ -579,7 +605,7 @@ pub fn put_row(
     let e = a + n;
     let f = b + n;
     let m = dst.len();
-    put_ones(rule, &src[a..e], &starts[b..f], &mut dst[c..m], l);
+    put_ones(rule, &src[a..e], &starts[b..f], &mut dst[c..m], l)
 }
 
 // n cells by the rule: by put_row where every step is 1, else by put_strided.
@@ -596,20 +622,19 @@ pub fn put_run(
     limit: u64,
     s: i64,
     ss: i64,
-)
+) -> u64
     requires { ⌜ Clamped (now starts) t ts base stride s ss limit n (length (now dst)) (length (now src)) ⌝ }
-    ensures { λ _. ⌜ now (dst .exit) ≡ inOrder (cellAt nan (ruleF64 rule) (now (src .entry)) (line s ss) (clampedAt (now (starts .entry)) (line t ts) base stride limit)) n (now (dst .entry)) ⌝ }
+    ensures { λ r. ⌜ (now (dst .exit) ≡ inOrder (cellAt nan (ruleF64 rule) (now (src .entry)) (line s ss) (clampedAt (now (starts .entry)) (line t ts) base stride limit)) n (now (dst .entry))) × (r ≡ howMany n (movesAt (now (starts .entry)) (line t ts) limit)) ⌝ }
 {
     if n == 0 {
-        return;
+        return 0;
     }
     if ts == 1 {
         if stride == 1 {
             if ss == 1 {
-                put_row(rule, src, starts, dst, n, t, base, limit, s);
-                return;
+                return put_row(rule, src, starts, dst, n, t, base, limit, s);
             }
         }
     }
-    put_strided(rule, src, starts, dst, n, t, ts, base, stride, limit, s, ss);
+    put_strided(rule, src, starts, dst, n, t, ts, base, stride, limit, s, ss)
 }

@@ -1,13 +1,16 @@
 // Written by tests/twins from crates/scatter_windows/src/lib.rt.
 // The batches of a scatter whose windows have one cell: each update is put on the destination by a rule, at a place that is moved
-// by a start, read at a place of the batch's own. What each leaves is the plain loop over every linear index, first axis fastest.
+// by a start, read at a place of the batch's own. What each leaves is the plain loop over every linear index, first axis fastest; it
+// hands back how many batches have a start that the clamp moves.
 ghost use mathlib.Core.Path.{_≡_};
 ghost use lib.Ieee.{nan};
-ghost use lib.ListN.{length};
+ghost use lib.ListN.{length, take};
+ghost use Rattle.indexing.specs.Coordinates.{product};
 ghost use Rattle.indexing.specs.Loops.{inOrder};
 ghost use Rattle.rules.specs.Rules.{ruleF64};
 ghost use Rattle.runs.specs.Runs.{cellAt, line};
-ghost use Rattle.indexed_runs.specs.IndexedRuns.{Starting, movedAt, Putting};
+ghost use Rattle.windows.specs.Windows.{placeAt};
+ghost use Rattle.indexed_runs.specs.IndexedRuns.{Starting, startsMoved, movedAt, Putting};
 ghost use Rattle.scatter_windows.specs.Scattering.{putBy, BatchPlaces, PutLevel};
 use layout::RAW_FUSED_RANK_LIMIT;
 use rules::RuleF64;
@@ -28,20 +31,20 @@ pub fn scatter_run(
     offsets: &[i64; RAW_FUSED_RANK_LIMIT],
     strides: &[i64; RAW_FUSED_RANK_LIMIT],
     limits: &[u64; RAW_FUSED_RANK_LIMIT],
-)
+) -> u64
     requires { ⌜ Putting (now starts) (now offsets) (now strides) (now limits) count u t d us ts n (length (now src)) (length (now dst)) ⌝ }
-    ensures { λ _. ⌜ now (dst .exit) ≡ inOrder (cellAt nan (ruleF64 rule) (now (src .entry)) (line u us) (movedAt (now (starts .entry)) (now (offsets .entry)) (now (strides .entry)) (now (limits .entry)) count (λ _. d) (line t ts))) n (now (dst .entry)) ⌝ }
+    ensures { λ r. ⌜ (now (dst .exit) ≡ inOrder (cellAt nan (ruleF64 rule) (now (src .entry)) (line u us) (movedAt (now (starts .entry)) (now (offsets .entry)) (now (strides .entry)) (now (limits .entry)) count (λ _. d) (line t ts))) n (now (dst .entry))) × (r ≡ startsMoved (now (starts .entry)) (now (offsets .entry)) (now (limits .entry)) count n (line t ts)) ⌝ }
 {
     if n == 0 {
-        return;
+        return 0;
     }
     if count == 0 {
         runs_f64::strided_run(rule, src, dst, n, u, d, us, 0);
-        return;
+        return 0;
     }
     if count == 1 {
         let at = t + offsets[0];
-        indexed_runs_f64::put_run(
+        return indexed_runs_f64::put_run(
             rule,
             src,
             starts,
@@ -55,7 +58,6 @@ pub fn scatter_run(
             u,
             us,
         );
-        return;
     }
     indexed_runs_f64::put_cells(
         rule,
@@ -72,7 +74,7 @@ pub fn scatter_run(
         offsets,
         strides,
         limits,
-    );
+    )
 }
 
 // The batches of the first `rank` axes, whose windows have one cell. There are some, and the axes before `low` have one place each.
@@ -93,16 +95,16 @@ pub fn scatter_cells(
     t: i64,
     u: i64,
     d: i64,
-)
+) -> u64
     requires { ⌜ PutLevel (now starts) (now offsets) (now strides) (now limits) count t u d (now extents) (now ts) (now us) low rank (length (now src)) (length (now dst)) ⌝ }
-    ensures { λ _. ⌜ now (dst .exit) ≡ putBy nan (ruleF64 rule) (now (src .entry)) (now (starts .entry)) (now (offsets .entry)) (now (strides .entry)) (now (limits .entry)) count t u d (now (extents .entry)) (now (ts .entry)) (now (us .entry)) rank (now (dst .entry)) ⌝ }
+    ensures { λ r. ⌜ (now (dst .exit) ≡ putBy nan (ruleF64 rule) (now (src .entry)) (now (starts .entry)) (now (offsets .entry)) (now (strides .entry)) (now (limits .entry)) count t u d (now (extents .entry)) (now (ts .entry)) (now (us .entry)) rank (now (dst .entry))) × (r ≡ startsMoved (now (starts .entry)) (now (offsets .entry)) (now (limits .entry)) count (product (take rank (now (extents .entry)))) (placeAt t (now (extents .entry)) (now (ts .entry)) rank)) ⌝ }
 {
     let top = rank - 1;
     let n = extents[top];
     let x = ts[top];
     let y = us[top];
     if top == low {
-        scatter_run(
+        return scatter_run(
             rule,
             src,
             starts,
@@ -118,14 +120,14 @@ pub fn scatter_cells(
             strides,
             limits,
         );
-        return;
     }
+    let mut slid: u64 = 0;
     let mut j: u64 = 0;
     while j < n {
         let k = j as i64;
         let p = t + x * k;
         let q = u + y * k;
-        scatter_cells(
+        let below = scatter_cells(
             rule,
             src,
             starts,
@@ -143,8 +145,10 @@ pub fn scatter_cells(
             q,
             d,
         );
+        slid += below;
         j += 1;
     }
+    slid
 }
 
 // The same with any number of axes.
@@ -164,12 +168,12 @@ pub fn scatter_each(
     t: i64,
     u: i64,
     d: i64,
-)
+) -> u64
     requires { ⌜ BatchPlaces (λ x y. Starting (now starts) (now offsets) (now strides) (now limits) d x count (length (now dst))) t u (now extents) (now ts) (now us) rank (length (now src)) ⌝ }
-    ensures { λ _. ⌜ now (dst .exit) ≡ putBy nan (ruleF64 rule) (now (src .entry)) (now (starts .entry)) (now (offsets .entry)) (now (strides .entry)) (now (limits .entry)) count t u d (now (extents .entry)) (now (ts .entry)) (now (us .entry)) rank (now (dst .entry)) ⌝ }
+    ensures { λ r. ⌜ (now (dst .exit) ≡ putBy nan (ruleF64 rule) (now (src .entry)) (now (starts .entry)) (now (offsets .entry)) (now (strides .entry)) (now (limits .entry)) count t u d (now (extents .entry)) (now (ts .entry)) (now (us .entry)) rank (now (dst .entry))) × (r ≡ startsMoved (now (starts .entry)) (now (offsets .entry)) (now (limits .entry)) count (product (take rank (now (extents .entry)))) (placeAt t (now (extents .entry)) (now (ts .entry)) rank)) ⌝ }
 {
     if rank == 0 {
-        scatter_run(
+        return scatter_run(
             rule,
             src,
             starts,
@@ -185,7 +189,6 @@ pub fn scatter_each(
             strides,
             limits,
         );
-        return;
     }
     let low = windows::run_axis(extents, rank);
     scatter_cells(
@@ -205,5 +208,5 @@ pub fn scatter_each(
         t,
         u,
         d,
-    );
+    )
 }

@@ -7,14 +7,16 @@ use Rattle.integer.specs.Z.{back}
 use Rattle.rules.specs.Rules.{ruleF64}
 use Rattle.rules.specs.declared.RuleF64.the-variants as R
 use Rattle.runs.proofs.Turns.{none}
+use Rattle.indexing.specs.Counting.{many-none}
 use Rattle.indexed_runs.proofs.Cells.{cells-end}
-use Rattle.gather_windows.proofs.Single.{at-sum, single-asks, single-end}
+use Rattle.indexed_runs.proofs.Counts.{starts-end}
+use Rattle.gather_windows.proofs.Single.{at-sum, single-asks, single-end, single-count}
 use borrow.Author.Needs.{needs}
 use Rattle.gather_windows_f64.proofs.gather_run.Statement.{statement}
 use Rattle.gather_windows_f64.proofs.gather_run.Tie as tie
 
 returns : tie.Need-returns
-returns c = let a : tie.Start = search in none _ (a .args .n) (a .args .dst .now) (c .if1 .taken)
+returns c = let a : tie.Start = search in (none _ (a .args .n) (a .args .dst .now) (c .if1 .taken), many-none (a .args .n) _ (c .if1 .taken))
 
 element-copy-out-at : tie.Need-element-copy-out-at
 element-copy-out-at c = search needs
@@ -45,7 +47,7 @@ returns-2 c =
     let s : tie.After-take-run-arg2 = search in
     let b : tie.After-at = search in
     let a : tie.Start = search in
-    single-end _ _ _ _ _ _ _ _ _ _ _ _ _ _ (a .pre) (b .before .before .before .if1 .left) (b .before .before .if2 .taken) (a .fits .ss) (b .before .if3 .taken) (omega (arith, a .good .1 .0 .1)) (a .fits .s) (a .fits .t) (a .fits .d) (a .fits .ts) (a .fits .ds) (sfits-of (b .at .given)) nan (ruleF64 R.Replace) (a .args .src .now) (a .args .dst .now) _ (sfits-of (s .take-run-arg2 .given)) (t .take-run .ensures)
+    (single-end _ _ _ _ _ _ _ _ _ _ _ _ _ _ (a .pre) (b .before .before .before .if1 .left) (b .before .before .if2 .taken) (a .fits .ss) (b .before .if3 .taken) (omega (arith, a .good .1 .0 .1)) (a .fits .s) (a .fits .t) (a .fits .d) (a .fits .ts) (a .fits .ds) (sfits-of (b .at .given)) nan (ruleF64 R.Replace) (a .args .src .now) (a .args .dst .now) _ (sfits-of (s .take-run-arg2 .given)) (t .take-run .ensures .0), single-count _ _ _ _ _ _ _ _ _ _ _ _ _ _ (a .pre) (b .before .before .before .if1 .left) (b .before .before .if2 .taken) (a .fits .ss) (b .before .if3 .taken) (omega (arith, a .good .1 .0 .1)) (a .fits .s) (a .fits .t) (a .fits .d) (a .fits .ts) (a .fits .ds) (sfits-of (b .at .given)) _ (t .take-run .ensures .1))
 
 take-cells-requires : tie.Need-take-cells-requires
 take-cells-requires c κs =
@@ -59,7 +61,7 @@ returns-3 : tie.Need-returns-3
 returns-3 c =
     let t : tie.After-take-cells = search in
     let a : tie.Start = search in
-    cells-end nan (ruleF64 R.Replace) (a .args .src .now) (a .args .starts .now) (a .args .offsets .now) (a .args .strides .now) (a .args .limits .now) (a .args .count) _ _ _ _ _ _ (a .args .n) (a .args .n) (a .args .dst .now) _ (a .fits .s) (a .fits .t) (a .fits .d) (a .fits .ss) (a .fits .ts) (a .fits .ds) refl (t .take-cells .ensures)
+    (cells-end nan (ruleF64 R.Replace) (a .args .src .now) (a .args .starts .now) (a .args .offsets .now) (a .args .strides .now) (a .args .limits .now) (a .args .count) _ _ _ _ _ _ (a .args .n) (a .args .n) (a .args .dst .now) _ (a .fits .s) (a .fits .t) (a .fits .d) (a .fits .ss) (a .fits .ts) (a .fits .ds) refl (t .take-cells .ensures .0), starts-end (a .args .starts .now) (a .args .t) (a .args .ts) (a .args .n) (a .args .n) _ (a .fits .t) (a .fits .ts) refl (a .args .offsets .now) (a .args .limits .now) (a .args .count) (t .take-cells .ensures .1))
 
 pub gather-run-spec : {M : Type 1} → statement M
 gather-run-spec =

@@ -138,7 +138,6 @@ loop-less c = omega arith
 
 loop-again : tie.Need-loop-again Inv-loop μ-loop
 loop-again c =
-    let v : tie.After-dst Inv-loop μ-loop = search in
     let q : tie.After-started Inv-loop μ-loop = search in
     let d = q .before in
     let h = d .before in
@@ -146,7 +145,7 @@ loop-again c =
       omega arith,
       length-set (h .loop .dst) _ _ ∙ h .loop .inv .1,
       cell-more (pos 0) (ruleI32 R.Replace) (a .args .src .now) (movedAt (a .args .starts .now) (a .args .offsets .now) (a .args .strides .now) (a .args .limits .now) (a .args .count) (line (read (a .args .s)) (read (a .args .ss))) (line (read (a .args .t)) (read (a .args .ts)))) (line (read (a .args .d)) (read (a .args .ds))) (a .args .dst .now) (h .loop .dst) (h .loop .i) _ _ _ (h .loop .inv .2)
-          (place-is _ _ _ _ _ _ _ _ _ _ _ _ _ _ (a .pre) _ (d .loop-test .taken) (from d) (index d) _ (q .started .ensures .0) (src-room a)) (to d .index-is) (back (sfits-of (v .dst .given))),
+          (place-is _ _ _ _ _ _ _ _ _ _ _ _ _ _ (a .pre) _ (d .loop-test .taken) (from d) (index d) _ (q .started .ensures .0) (src-room a)) (to d .index-is) (back (sfits-of (c .before .dst .given))),
       many-more (h .loop .i) (λ k. startMoved (a .args .starts .now) (a .args .offsets .now) (a .args .limits .now) (line (read (a .args .t)) (read (a .args .ts)) k) (a .args .count)) _ _ (q .started .result .moved) (h .loop .inv .3) (c .count-if .ensures)
           (started-is (a .args .starts .now) (a .args .offsets .now) (a .args .limits .now) (a .args .count) _ _ _ _ (index d) _ (q .started .ensures .1)),
     )

@@ -57,10 +57,9 @@ same-length c = search needs
 
 returns : tie.Need-returns
 returns c =
-    let v : tie.After-dst = search in
     let q : tie.After-clamped = search in
     let a = at-start q in (
-      one-turn (pos 0) (ruleI32 R.Replace) (a .args .src .now) (oneAt (a .args .starts .now) (a .args .limit)) pos (a .args .dst .now) (a .args .i) (natAbs (read (q .clamped .result .at))) (a .args .i) _ (by-start q) refl (back (sfits-of (v .dst .given))),
+      one-turn (pos 0) (ruleI32 R.Replace) (a .args .src .now) (oneAt (a .args .starts .now) (a .args .limit)) pos (a .args .dst .now) (a .args .i) (natAbs (read (q .clamped .result .at))) (a .args .i) _ (by-start q) refl (back (sfits-of (c .before .dst .given))),
       c .count-if .ensures ∙ ap (λ (b : Bool). cond b 1 0) (ones-moved (a .args .starts .now) (a .args .limit) (a .args .i) (a .fits .limit) (sfits-of (q .before .x .given)) _ (q .clamped .ensures .1)),
     )
 

@@ -154,14 +154,13 @@ loop-less c = omega arith
 
 loop-again : tie.Need-loop-again Inv-loop μ-loop
 loop-again c =
-    let v : tie.After-dst Inv-loop μ-loop = search in
     let q : tie.After-clamp-window-start Inv-loop μ-loop = search in
     let d = q .before .before in
     let h = d .before in
     let a = start d in (
       omega arith,
       length-set (h .loop .dst) _ _ ∙ h .loop .inv .1,
-      cell-more (pos 0) (ruleI32 R.Replace) (a .args .src .now) (clampedAt (a .args .starts .now) (line (read (a .args .t)) (read (a .args .ts))) (read (a .args .base)) (read (a .args .stride)) (a .args .limit)) (line (read (a .args .d)) (read (a .args .ds))) (a .args .dst .now) (h .loop .dst) (h .loop .i) (natAbs (machine (a .args .base) (a .args .stride) (q .clamp-window-start .result .start))) (natAbs (machine (a .args .d) (a .args .ds) (h .loop .i))) _ (h .loop .inv .2) (by-start q) (plain-at d .index-is) (back (sfits-of (v .dst .given))),
+      cell-more (pos 0) (ruleI32 R.Replace) (a .args .src .now) (clampedAt (a .args .starts .now) (line (read (a .args .t)) (read (a .args .ts))) (read (a .args .base)) (read (a .args .stride)) (a .args .limit)) (line (read (a .args .d)) (read (a .args .ds))) (a .args .dst .now) (h .loop .dst) (h .loop .i) (natAbs (machine (a .args .base) (a .args .stride) (q .clamp-window-start .result .start))) (natAbs (machine (a .args .d) (a .args .ds) (h .loop .i))) _ (h .loop .inv .2) (by-start q) (plain-at d .index-is) (back (sfits-of (c .before .dst .given))),
       many-more (h .loop .i) (movesAt (a .args .starts .now) (line (read (a .args .t)) (read (a .args .ts))) (a .args .limit)) _ _ (q .clamp-window-start .result .moved) (h .loop .inv .3) (c .count-if .ensures)
           (moves-is (a .args .starts .now) _ _ (a .args .limit) _ _ (starts-at d) (sfits-of (q .before .x .given)) _ (q .clamp-window-start .ensures .1)),
     )

@@ -5,6 +5,7 @@ use lib.Ieee.{nan}
 use Rattle.rules.specs.Rules.{ruleF64}
 use Rattle.rules.specs.declared.RuleF64.the-variants as R
 use Rattle.indexed_runs.proofs.Puts.{puts-ask, puts-end}
+use Rattle.indexed_runs.proofs.Counts.{starts-end}
 use Rattle.indexed_runs_f64.proofs.put_cells.Statement.{statement}
 use Rattle.indexed_runs_f64.proofs.put_cells.Tie as tie
 
@@ -57,7 +58,7 @@ returns c =
     let o : tie.After-put-cells-by = search in
     let a : tie.Start = search in
     rw (e .enum-told .given .1)
-    (puts-end nan (ruleF64 R.Add) (a .args .src .now) (a .args .starts .now) (a .args .offsets .now) (a .args .strides .now) (a .args .limits .now) (a .args .count) _ _ _ _ _ (a .args .n) (a .args .n) (a .args .dst .now) _ (a .fits .s) (a .fits .t) (a .fits .d) (a .fits .ss) (a .fits .ts) refl (o .put-cells-by .ensures))
+    (puts-end nan (ruleF64 R.Add) (a .args .src .now) (a .args .starts .now) (a .args .offsets .now) (a .args .strides .now) (a .args .limits .now) (a .args .count) _ _ _ _ _ (a .args .n) (a .args .n) (a .args .dst .now) _ (a .fits .s) (a .fits .t) (a .fits .d) (a .fits .ss) (a .fits .ts) refl (o .put-cells-by .ensures .0), starts-end (a .args .starts .now) (a .args .t) (a .args .ts) (a .args .n) (a .args .n) _ (a .fits .t) (a .fits .ts) refl (a .args .offsets .now) (a .args .limits .now) (a .args .count) (o .put-cells-by .ensures .1))
 
 same-length-2 : tie.Need-same-length-2
 same-length-2 c = search needs
@@ -68,7 +69,7 @@ returns-2 c =
     let o : tie.After-put-cells-by2 = search in
     let a : tie.Start = search in
     rw (e .enum-told2 .given .1)
-    (puts-end nan (ruleF64 R.Lowest) (a .args .src .now) (a .args .starts .now) (a .args .offsets .now) (a .args .strides .now) (a .args .limits .now) (a .args .count) _ _ _ _ _ (a .args .n) (a .args .n) (a .args .dst .now) _ (a .fits .s) (a .fits .t) (a .fits .d) (a .fits .ss) (a .fits .ts) refl (o .put-cells-by2 .ensures))
+    (puts-end nan (ruleF64 R.Lowest) (a .args .src .now) (a .args .starts .now) (a .args .offsets .now) (a .args .strides .now) (a .args .limits .now) (a .args .count) _ _ _ _ _ (a .args .n) (a .args .n) (a .args .dst .now) _ (a .fits .s) (a .fits .t) (a .fits .d) (a .fits .ss) (a .fits .ts) refl (o .put-cells-by2 .ensures .0), starts-end (a .args .starts .now) (a .args .t) (a .args .ts) (a .args .n) (a .args .n) _ (a .fits .t) (a .fits .ts) refl (a .args .offsets .now) (a .args .limits .now) (a .args .count) (o .put-cells-by2 .ensures .1))
 
 same-length-3 : tie.Need-same-length-3
 same-length-3 c = search needs
@@ -79,7 +80,7 @@ returns-3 c =
     let o : tie.After-put-cells-by3 = search in
     let a : tie.Start = search in
     rw (e .enum-told3 .given .1)
-    (puts-end nan (ruleF64 R.Highest) (a .args .src .now) (a .args .starts .now) (a .args .offsets .now) (a .args .strides .now) (a .args .limits .now) (a .args .count) _ _ _ _ _ (a .args .n) (a .args .n) (a .args .dst .now) _ (a .fits .s) (a .fits .t) (a .fits .d) (a .fits .ss) (a .fits .ts) refl (o .put-cells-by3 .ensures))
+    (puts-end nan (ruleF64 R.Highest) (a .args .src .now) (a .args .starts .now) (a .args .offsets .now) (a .args .strides .now) (a .args .limits .now) (a .args .count) _ _ _ _ _ (a .args .n) (a .args .n) (a .args .dst .now) _ (a .fits .s) (a .fits .t) (a .fits .d) (a .fits .ss) (a .fits .ts) refl (o .put-cells-by3 .ensures .0), starts-end (a .args .starts .now) (a .args .t) (a .args .ts) (a .args .n) (a .args .n) _ (a .fits .t) (a .fits .ts) refl (a .args .offsets .now) (a .args .limits .now) (a .args .count) (o .put-cells-by3 .ensures .1))
 
 same-length-4 : tie.Need-same-length-4
 same-length-4 c = search needs
@@ -90,7 +91,7 @@ returns-4 c =
     let o : tie.After-put-cells-by4 = search in
     let a : tie.Start = search in
     rw (e .enum-told4 .given .1)
-    (puts-end nan (ruleF64 R.Replace) (a .args .src .now) (a .args .starts .now) (a .args .offsets .now) (a .args .strides .now) (a .args .limits .now) (a .args .count) _ _ _ _ _ (a .args .n) (a .args .n) (a .args .dst .now) _ (a .fits .s) (a .fits .t) (a .fits .d) (a .fits .ss) (a .fits .ts) refl (o .put-cells-by4 .ensures))
+    (puts-end nan (ruleF64 R.Replace) (a .args .src .now) (a .args .starts .now) (a .args .offsets .now) (a .args .strides .now) (a .args .limits .now) (a .args .count) _ _ _ _ _ (a .args .n) (a .args .n) (a .args .dst .now) _ (a .fits .s) (a .fits .t) (a .fits .d) (a .fits .ss) (a .fits .ts) refl (o .put-cells-by4 .ensures .0), starts-end (a .args .starts .now) (a .args .t) (a .args .ts) (a .args .n) (a .args .n) _ (a .fits .t) (a .fits .ts) refl (a .args .offsets .now) (a .args .limits .now) (a .args .count) (o .put-cells-by4 .ensures .1))
 
 same-length-5 : tie.Need-same-length-5
 same-length-5 c = search needs
@@ -101,7 +102,7 @@ returns-5 c =
     let o : tie.After-put-cells-by5 = search in
     let a : tie.Start = search in
     rw (e .rule .given .1)
-    (puts-end nan (ruleF64 (R.Ceiling (e .rule .given .0 .0))) (a .args .src .now) (a .args .starts .now) (a .args .offsets .now) (a .args .strides .now) (a .args .limits .now) (a .args .count) _ _ _ _ _ (a .args .n) (a .args .n) (a .args .dst .now) _ (a .fits .s) (a .fits .t) (a .fits .d) (a .fits .ss) (a .fits .ts) refl (o .put-cells-by5 .ensures))
+    (puts-end nan (ruleF64 (R.Ceiling (e .rule .given .0 .0))) (a .args .src .now) (a .args .starts .now) (a .args .offsets .now) (a .args .strides .now) (a .args .limits .now) (a .args .count) _ _ _ _ _ (a .args .n) (a .args .n) (a .args .dst .now) _ (a .fits .s) (a .fits .t) (a .fits .d) (a .fits .ss) (a .fits .ts) refl (o .put-cells-by5 .ensures .0), starts-end (a .args .starts .now) (a .args .t) (a .args .ts) (a .args .n) (a .args .n) _ (a .fits .t) (a .fits .ts) refl (a .args .offsets .now) (a .args .limits .now) (a .args .count) (o .put-cells-by5 .ensures .1))
 
 pub put-cells-spec : {M : Type 1} → statement M
 put-cells-spec =

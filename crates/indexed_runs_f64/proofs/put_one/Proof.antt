@@ -1,5 +1,6 @@
 -- Written by tests/twins from crates/indexed_runs/proofs/put_one/Proof.antt.
-use mathlib.Core.Path.{_≡_, refl}
+use mathlib.Core.Path.{_≡_, refl, ap, _∙_}
+use mathlib.Core.Bool.{Bool, cond}
 use native.Mathlib.Omega.{arith}
 use borrow.Author.Needs.{needs, sfits-of}
 use lib.Ieee.{nan}
@@ -8,7 +9,7 @@ use lib.IntN.{pos, natAbs}
 use Rattle.rules.specs.Rules.{ruleF64}
 use Rattle.runs.proofs.Place.{read, Index}
 use Rattle.indexed_runs.specs.IndexedRuns.{oneAt}
-use Rattle.indexed_runs.proofs.Ones.{ones-index, ones-is, one-turn}
+use Rattle.indexed_runs.proofs.Ones.{ones-index, ones-is, ones-moved, one-turn}
 use Rattle.indexed_runs_f64.proofs.put_one.Statement.{statement}
 use Rattle.indexed_runs_f64.proofs.put_one.Tie as tie
 
@@ -17,11 +18,11 @@ module _ (c : tie.After-clamped) where
   abbrev at-start : tie.Start
   at-start = search
 
-  place : Index (c .clamped .result) (length (at-start .args .dst .now))
-  place = let a = at-start in ones-index _ _ _ _ (a .pre .1) (a .fits .limit) (omega (arith, a .good .1 .1 .1 .0 .1)) _ (a .pre .0) (sfits-of (c .before .x .given)) _ (c .clamped .ensures)
+  place : Index (c .clamped .result .at) (length (at-start .args .dst .now))
+  place = let a = at-start in ones-index _ _ _ _ (a .pre .1) (a .fits .limit) (omega (arith, a .good .1 .1 .1 .0 .1)) _ (a .pre .0) (sfits-of (c .before .x .given)) _ (c .clamped .ensures .0)
 
-  by-start : pos (natAbs (read (c .clamped .result))) ≡ oneAt (at-start .args .starts .now) (at-start .args .limit) (at-start .args .i)
-  by-start = let a = at-start in ones-is _ _ _ _ (a .pre .1) (a .fits .limit) (omega (arith, a .good .1 .1 .1 .0 .1)) _ (a .pre .0) (sfits-of (c .before .x .given)) _ (c .clamped .ensures)
+  by-start : pos (natAbs (read (c .clamped .result .at))) ≡ oneAt (at-start .args .starts .now) (at-start .args .limit) (at-start .args .i)
+  by-start = let a = at-start in ones-is _ _ _ _ (a .pre .1) (a .fits .limit) (omega (arith, a .good .1 .1 .1 .0 .1)) _ (a .pre .0) (sfits-of (c .before .x .given)) _ (c .clamped .ensures .0)
 
 mul-x : tie.Need-mul-x
 mul-x c = search needs
@@ -33,10 +34,14 @@ clamped-requires : tie.Need-clamped-requires
 clamped-requires c κs = search needs
 
 cast-b : tie.Need-cast-b
-cast-b c = place c .cast
+cast-b c =
+    let l : tie.After-clamped = search in
+    place l .cast
 
 mul-apply-f64 : tie.Need-mul-apply-f64
-mul-apply-f64 c = omega (arith, place c .below, at-start c .good .1 .1 .1 .0 .1)
+mul-apply-f64 c =
+    let l : tie.After-clamped = search in
+    omega (arith, place l .below, at-start l .good .1 .1 .1 .0 .1)
 
 slice-read-apply-f64 : tie.Need-slice-read-apply-f64
 slice-read-apply-f64 c = let l : tie.After-clamped = search in place l .below
@@ -48,20 +53,28 @@ shared-slice-read-apply-f64 : tie.Need-shared-slice-read-apply-f64
 shared-slice-read-apply-f64 c = search needs
 
 mul-dst : tie.Need-mul-dst
-mul-dst c = omega (arith, place (c .before .before .before) .below, at-start (c .before .before .before) .good .1 .1 .1 .0 .1)
+mul-dst c =
+    let l : tie.After-clamped = search in
+    omega (arith, place l .below, at-start l .good .1 .1 .1 .0 .1)
 
 slice-write-dst : tie.Need-slice-write-dst
-slice-write-dst c = place (c .before .before .before) .below
+slice-write-dst c =
+    let l : tie.After-clamped = search in
+    place l .below
 
 same-length : tie.Need-same-length
 same-length c = search needs
 
 returns : tie.Need-returns
-returns c = let q = c .before .before .before in
+returns c =
+    let w : tie.After-apply-f64 = search in
+    let q : tie.After-clamped = search in
     let a = at-start q in
-    let m = natAbs (read (q .clamped .result)) in
-    one-turn nan (ruleF64 (a .args .rule)) (a .args .src .now) pos (oneAt (a .args .starts .now) (a .args .limit)) (a .args .dst .now) (a .args .i) (a .args .i) m _ refl (by-start q)
-    (c .apply-f64 .ensures)
+    let m = natAbs (read (q .clamped .result .at)) in (
+      one-turn nan (ruleF64 (a .args .rule)) (a .args .src .now) pos (oneAt (a .args .starts .now) (a .args .limit)) (a .args .dst .now) (a .args .i) (a .args .i) m _ refl (by-start q)
+          (w .apply-f64 .ensures),
+      c .count-if .ensures ∙ ap (λ (b : Bool). cond b 1 0) (ones-moved (a .args .starts .now) (a .args .limit) (a .args .i) (a .fits .limit) (sfits-of (q .before .x .given)) _ (q .clamped .ensures .1)),
+    )
 
 pub put-one-spec : {M : Type 1} → statement M
 put-one-spec =
@@ -78,5 +91,6 @@ put-one-spec =
     (λ c κs. tt)
     mul-dst
     slice-write-dst
+    (λ c κs. tt)
     same-length
     returns)

@@ -6,6 +6,7 @@ use lib.Ieee.{nan}
 use Rattle.rules.specs.Rules.{ruleF64}
 use Rattle.rules.specs.declared.RuleF64.the-variants as R
 use Rattle.indexed_runs.proofs.Ones.{ones-left, put-ones-end}
+use Rattle.indexed_runs.proofs.Counts.{ones-count}
 use Rattle.indexed_runs_f64.proofs.put_ones.Statement.{statement}
 use Rattle.indexed_runs_f64.proofs.put_ones.Tie as tie
 
@@ -51,7 +52,7 @@ returns c =
     let p : tie.After-put-turns = search in
     let a : tie.Start = search in
     rw (e .enum-told .given .1)
-    (put-ones-end nan (ruleF64 R.Add) (a .args .src .now) (a .args .starts .now) (a .args .limit) _ _ (a .args .dst .now) _ (a .fits .limit) refl (p .put-turns .ensures))
+    (put-ones-end nan (ruleF64 R.Add) (a .args .src .now) (a .args .starts .now) (a .args .limit) _ _ (a .args .dst .now) _ (a .fits .limit) refl (p .put-turns .ensures .0), ones-count (a .args .starts .now) (a .args .limit) _ _ _ (a .fits .limit) refl (p .put-turns .ensures .1))
 
 same-length-2 : tie.Need-same-length-2
 same-length-2 c = search needs
@@ -62,7 +63,7 @@ returns-2 c =
     let p : tie.After-put-turns2 = search in
     let a : tie.Start = search in
     rw (e .enum-told2 .given .1)
-    (put-ones-end nan (ruleF64 R.Lowest) (a .args .src .now) (a .args .starts .now) (a .args .limit) _ _ (a .args .dst .now) _ (a .fits .limit) refl (p .put-turns2 .ensures))
+    (put-ones-end nan (ruleF64 R.Lowest) (a .args .src .now) (a .args .starts .now) (a .args .limit) _ _ (a .args .dst .now) _ (a .fits .limit) refl (p .put-turns2 .ensures .0), ones-count (a .args .starts .now) (a .args .limit) _ _ _ (a .fits .limit) refl (p .put-turns2 .ensures .1))
 
 same-length-3 : tie.Need-same-length-3
 same-length-3 c = search needs
@@ -73,7 +74,7 @@ returns-3 c =
     let p : tie.After-put-turns3 = search in
     let a : tie.Start = search in
     rw (e .enum-told3 .given .1)
-    (put-ones-end nan (ruleF64 R.Highest) (a .args .src .now) (a .args .starts .now) (a .args .limit) _ _ (a .args .dst .now) _ (a .fits .limit) refl (p .put-turns3 .ensures))
+    (put-ones-end nan (ruleF64 R.Highest) (a .args .src .now) (a .args .starts .now) (a .args .limit) _ _ (a .args .dst .now) _ (a .fits .limit) refl (p .put-turns3 .ensures .0), ones-count (a .args .starts .now) (a .args .limit) _ _ _ (a .fits .limit) refl (p .put-turns3 .ensures .1))
 
 same-length-4 : tie.Need-same-length-4
 same-length-4 c = search needs
@@ -84,7 +85,7 @@ returns-4 c =
     let p : tie.After-put-turns4 = search in
     let a : tie.Start = search in
     rw (e .enum-told4 .given .1)
-    (put-ones-end nan (ruleF64 R.Replace) (a .args .src .now) (a .args .starts .now) (a .args .limit) _ _ (a .args .dst .now) _ (a .fits .limit) refl (p .put-turns4 .ensures))
+    (put-ones-end nan (ruleF64 R.Replace) (a .args .src .now) (a .args .starts .now) (a .args .limit) _ _ (a .args .dst .now) _ (a .fits .limit) refl (p .put-turns4 .ensures .0), ones-count (a .args .starts .now) (a .args .limit) _ _ _ (a .fits .limit) refl (p .put-turns4 .ensures .1))
 
 same-length-5 : tie.Need-same-length-5
 same-length-5 c = search needs
@@ -95,7 +96,7 @@ returns-5 c =
     let p : tie.After-put-turns5 = search in
     let a : tie.Start = search in
     rw (e .rule .given .1)
-    (put-ones-end nan (ruleF64 (R.Ceiling (e .rule .given .0 .0))) (a .args .src .now) (a .args .starts .now) (a .args .limit) _ _ (a .args .dst .now) _ (a .fits .limit) refl (p .put-turns5 .ensures))
+    (put-ones-end nan (ruleF64 (R.Ceiling (e .rule .given .0 .0))) (a .args .src .now) (a .args .starts .now) (a .args .limit) _ _ (a .args .dst .now) _ (a .fits .limit) refl (p .put-turns5 .ensures .0), ones-count (a .args .starts .now) (a .args .limit) _ _ _ (a .fits .limit) refl (p .put-turns5 .ensures .1))
 
 pub put-ones-spec : {M : Type 1} → statement M
 put-ones-spec =

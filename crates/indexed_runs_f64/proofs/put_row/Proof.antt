@@ -9,7 +9,7 @@ use lib.IntN.{natAbs}
 use Rattle.rules.specs.Rules.{ruleF64}
 use Rattle.runs.proofs.Place.{read, Index, index}
 use Rattle.runs.proofs.Runs.{Part, part-of}
-use Rattle.indexed_runs.proofs.Ones.{part-place, place-in, ones-ask, part-put}
+use Rattle.indexed_runs.proofs.Ones.{part-place, place-in, ones-ask, part-put, parts-count}
 use Rattle.indexed_runs_f64.proofs.put_row.Statement.{statement}
 use Rattle.indexed_runs_f64.proofs.put_row.Tie as tie
 
@@ -99,7 +99,7 @@ returns c =
     let x : ℕ = natAbs (read (a .args .t)) in
     let y : ℕ = natAbs (read (a .args .s)) in
     let u : ℕ = natAbs (read (a .args .base)) in
-    part-put nan (ruleF64 (a .args .rule)) (a .args .src .now) (a .args .dst .now) _ _ _ (a .args .s) y (a .args .n) (y + a .args .n - y) u (length (a .args .dst .now) - u) (omega arith) (plain a .is) (plain a .room) (omega (arith, first a .below)) (place-in (a .args .starts .now) _ _ _ _ _ _ _ (a .pre .1) x (x + a .args .n - x) (omega arith) (starting a .is) u (length (a .args .dst .now) - u) (first a .is) refl) (part-place (a .args .starts .now) _ _ _ _ _ _ _ (a .pre .1) x (x + a .args .n - x) (omega arith) (starting a .is) u (length (a .args .dst .now) - u) (first a .is) refl) (p .put-ones .ensures)
+    (part-put nan (ruleF64 (a .args .rule)) (a .args .src .now) (a .args .dst .now) _ _ _ (a .args .s) y (a .args .n) (y + a .args .n - y) u (length (a .args .dst .now) - u) (omega arith) (plain a .is) (plain a .room) (omega (arith, first a .below)) (place-in (a .args .starts .now) _ _ _ _ _ _ _ (a .pre .1) x (x + a .args .n - x) (omega arith) (starting a .is) u (length (a .args .dst .now) - u) (first a .is) refl) (part-place (a .args .starts .now) _ _ _ _ _ _ _ (a .pre .1) x (x + a .args .n - x) (omega arith) (starting a .is) u (length (a .args .dst .now) - u) (first a .is) refl) (p .put-ones .ensures .0), parts-count (a .args .starts .now) _ _ _ _ _ _ _ (a .pre .1) x (x + a .args .n - x) (omega arith) (starting a .is) u (length (a .args .dst .now) - u) (first a .is) refl (a .args .src .now) y (y + a .args .n - y) _ (omega arith) (plain a .room) (p .put-ones .ensures .1))
 
 pub put-row-spec : {M : Type 1} → statement M
 put-row-spec =

@@ -6,6 +6,7 @@ use Rattle.indexed_runs.proofs.Ones.{strided-asks}
 use Rattle.rules.specs.Rules.{ruleF64}
 use Rattle.rules.specs.declared.RuleF64.the-variants as R
 use Rattle.indexed_runs.proofs.Places.{put-end}
+use Rattle.indexed_runs.proofs.Counts.{moves-end}
 use Rattle.indexed_runs_f64.proofs.put_strided.Statement.{statement}
 use Rattle.indexed_runs_f64.proofs.put_strided.Tie as tie
 
@@ -48,7 +49,7 @@ returns c =
     let o : tie.After-put-strided-by = search in
     let a : tie.Start = search in
     rw (e .enum-told .given .1)
-    (put-end nan (ruleF64 R.Add) (a .args .src .now) (a .args .starts .now) (a .args .t) (a .args .ts) (a .args .base) (a .args .stride) (a .args .s) (a .args .ss) (a .args .limit) (a .args .n) (a .args .n) (a .args .dst .now) _ (a .fits .t) (a .fits .ts) (a .fits .base) (a .fits .stride) (a .fits .s) (a .fits .ss) refl (o .put-strided-by .ensures))
+    (put-end nan (ruleF64 R.Add) (a .args .src .now) (a .args .starts .now) (a .args .t) (a .args .ts) (a .args .base) (a .args .stride) (a .args .s) (a .args .ss) (a .args .limit) (a .args .n) (a .args .n) (a .args .dst .now) _ (a .fits .t) (a .fits .ts) (a .fits .base) (a .fits .stride) (a .fits .s) (a .fits .ss) refl (o .put-strided-by .ensures .0), moves-end (a .args .starts .now) (a .args .t) (a .args .ts) (a .args .n) (a .args .n) _ (a .fits .t) (a .fits .ts) refl (a .args .limit) (o .put-strided-by .ensures .1))
 
 same-length-2 : tie.Need-same-length-2
 same-length-2 c = search needs
@@ -59,7 +60,7 @@ returns-2 c =
     let o : tie.After-put-strided-by2 = search in
     let a : tie.Start = search in
     rw (e .enum-told2 .given .1)
-    (put-end nan (ruleF64 R.Lowest) (a .args .src .now) (a .args .starts .now) (a .args .t) (a .args .ts) (a .args .base) (a .args .stride) (a .args .s) (a .args .ss) (a .args .limit) (a .args .n) (a .args .n) (a .args .dst .now) _ (a .fits .t) (a .fits .ts) (a .fits .base) (a .fits .stride) (a .fits .s) (a .fits .ss) refl (o .put-strided-by2 .ensures))
+    (put-end nan (ruleF64 R.Lowest) (a .args .src .now) (a .args .starts .now) (a .args .t) (a .args .ts) (a .args .base) (a .args .stride) (a .args .s) (a .args .ss) (a .args .limit) (a .args .n) (a .args .n) (a .args .dst .now) _ (a .fits .t) (a .fits .ts) (a .fits .base) (a .fits .stride) (a .fits .s) (a .fits .ss) refl (o .put-strided-by2 .ensures .0), moves-end (a .args .starts .now) (a .args .t) (a .args .ts) (a .args .n) (a .args .n) _ (a .fits .t) (a .fits .ts) refl (a .args .limit) (o .put-strided-by2 .ensures .1))
 
 same-length-3 : tie.Need-same-length-3
 same-length-3 c = search needs
@@ -70,7 +71,7 @@ returns-3 c =
     let o : tie.After-put-strided-by3 = search in
     let a : tie.Start = search in
     rw (e .enum-told3 .given .1)
-    (put-end nan (ruleF64 R.Highest) (a .args .src .now) (a .args .starts .now) (a .args .t) (a .args .ts) (a .args .base) (a .args .stride) (a .args .s) (a .args .ss) (a .args .limit) (a .args .n) (a .args .n) (a .args .dst .now) _ (a .fits .t) (a .fits .ts) (a .fits .base) (a .fits .stride) (a .fits .s) (a .fits .ss) refl (o .put-strided-by3 .ensures))
+    (put-end nan (ruleF64 R.Highest) (a .args .src .now) (a .args .starts .now) (a .args .t) (a .args .ts) (a .args .base) (a .args .stride) (a .args .s) (a .args .ss) (a .args .limit) (a .args .n) (a .args .n) (a .args .dst .now) _ (a .fits .t) (a .fits .ts) (a .fits .base) (a .fits .stride) (a .fits .s) (a .fits .ss) refl (o .put-strided-by3 .ensures .0), moves-end (a .args .starts .now) (a .args .t) (a .args .ts) (a .args .n) (a .args .n) _ (a .fits .t) (a .fits .ts) refl (a .args .limit) (o .put-strided-by3 .ensures .1))
 
 same-length-4 : tie.Need-same-length-4
 same-length-4 c = search needs
@@ -81,7 +82,7 @@ returns-4 c =
     let o : tie.After-put-strided-by4 = search in
     let a : tie.Start = search in
     rw (e .enum-told4 .given .1)
-    (put-end nan (ruleF64 R.Replace) (a .args .src .now) (a .args .starts .now) (a .args .t) (a .args .ts) (a .args .base) (a .args .stride) (a .args .s) (a .args .ss) (a .args .limit) (a .args .n) (a .args .n) (a .args .dst .now) _ (a .fits .t) (a .fits .ts) (a .fits .base) (a .fits .stride) (a .fits .s) (a .fits .ss) refl (o .put-strided-by4 .ensures))
+    (put-end nan (ruleF64 R.Replace) (a .args .src .now) (a .args .starts .now) (a .args .t) (a .args .ts) (a .args .base) (a .args .stride) (a .args .s) (a .args .ss) (a .args .limit) (a .args .n) (a .args .n) (a .args .dst .now) _ (a .fits .t) (a .fits .ts) (a .fits .base) (a .fits .stride) (a .fits .s) (a .fits .ss) refl (o .put-strided-by4 .ensures .0), moves-end (a .args .starts .now) (a .args .t) (a .args .ts) (a .args .n) (a .args .n) _ (a .fits .t) (a .fits .ts) refl (a .args .limit) (o .put-strided-by4 .ensures .1))
 
 same-length-5 : tie.Need-same-length-5
 same-length-5 c = search needs
@@ -92,7 +93,7 @@ returns-5 c =
     let o : tie.After-put-strided-by5 = search in
     let a : tie.Start = search in
     rw (e .rule .given .1)
-    (put-end nan (ruleF64 (R.Ceiling (e .rule .given .0 .0))) (a .args .src .now) (a .args .starts .now) (a .args .t) (a .args .ts) (a .args .base) (a .args .stride) (a .args .s) (a .args .ss) (a .args .limit) (a .args .n) (a .args .n) (a .args .dst .now) _ (a .fits .t) (a .fits .ts) (a .fits .base) (a .fits .stride) (a .fits .s) (a .fits .ss) refl (o .put-strided-by5 .ensures))
+    (put-end nan (ruleF64 (R.Ceiling (e .rule .given .0 .0))) (a .args .src .now) (a .args .starts .now) (a .args .t) (a .args .ts) (a .args .base) (a .args .stride) (a .args .s) (a .args .ss) (a .args .limit) (a .args .n) (a .args .n) (a .args .dst .now) _ (a .fits .t) (a .fits .ts) (a .fits .base) (a .fits .stride) (a .fits .s) (a .fits .ss) refl (o .put-strided-by5 .ensures .0), moves-end (a .args .starts .now) (a .args .t) (a .args .ts) (a .args .n) (a .args .n) _ (a .fits .t) (a .fits .ts) refl (a .args .limit) (o .put-strided-by5 .ensures .1))
 
 pub put-strided-spec : {M : Type 1} → statement M
 put-strided-spec =

@@ -14,7 +14,7 @@ use Rattle.rules.specs.declared.RuleF64.the-variants as R
 use Rattle.runs.proofs.Place.{read, Index, index}
 use Rattle.runs.proofs.Runs.{Part, part-of}
 use Rattle.indexed_runs.specs.IndexedRuns.{clampedAt, oneAt}
-use Rattle.indexed_runs.proofs.Ones.{part-read, ones-ask, part-take}
+use Rattle.indexed_runs.proofs.Ones.{part-read, ones-ask, part-take, parts-count}
 use Rattle.indexed_runs_f64.proofs.take_row.Statement.{statement}
 use Rattle.indexed_runs_f64.proofs.take_row.Tie as tie
 
@@ -100,7 +100,7 @@ returns c =
     let x : ℕ = natAbs (read (a .args .t)) in
     let y : ℕ = natAbs (read (a .args .d)) in
     let u : ℕ = natAbs (read (a .args .base)) in
-    part-take nan (ruleF64 R.Replace) (take (length (a .args .src .now) - u) (drop u (a .args .src .now))) (a .args .src .now) (a .args .dst .now) _ (oneAt (take (x + a .args .n - x) (drop x (a .args .starts .now))) (toZ w64 (a .args .limit))) (clampedAt (a .args .starts .now) (line (a .args .t) (pos 1)) (a .args .base) (pos 1) (a .args .limit)) (a .args .d) y (a .args .n) (y + a .args .n - y) (omega arith) (plain a .is) (plain a .room) (part-read (a .args .starts .now) _ _ _ _ _ _ _ (a .pre .1) x (x + a .args .n - x) (omega arith) (starting a .is) u (length (a .args .src .now) - u) (first a .is) refl _ (a .args .src .now)) (t .take-ones .ensures)
+    (part-take nan (ruleF64 R.Replace) (take (length (a .args .src .now) - u) (drop u (a .args .src .now))) (a .args .src .now) (a .args .dst .now) _ (oneAt (take (x + a .args .n - x) (drop x (a .args .starts .now))) (toZ w64 (a .args .limit))) (clampedAt (a .args .starts .now) (line (a .args .t) (pos 1)) (a .args .base) (pos 1) (a .args .limit)) (a .args .d) y (a .args .n) (y + a .args .n - y) (omega arith) (plain a .is) (plain a .room) (part-read (a .args .starts .now) _ _ _ _ _ _ _ (a .pre .1) x (x + a .args .n - x) (omega arith) (starting a .is) u (length (a .args .src .now) - u) (first a .is) refl _ (a .args .src .now)) (t .take-ones .ensures .0), parts-count (a .args .starts .now) _ _ _ _ _ _ _ (a .pre .1) x (x + a .args .n - x) (omega arith) (starting a .is) u (length (a .args .src .now) - u) (first a .is) refl (a .args .dst .now) y (y + a .args .n - y) _ (omega arith) (plain a .room) (t .take-ones .ensures .1))
 
 pub take-row-spec : {M : Type 1} → statement M
 take-row-spec =
