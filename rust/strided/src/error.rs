@@ -2,6 +2,8 @@
 
 use core::fmt;
 
+use crate::ffi::Answer;
+
 /// Why a call was refused. A refusal changes no element of a destination.
 ///
 /// Every refusal has a number and two values, a and b, which are 0 where it
@@ -133,11 +135,10 @@ impl StridedError {
         }
     }
 
-    /// The three words of an answer. Words that no name has room for are kept
-    /// as they are.
-    pub(crate) fn check(answer: [u64; 3]) -> Result<()> {
-        let [number, a, b] = answer;
-        Err(match answer {
+    /// The refusal of an answer. Values that no name has room for are kept as
+    /// they are; the answer's last number is none of a refusal's.
+    pub(crate) fn check([number, a, b, _]: Answer) -> Result<()> {
+        Err(match [number, a, b] {
             [0, ..] => return Ok(()),
             [1, 0, 0] => Self::StrideLengthMismatch,
             [2, rank, limit] => Self::RankTooLarge { rank, limit },
@@ -213,17 +214,17 @@ mod tests {
     fn words_come_back_as_they_were() {
         for number in 1..20 {
             for (a, b) in [(0, 0), (3, 0), (0, 3), (u64::MAX, 7)] {
-                let refusal = StridedError::check([number, a, b]).unwrap_err();
+                let refusal = StridedError::check([number, a, b, 0]).unwrap_err();
                 assert_eq!(refusal.words(), [number, a, b]);
                 assert!(!refusal.to_string().is_empty());
             }
         }
-        assert_eq!(StridedError::check([0, 0, 0]), Ok(()));
+        assert_eq!(StridedError::check([0, 0, 0, 0]), Ok(()));
     }
 
     #[test]
     fn a_refusal_without_a_name() {
-        let refusal = StridedError::check([11, 40, 0]).unwrap_err();
+        let refusal = StridedError::check([11, 40, 0, 0]).unwrap_err();
         let named = StridedError::Unknown {
             number: 11,
             a: 40,
@@ -236,7 +237,7 @@ mod tests {
 
     #[test]
     fn a_rule_that_is_not_listed() {
-        let refusal = StridedError::check([18, 5, 0]).unwrap_err();
+        let refusal = StridedError::check([18, 5, 0, 0]).unwrap_err();
         assert_eq!(refusal, StridedError::UnlistedRule { rule: 5 });
         let words = "there is no rule 5 for elements of this type";
         assert_eq!(refusal.to_string(), words);
@@ -244,7 +245,7 @@ mod tests {
 
     #[test]
     fn a_writer_without_room() {
-        let refusal = StridedError::check([9, 0, 152]).unwrap_err();
+        let refusal = StridedError::check([9, 0, 152, 0]).unwrap_err();
         let words = "a stored job needs room for 152 bytes";
         assert_eq!(refusal.to_string(), words);
     }

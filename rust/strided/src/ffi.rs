@@ -10,7 +10,7 @@
 //! use strided::ffi;
 //!
 //! // No byte is too few for a job: refused by 10, at byte 0.
-//! assert_eq!(ffi::strided_read_job(&[]), [10, 0, 0]);
+//! assert_eq!(ffi::strided_read_job(&[]), [10, 0, 0, 0]);
 //! ```
 //!
 //! # Why the calls are sound
@@ -34,20 +34,21 @@
 
 use core::slice;
 
-/// The number of a refusal, or 0, then its a and b, 0 where unnamed.
-pub type Answer = [u64; 3];
+/// The number of a refusal, or 0, then its a and b, 0 where unnamed, and last
+/// how many windows slid, where a gather or a scatter was done, and otherwise 0.
+pub type Answer = [u64; 4];
 
 /// Every call overwrites it; a refusal without a name until then.
-const NO_ANSWER: Answer = [u64::MAX; 3];
+const NO_ANSWER: Answer = [u64::MAX; 4];
 
 /// The version of the exports, as the archive has it. The build script links
 /// no archive of another version than this crate is for.
 pub fn strided_version() -> u64 {
     extern "C" {
-        fn strided_version_2() -> u64;
+        fn strided_version_3() -> u64;
     }
     // SAFETY: it takes nothing, and returns a number.
-    unsafe { strided_version_2() }
+    unsafe { strided_version_3() }
 }
 
 /// Extents, axes or sizes, as the library takes them.

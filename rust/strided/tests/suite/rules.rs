@@ -274,19 +274,19 @@ fn rules_have_the_numbers_of_the_header() {
         let (mut by_number, mut by_name) = (before, before);
         let answer = raw_i32(number, &job, &job, &updates, &mut by_number);
         put(&job, &STARTS, &updates, &mut by_name, rule).unwrap();
-        assert_eq!((answer, by_number), ([0, 0, 0], by_name), "{rule:?}");
+        assert_eq!((answer, by_number), ([0, 0, 0, 1], by_name), "{rule:?}");
 
         let (before, updates) = (before.map(f64::from), updates.map(f64::from));
         let (mut by_number, mut by_name) = (before, before);
         // The limit is not read.
         let answer = raw_f64(number, -1.0, &job, &job, &updates, &mut by_number);
         put(&job, &STARTS, &updates, &mut by_name, rule).unwrap();
-        assert_eq!((answer, by_number), ([0, 0, 0], by_name), "{rule:?}");
+        assert_eq!((answer, by_number), ([0, 0, 0, 1], by_name), "{rule:?}");
     }
     let mut grid = [10.0; 5];
     let ceiling = number_of("CEILING");
     let answer = raw_f64(ceiling, 11.0, &job, &job, &[12.0, 7.0, 0.5], &mut grid);
-    assert_eq!(answer, [0, 0, 0]);
+    assert_eq!(answer, [0, 0, 0, 1]);
     assert_eq!(grid, [11.0, 10.0, 10.0, 10.0, 10.5]);
 }
 
@@ -320,13 +320,15 @@ fn a_rule_that_is_not_listed_is_refused_first() {
         for rule in [0, 5, 6, 18, 1 << 32 | 1, u64::MAX] {
             let mut grid = [7; 5];
             let answer = raw_i32(rule, &job, &views, &[3, 4, 5], &mut grid);
-            assert_eq!((answer, grid), ([18, rule, 0], [7; 5]), "beside {number}");
+            let refused = [18, rule, 0, 0];
+            assert_eq!((answer, grid), (refused, [7; 5]), "beside {number}");
         }
         for rule in [0, 6, 18, 1 << 32 | 1, u64::MAX] {
             for limit in [0.0, f64::NAN] {
                 let mut grid = [7.0; 5];
                 let answer = raw_f64(rule, limit, &job, &views, &[3.0, 4.0, 5.0], &mut grid);
-                assert_eq!((answer, grid), ([18, rule, 0], [7.0; 5]), "beside {number}");
+                let refused = [18, rule, 0, 0];
+                assert_eq!((answer, grid), (refused, [7.0; 5]), "beside {number}");
             }
         }
     }
@@ -353,6 +355,6 @@ fn a_listed_rule_is_refused_for_the_rest_alone() {
 #[test]
 fn slices_without_elements_and_a_rule_that_is_not_listed() {
     let job = cuts_added();
-    assert_eq!(raw_i32(0, &job, &job, &[], &mut []), [18, 0, 0]);
-    assert_eq!(raw_f64(9, 1.0, &job, &job, &[], &mut []), [18, 9, 0]);
+    assert_eq!(raw_i32(0, &job, &job, &[], &mut []), [18, 0, 0, 0]);
+    assert_eq!(raw_f64(9, 1.0, &job, &job, &[], &mut []), [18, 9, 0, 0]);
 }
