@@ -77,16 +77,46 @@ pub fn same(given: &Answer, expected: &Answer, added: &[bool]) -> bool {
     if given == expected {
         return true;
     }
-    let (Answer::Called(n, Data::F64(given)), Answer::Called(m, Data::F64(expected))) =
-        (given, expected)
+    let (
+        Answer::Called(n, Data::F64(given), given_slid),
+        Answer::Called(m, Data::F64(expected), expected_slid),
+    ) = (given, expected)
     else {
         return false;
     };
     let nan = |bits: u64| f64::from_bits(bits).is_nan();
     let mut cells = given.iter().zip(expected).zip(added);
     n == m
+        && given_slid == expected_slid
         && given.len() == expected.len()
         && cells.all(|((&g, &e), &added)| g == e || (added && nan(g) && nan(e)))
+}
+
+/// The answer with another number of windows that slid, or without one.
+fn with_slid(answer: Answer, slid: Option<u64>) -> Answer {
+    match answer {
+        Answer::Called(number, dest, _) => Answer::Called(number, dest, slid),
+        other => other,
+    }
+}
+
+/// What the oracle has of an answer: it does not count windows that slid.
+pub fn of_oracle(answer: Answer) -> Answer {
+    with_slid(answer, None)
+}
+
+/// The oracle's answer to a call, with the model's number of windows that
+/// slid, and the elements that an add gave. None where a driver that is no
+/// oracle stands in its place: the line has a number of its own.
+pub fn completed(answered: &Answered, oracle: usize) -> Option<(Answer, Vec<bool>)> {
+    let answer = answered.answer(oracle)?;
+    let verdict = Model::default().judge(answered.call()?);
+    match (&answer, verdict.answer) {
+        (Answer::Called(_, _, None), Answer::Called(_, _, slid)) => {
+            Some((with_slid(answer, slid), verdict.added))
+        }
+        _ => None,
+    }
 }
 
 /// Why a call lies outside the domain of comparison, where it does: the
@@ -102,7 +132,7 @@ pub fn outside(verdict: &Verdict, call: &Call) -> Option<&'static str> {
     }
 }
 
-/// The first case that tells this model from the first driver's answers.
+/// The first case that tells this model from the oracle's completed answers.
 pub fn first_seen<'a>(
     model: &Model,
     cases: impl IntoIterator<Item = &'a (&'a Answered, Answer, Vec<bool>)>,
@@ -120,17 +150,9 @@ pub fn first_seen<'a>(
         .map(|(answered, _, _)| *answered)
 }
 
-/// The calls that can tell mutants from the first driver, with its answers
-/// and the elements that an add gave.
+/// The calls that can tell mutants from the first driver, the oracle, with its
+/// answers completed and the elements that an add gave.
 pub fn telling(cases: &[Answered]) -> Vec<(&Answered, Answer, Vec<bool>)> {
-    let one = |answered: &'_ Answered| {
-        let call = answered.call()?;
-        let expected = answered.answer(0)?;
-        matches!(expected, Answer::Called(..)).then_some(())?;
-        Some((expected, Model::default().judge(call).added))
-    };
-    cases
-        .iter()
-        .filter_map(|answered| one(answered).map(|(e, added)| (answered, e, added)))
-        .collect()
+    let one = |answered| completed(answered, 0).map(|(e, added)| (answered, e, added));
+    cases.iter().filter_map(one).collect()
 }

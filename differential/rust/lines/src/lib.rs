@@ -188,8 +188,9 @@ impl Number {
 
 #[derive(Clone, Debug, PartialEq, Eq)]
 pub enum Answer {
-    /// A call's number and the whole destination slice after it.
-    Called(Number, Data),
+    /// A call's number, the whole destination slice after it, and how many
+    /// windows slid: none where the call was refused, nor from the oracle.
+    Called(Number, Data, Option<u64>),
     /// A reader's number, with the job if there is one.
     Read(Number, Option<Box<Job>>),
     /// A writer's number, with the bytes if there are any.

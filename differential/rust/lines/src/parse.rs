@@ -239,6 +239,17 @@ pub fn parse_answer(text: &str, of: Element) -> Option<Answer> {
     let number = Number::new(n, number(tokens.next()?)?, number(tokens.next()?)?);
     (tokens.next()? == "dest").then_some(())?;
     let dest = data(tokens.next()?, of)?;
+    let slid = slid(&mut tokens)?;
+    Some(Answer::Called(number, dest, slid))
+}
+
+/// The number of windows that slid, where the line has one before it ends.
+fn slid(tokens: &mut Tokens) -> Option<Option<u64>> {
+    let slid = match tokens.next() {
+        None => return Some(None),
+        Some("slid") => number(tokens.next()?)?,
+        Some(_) => return None,
+    };
     tokens.end()?;
-    Some(Answer::Called(number, dest))
+    Some(Some(slid))
 }

@@ -146,7 +146,10 @@ impl Display for Number {
 impl Display for Answer {
     fn fmt(&self, f: &mut Formatter<'_>) -> fmt::Result {
         match self {
-            Answer::Called(number, dest) => write!(f, "answer {number} dest {dest}"),
+            Answer::Called(number, dest, None) => write!(f, "answer {number} dest {dest}"),
+            Answer::Called(number, dest, Some(slid)) => {
+                write!(f, "answer {number} dest {dest} slid {slid}")
+            }
             Answer::Read(number, Some(job)) => write!(f, "answer {number} job {job}"),
             Answer::Written(number, Some(bytes)) => {
                 write!(f, "answer {number} bytes {}", Bytes(bytes))

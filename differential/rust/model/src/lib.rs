@@ -1,6 +1,7 @@
 //! Document 01 in exact integers: the refusals in their order, the meaning of
-//! gather and scatter, the stored job; and document 02's rules of a scatter.
-//! It knows nothing of the Rust original.
+//! gather and scatter, the stored job; and of document 02 the rules of a
+//! scatter and the number of windows that slid. It knows nothing of the Rust
+//! original.
 //!
 //! A model can be twisted, for the mutation run: a check moved or dropped, or
 //! a slip made somewhere.
@@ -10,11 +11,13 @@ mod checks;
 mod meaning;
 mod rules;
 mod shape;
+mod slid;
 mod slips;
 mod stored;
 mod twist;
 
 pub use checks::{order, Check};
+pub use slid::{starts, windows};
 pub use slips::{Slip, SLIPS};
 pub use stored::{read, write};
 pub use twist::{mutants, Mutant, Twist};
@@ -75,7 +78,7 @@ impl Model {
         }
         let (dest, added) = self.run(call);
         Verdict {
-            answer: Answer::Called(Number::DONE, dest),
+            answer: Answer::Called(Number::DONE, dest, Some(self.slid(call))),
             refused_by: None,
             added,
         }
@@ -104,7 +107,7 @@ impl Model {
             false => call.dest.clone(),
         };
         Verdict {
-            answer: Answer::Called(number, dest),
+            answer: Answer::Called(number, dest, None),
             refused_by,
             added: vec![false; call.dest.len()],
         }

@@ -72,12 +72,12 @@ fn outside(coordinate: &[i128], extents: &[u64]) -> bool {
 }
 
 /// The axes on which starts are given, with the clamp's bounds.
-struct Starts<'a> {
+pub(crate) struct Starts<'a> {
     call: &'a Call,
     vector: u64,
-    map: &'a [u64],
-    extents: &'a [u64],
-    windows: &'a [u64],
+    pub(crate) map: &'a [u64],
+    pub(crate) extents: &'a [u64],
+    pub(crate) windows: Vec<u64>,
 }
 
 impl Model {
@@ -117,13 +117,7 @@ impl Model {
         let kept = others(rank, &spec.collapsed_slice_dims);
         let batch = others(dest.layout.extents.len(), &spec.offset_dims);
         let shown = self.window_axes(&spec.offset_dims);
-        let starts = Starts {
-            call,
-            vector: spec.index_vector_dim,
-            map: &spec.start_index_map,
-            extents: &operand.layout.extents,
-            windows: &spec.slice_sizes,
-        };
+        let starts = self.starts(call);
         let mut first = None;
         for k in 0..self.cells(&dest.layout.extents) {
             let result = self.coordinate(&dest.layout.extents, k, Slip::GatherLastFastest);
@@ -199,13 +193,7 @@ impl Model {
         let batch_shape = pick(&index.layout.extents, &batch_axes);
         let shown = self.window_axes(&spec.update_window_dims);
         let window_shape = pick(&updates.layout.extents, &shown);
-        let starts = Starts {
-            call,
-            vector: spec.index_vector_dim,
-            map: &spec.scatter_dims_to_operand_dims,
-            extents: &dest.layout.extents,
-            windows: &self.scatter_windows(spec, &dest.layout, &updates.layout),
-        };
+        let starts = self.starts(call);
         // With no window cells there are no updates, however many batches.
         let batches = match self.cells(&window_shape) {
             0 => 0,
@@ -302,6 +290,27 @@ impl Model {
         }
     }
 
+    /// The axes on which the call's starts are given.
+    pub(crate) fn starts<'a>(&self, call: &'a Call) -> Starts<'a> {
+        let [first, second, dest] = &call.job.views;
+        match &call.job.spec {
+            Spec::Gather(spec) => Starts {
+                call,
+                vector: spec.index_vector_dim,
+                map: &spec.start_index_map,
+                extents: &first.layout.extents,
+                windows: spec.slice_sizes.clone(),
+            },
+            Spec::Scatter(spec) => Starts {
+                call,
+                vector: spec.index_vector_dim,
+                map: &spec.scatter_dims_to_operand_dims,
+                extents: &dest.layout.extents,
+                windows: self.scatter_windows(spec, &dest.layout, &second.layout),
+            },
+        }
+    }
+
     /// The start on every operand axis: clamped where mapped, else 0.
     fn full_start(&self, starts: &Starts, batch: &[i128]) -> Vec<i128> {
         let mut full = vec![0; starts.extents.len()];
@@ -311,7 +320,7 @@ impl Model {
                 false => axis,
             };
             let start = self.start(starts, batch, c as u64);
-            let (extent, window) = (at(starts.extents, axis), at(starts.windows, axis));
+            let (extent, window) = (at(starts.extents, axis), at(&starts.windows, axis));
             if let Some(entry) = full.get_mut(axis as usize) {
                 *entry = match self.drops_cells(starts.call) {
                     true => start.into(),
@@ -327,7 +336,14 @@ impl Model {
     }
 
     /// Component `c` of the start at a batch coordinate.
-    fn start(&self, starts: &Starts, batch: &[i128], c: u64) -> i64 {
+    pub(crate) fn start(&self, starts: &Starts, batch: &[i128], c: u64) -> i64 {
+        let place = usize::try_from(self.start_place(starts, batch, c)).ok();
+        let start = place.and_then(|p| starts.call.index.get(p));
+        start.copied().unwrap_or(0)
+    }
+
+    /// Its place in the index view's slice.
+    pub(crate) fn start_place(&self, starts: &Starts, batch: &[i128], c: u64) -> i128 {
         let index = starts.call.job.index();
         let rank = index.layout.extents.len();
         let mut coordinate = batch.to_vec();
@@ -339,14 +355,11 @@ impl Model {
         if let Some(place) = vector {
             coordinate.insert(place, c.into());
         }
-        let place = self.place(index, &coordinate);
-        let place = usize::try_from(place).ok();
-        let start = place.and_then(|p| starts.call.index.get(p));
-        start.copied().unwrap_or(0)
+        self.place(index, &coordinate)
     }
 
     /// Clamped to 0 .. extent - window.
-    fn clamped(&self, start: i64, extent: u64, window: u64) -> i128 {
+    pub(crate) fn clamped(&self, start: i64, extent: u64, window: u64) -> i128 {
         let exact = i128::from(start);
         let highest = i128::from(extent.saturating_sub(window));
         match self.twist.slip {
@@ -365,7 +378,7 @@ impl Model {
     fn off_grid(&self, starts: &Starts, batch: &[i128]) -> bool {
         starts.map.iter().enumerate().any(|(c, &axis)| {
             let start = self.start(starts, batch, c as u64);
-            let (extent, window) = (at(starts.extents, axis), at(starts.windows, axis));
+            let (extent, window) = (at(starts.extents, axis), at(&starts.windows, axis));
             let highest = i128::from(extent) - i128::from(window);
             start < 0 || i128::from(start) > highest
         })

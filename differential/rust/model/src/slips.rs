@@ -171,4 +171,17 @@ slips! {
     CeilingTakesNan: "Ceiling takes the limit unless the sum is less or equal, so also where either is NaN";
     CeilingTurnedRound: "Ceiling takes the limit where the sum is less";
     CeilingElsewhere: "Ceiling's limit is applied to cells that nothing lands on";
+    // How many windows slid.
+    SlidComponents: "moved components are counted, not windows";
+    SlidCells: "the cells of windows that slid are counted";
+    SlidGatherWithoutCells: "windows are counted where a gather's destination has no cells";
+    SlidScatterWithoutCells: "windows are counted where a scatter's updates have no cells";
+    SlidAboveOnly: "a start below 0 does not count as moved";
+    SlidBelowOnly: "a start past the last one does not count as moved";
+    SlidFirstComponent: "only the first component of a start is looked at";
+    SlidLastComponent: "only the last component of a start is looked at";
+    SlidSharedOnce: "windows that read the same start through stride 0 count once";
+    SlidAtLimit: "the last start that is not moved counts as moved";
+    SlidIgnoresWindow: "a start past the last one counts as moved only where it is past the grid";
+    SlidAllWhereOne: "every window counts where one slid";
 }

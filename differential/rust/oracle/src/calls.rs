@@ -18,7 +18,7 @@ pub fn answer(case: &Case) -> Answer {
 
 fn called(call: &Call) -> Answer {
     if let Some(number) = added::before_compile(&call.job) {
-        return Answer::Called(number, call.dest.clone());
+        return Answer::Called(number, call.dest.clone(), None);
     }
     match (&call.source, &call.dest) {
         (Data::I32(source), Data::I32(dest)) => by_i32(call, source, dest),
@@ -69,7 +69,7 @@ fn by_f64(call: &Call, source: &[u64], dest: &[u64]) -> Answer {
 }
 
 /// Compiles and executes on elements made of the case's, and gives the number
-/// with the whole destination.
+/// with the whole destination. The Rust does not count windows that slid.
 fn run<E: Copy, T>(
     call: &Call,
     (source, dest): (&[E], &[E]),
@@ -88,8 +88,8 @@ where
     };
     let dest = data(dest.into_iter().map(back).collect());
     match done {
-        Ok(()) => Answer::Called(Number::DONE, dest),
-        Err(Stop::Refused(number)) => Answer::Called(number, dest),
+        Ok(()) => Answer::Called(Number::DONE, dest, None),
+        Err(Stop::Refused(number)) => Answer::Called(number, dest, None),
         Err(Stop::TooMany) => Answer::TooMany,
     }
 }

@@ -1,21 +1,22 @@
-//! Compares answers: `compare CASES ORACLE PORT`, three files. The model
-//! answers here. Prints counts; the exit status is 1 where answers differ.
-//! Stored answers may stand for the oracle's, and the oracle's for the port's.
+//! Compares answers: `compare CASES NAME=FILE NAME=FILE`, the answers of two
+//! sides by name. The model answers here. Prints counts; the exit status is 1
+//! where answers differ. The side of the name `oracle` is the Rust, which has
+//! no number of windows that slid and no stored jobs: a number in its answers
+//! is a difference. Every other side must have the model's.
 
-use cases::answers::{load, outside, same, Answered};
+use cases::answers::{load, of_oracle, outside, same, Answered};
 use lines::{Answer, Call, Case, Number, Spec};
-use model::{order, Check, Model};
+use model::{order, windows, Check, Model};
 use std::collections::BTreeMap;
 use std::path::Path;
 use std::process::ExitCode;
 
-const ORACLE: usize = 0;
-const PORT: usize = 1;
+const ORACLE: &str = "oracle";
 const MOST_SHOWN: usize = 10;
 
 #[derive(Default)]
 struct Counts {
-    /// The names of the two drivers: those of their files.
+    /// The names of the two sides.
     names: [String; 2],
     cases: usize,
     numbers: BTreeMap<u64, usize>,
@@ -24,33 +25,28 @@ struct Counts {
     outside: BTreeMap<&'static str, usize>,
     /// Scatters that were done, by element and rule.
     rules: BTreeMap<(String, &'static str), usize>,
-    /// What the second driver answered, by number.
-    port_numbers: BTreeMap<u64, usize>,
+    /// Calls that were done, by kind and by how many of their windows slid.
+    slid: BTreeMap<(&'static str, &'static str), usize>,
+    /// What the second side answered, by number.
+    second_numbers: BTreeMap<u64, usize>,
     different: usize,
 }
 
 fn main() -> ExitCode {
-    let files: Vec<String> = std::env::args().skip(1).collect();
-    let [cases, oracle, port] = &files[..] else {
-        eprintln!("usage: compare CASES ORACLE PORT");
+    let arguments: Vec<String> = std::env::args().skip(1).collect();
+    let Some((cases, [first, second])) = sides(&arguments) else {
+        eprintln!("usage: compare CASES NAME=FILE NAME=FILE");
         return ExitCode::from(2);
     };
-    let drivers = [oracle, port].map(Path::new);
-    let cases = match load(Path::new(cases), &drivers) {
+    let cases = match load(Path::new(cases), &[first.1, second.1].map(Path::new)) {
         Ok(cases) => cases,
         Err(error) => {
             eprintln!("{error}");
             return ExitCode::from(1);
         }
     };
-    let stem = |path: &Path| {
-        path.file_stem()
-            .unwrap_or_default()
-            .to_string_lossy()
-            .into_owned()
-    };
     let mut counts = Counts {
-        names: drivers.map(stem),
+        names: [first.0, second.0].map(str::to_string),
         ..Counts::default()
     };
     for answered in &cases {
@@ -60,31 +56,55 @@ fn main() -> ExitCode {
     ExitCode::from(u8::from(counts.different > 0))
 }
 
+/// The file of cases, and the sides by name and file.
+fn sides(arguments: &[String]) -> Option<(&str, [(&str, &str); 2])> {
+    let [cases, first, second] = arguments else {
+        return None;
+    };
+    Some((cases, [first.split_once('=')?, second.split_once('=')?]))
+}
+
 impl Counts {
     fn take(&mut self, answered: &Answered) {
         self.cases += 1;
+        if let Some(number) = number_of(&answered.given[1]) {
+            *self.second_numbers.entry(number).or_default() += 1;
+        }
         match &answered.case {
-            Some(Case::Call(_)) => self.take_call(answered),
-            Some(case) => {
-                self.count_outside("the Rust has no stored job");
-                let expected = Model::default().answer(case);
-                self.count_number(&expected);
-                let expected = expected.to_string();
-                self.note(answered, ORACLE, answered.given[ORACLE] == "answer none");
-                self.take_port(answered, answered.given[PORT] == expected);
-            }
+            Some(Case::Call(call)) => self.take_call(answered, call),
+            Some(case) => self.take_stored_job(answered, case),
             None => {
                 self.count_outside("not in the format");
-                for driver in [ORACLE, PORT] {
-                    let same = answered.given[driver] == "answer malformed";
-                    self.note(answered, driver, same);
+                for side in [0, 1] {
+                    self.hold(answered, side, &Answer::Malformed);
                 }
             }
         }
     }
 
-    fn take_call(&mut self, answered: &Answered) {
-        let Some(call) = answered.call() else { return };
+    fn take_stored_job(&mut self, answered: &Answered, case: &Case) {
+        self.count_outside("the Rust has no stored job");
+        let expected = Model::default().answer(case);
+        self.count_number(&expected);
+        for side in [0, 1] {
+            match self.is_oracle(side) {
+                true => self.hold(answered, side, &Answer::None),
+                false => self.hold(answered, side, &expected),
+            }
+        }
+    }
+
+    fn is_oracle(&self, side: usize) -> bool {
+        self.names[side] == ORACLE
+    }
+
+    /// A side's line must be this answer, as it is printed.
+    fn hold(&mut self, answered: &Answered, side: usize, expected: &Answer) {
+        let agrees = answered.given[side] == expected.to_string();
+        self.note(answered, side, agrees, expected);
+    }
+
+    fn take_call(&mut self, answered: &Answered, call: &Call) {
         let verdict = Model::default().judge(call);
         self.count_number(&verdict.answer);
         if let Some(check) = verdict.refused_by {
@@ -93,24 +113,23 @@ impl Counts {
         if let Some(reason) = outside(&verdict, call) {
             self.count_outside(reason);
         }
-        self.count_rule(call, &verdict.answer);
-        let agrees = |driver| {
-            let answer = answered.answer(driver);
-            answer.is_some_and(|answer| same(&answer, &verdict.answer, &verdict.added))
-        };
-        self.note(answered, ORACLE, agrees(ORACLE));
-        self.take_port(answered, agrees(PORT));
-    }
-
-    fn take_port(&mut self, answered: &Answered, agrees: bool) {
-        if let Some(number) = number_of(&answered.given[PORT]) {
-            *self.port_numbers.entry(number).or_default() += 1;
+        if let Answer::Called(Number::DONE, _, Some(slid)) = verdict.answer {
+            self.count_rule(call);
+            self.count_slid(call, slid);
         }
-        self.note(answered, PORT, agrees);
+        for side in [0, 1] {
+            let expected = match self.is_oracle(side) {
+                true => of_oracle(verdict.answer.clone()),
+                false => verdict.answer.clone(),
+            };
+            let given = answered.answer(side);
+            let agrees = given.is_some_and(|given| same(&given, &expected, &verdict.added));
+            self.note(answered, side, agrees, &expected);
+        }
     }
 
     fn count_number(&mut self, answer: &Answer) {
-        if let Answer::Called(number, _) | Answer::Read(number, _) | Answer::Written(number, _) =
+        if let Answer::Called(number, ..) | Answer::Read(number, _) | Answer::Written(number, _) =
             answer
         {
             *self.numbers.entry(number.n).or_default() += 1;
@@ -128,16 +147,29 @@ impl Counts {
         *self.outside.entry(reason).or_default() += 1;
     }
 
-    fn count_rule(&mut self, call: &Call, answer: &Answer) {
-        let done = matches!(answer, Answer::Called(Number::DONE, _));
-        if done && matches!(call.job.spec, Spec::Scatter(_)) {
+    fn count_rule(&mut self, call: &Call) {
+        if matches!(call.job.spec, Spec::Scatter(_)) {
             let key = (call.job.element.to_string(), call.rule.name());
             *self.rules.entry(key).or_default() += 1;
         }
     }
 
-    /// Shows a difference between a driver and the model.
-    fn note(&mut self, answered: &Answered, driver: usize, agrees: bool) {
+    fn count_slid(&mut self, call: &Call, slid: u64) {
+        let (kind, written) = match call.job.spec {
+            Spec::Gather(_) => ("gather", call.job.dest()),
+            Spec::Scatter(_) => ("scatter", call.job.source()),
+        };
+        let which = match slid {
+            0 if written.layout.extents.contains(&0) => "no cells",
+            0 => "none",
+            n if u128::from(n) == windows(call) => "all",
+            _ => "some",
+        };
+        *self.slid.entry((kind, which)).or_default() += 1;
+    }
+
+    /// Shows a difference between a side and what is due of it.
+    fn note(&mut self, answered: &Answered, side: usize, agrees: bool, expected: &Answer) {
         if agrees {
             return;
         }
@@ -145,14 +177,10 @@ impl Counts {
         if self.different > MOST_SHOWN {
             return;
         }
-        let name = &self.names[driver];
-        let model = answered.case.as_ref().map_or_else(
-            || Answer::Malformed.to_string(),
-            |case| Model::default().answer(case).to_string(),
-        );
+        let name = &self.names[side];
         println!("difference: {} {}", answered.id, answered.text);
-        println!("  {name}: {}", answered.given[driver]);
-        println!("  model: {model}");
+        println!("  {name}: {}", answered.given[side]);
+        println!("  model: {expected}");
     }
 
     fn print(&self) {
@@ -174,8 +202,12 @@ impl Counts {
         for ((element, rule), count) in &self.rules {
             println!("  {element} {rule}: {count}");
         }
-        println!("answered by {}:", self.names[PORT]);
-        for (number, count) in &self.port_numbers {
+        println!("calls done, by how many of their windows slid:");
+        for ((kind, which), count) in &self.slid {
+            println!("  {kind} {which}: {count}");
+        }
+        println!("answered by {}:", self.names[1]);
+        for (number, count) in &self.second_numbers {
             println!("  {number}: {count}");
         }
         println!("differences: {}", self.different);

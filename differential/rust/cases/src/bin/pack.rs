@@ -6,7 +6,7 @@ use lines::{Answer, Call, Data, Element, GatherSpec, Layout, Number, Rule, Scatt
 use std::path::Path;
 use std::{fs, io};
 
-const MAGIC: &[u8; 8] = b"strided1";
+const MAGIC: &[u8; 8] = b"strided2";
 /// What the program's buffer holds.
 const MOST_WORDS: usize = 512;
 
@@ -48,11 +48,18 @@ fn packed(answered: &Answered) -> Result<Vec<u8>, &'static str> {
     if call.rule != Rule::Add {
         return Err("a rule, which the program does not know");
     }
-    let Some(Answer::Called(number, after)) = answered.answer(0) else {
-        return Err("no answer with a destination");
+    let (number, after, slid) = match answered.answer(0) {
+        Some(Answer::Called(number, after, slid)) => (number, after, slid),
+        _ => return Err("no answer with a destination"),
+    };
+    let slid = match (number, slid) {
+        (Number::DONE, Some(slid)) => slid,
+        (Number::DONE, None) => return Err("no number of windows that slid"),
+        (_, None) => 0,
+        (_, Some(_)) => return Err("windows that slid in a call that was refused"),
     };
     let lists = lists(call, &after);
-    let words = words(call, number, &lists);
+    let words = words(call, number, slid, &lists);
     if words.len() > MOST_WORDS {
         return Err("more words than the program holds");
     }
@@ -82,14 +89,15 @@ fn head(call: &Call, number: Number, lists: &[Vec<u64>; 20]) -> Result<Vec<u8>, 
     Ok(head)
 }
 
-/// The offsets in view order, the vector axis, a, b, and the lists' entries.
-fn words(call: &Call, number: Number, lists: &[Vec<u64>; 20]) -> Vec<u64> {
+/// The offsets in view order, the vector axis, a, b, how many windows slid,
+/// and the lists' entries.
+fn words(call: &Call, number: Number, slid: u64, lists: &[Vec<u64>; 20]) -> Vec<u64> {
     let vector = match &call.job.spec {
         Spec::Gather(spec) => spec.index_vector_dim,
         Spec::Scatter(spec) => spec.index_vector_dim,
     };
     let mut words: Vec<u64> = call.job.views.iter().map(|v| v.offset as u64).collect();
-    words.extend([vector, number.a, number.b]);
+    words.extend([vector, number.a, number.b, slid]);
     words.extend(lists.iter().flatten());
     words
 }

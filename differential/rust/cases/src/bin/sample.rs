@@ -1,12 +1,14 @@
 //! Chooses cases to be stored: `sample CASES ORACLE DIR` writes
 //! DIR/cases.txt and DIR/answers.txt. Every paper's case is kept, a case that
 //! sees each mutant, and some for every refusal, answer, rank, element type
-//! and place of the vector axis. Cases that name a rule are left out: the
-//! program that replays the stored ones knows no rules.
+//! and place of the vector axis, and for windows that slide in every way.
+//! Cases that name a rule are left out: the program that replays the stored
+//! ones knows no rules. The answers are the oracle's, with the model's number
+//! of windows that slid, which the oracle has not.
 
-use cases::answers::{first_seen, load, telling, Answered};
+use cases::answers::{completed, first_seen, load, telling, Answered};
 use lines::{Answer, Call, Spec};
-use model::{mutants, Model};
+use model::{mutants, starts, Model};
 use std::collections::{BTreeMap, BTreeSet};
 use std::path::Path;
 use std::{fs, io};
@@ -14,6 +16,8 @@ use std::{fs, io};
 /// Longer lines than this are left out.
 const LONGEST: usize = 330;
 const MOST_BYTES: usize = 560_000;
+/// Of how many windows the starts are looked at.
+const MOST_WINDOWS: usize = 64;
 
 fn main() -> io::Result<()> {
     let files: Vec<String> = std::env::args().skip(1).collect();
@@ -35,10 +39,18 @@ fn write<'a>(dir: &Path, chosen: impl Iterator<Item = &'a Answered>) -> io::Resu
     let (mut cases, mut answers) = (String::new(), String::new());
     for answered in chosen {
         cases += &format!("{} {}\n", answered.id, answered.text);
-        answers += &format!("{} {}\n", answered.id, answered.given[0]);
+        answers += &format!("{} {}\n", answered.id, stored(answered));
     }
     fs::write(dir.join("cases.txt"), cases)?;
     fs::write(dir.join("answers.txt"), answers)
+}
+
+/// The oracle's line, completed where it answers a call.
+fn stored(answered: &Answered) -> String {
+    match completed(answered, 0) {
+        Some((answer, _)) => answer.to_string(),
+        None => answered.given[0].clone(),
+    }
 }
 
 fn chosen(cases: &[Answered]) -> BTreeSet<String> {
@@ -76,7 +88,7 @@ fn chosen(cases: &[Answered]) -> BTreeSet<String> {
 }
 
 fn size(answered: &Answered) -> usize {
-    2 * answered.id.len() + answered.text.len() + answered.given[0].len() + 4
+    2 * answered.id.len() + answered.text.len() + stored(answered).len() + 4
 }
 
 /// Generated cases have numbers; the papers' have names.
@@ -98,7 +110,7 @@ fn features(call: &Call, given: &str) -> Vec<(String, usize)> {
         None => "done".to_string(),
     };
     let mut features = vec![(format!("{kind} {element} {line}"), 10)];
-    if let Answer::Called(number, _) = verdict.answer {
+    if let Answer::Called(number, ..) = verdict.answer {
         features.push((format!("{kind} {number}"), 1));
     }
     if verdict.refused_by.is_none() {
@@ -111,6 +123,71 @@ fn features(call: &Call, given: &str) -> Vec<(String, usize)> {
         features.push((format!("{kind} vector {vector} of {rank}"), 3));
         let changed = !given.ends_with(&format!("dest {}", call.dest));
         features.push((format!("{kind} {element} changed {changed}"), 60));
+        features.extend(slid_features(call, kind));
     }
     features
+}
+
+/// What a call that is done shows of windows that slide: how many of them do,
+/// where their starts lie, which component moves alone, and whether windows
+/// share a start.
+fn slid_features(call: &Call, kind: &str) -> Vec<(String, usize)> {
+    let starts: Vec<Vec<(i64, u64)>> = starts(call).take(MOST_WINDOWS).collect();
+    let cells = match call.job.spec {
+        Spec::Gather(_) => !call.job.dest().layout.extents.contains(&0),
+        Spec::Scatter(_) => !call.job.source().layout.extents.contains(&0),
+    };
+    let slid: Vec<_> = starts
+        .iter()
+        .filter(|start| moved(start).any(|m| m))
+        .collect();
+    let which = match slid.len() {
+        0 => "none",
+        n if n == starts.len() => "all",
+        _ => "some",
+    };
+    let mut features = vec![(format!("{kind} cells {cells} slid {which}"), 20)];
+    let index = &call.job.index().layout;
+    let shared = index.extents.iter().zip(&index.strides);
+    if shared
+        .into_iter()
+        .any(|(&extent, &stride)| extent > 1 && stride == 0)
+    {
+        features.push((format!("{kind} cells {cells} shared, slid {which}"), 8));
+    }
+    for start in &starts {
+        features.extend(start_features(start, kind, cells));
+    }
+    features
+}
+
+/// Of one window: where its start lies on each axis, and which component of
+/// several moves alone.
+fn start_features(start: &[(i64, u64)], kind: &str, cells: bool) -> Vec<(String, usize)> {
+    let lies = |&(start, last): &(i64, u64)| {
+        let lies = match i128::from(start) - i128::from(last) {
+            _ if start < -1 => "far below",
+            _ if start == -1 => "below",
+            0 => "at the last",
+            1 => "past",
+            2.. => "far past",
+            _ => "inside",
+        };
+        (
+            format!("{kind} cells {cells} start {lies}, room {}", last > 0),
+            6,
+        )
+    };
+    let mut features: Vec<_> = start.iter().map(lies).collect();
+    let alone = moved(start).filter(|&moved| moved).count() == 1;
+    if let (true, Some(place)) = (alone, moved(start).position(|moved| moved)) {
+        features.push((format!("{kind} moves {place} of {} alone", start.len()), 3));
+    }
+    features
+}
+
+/// Which components the clamp moves.
+fn moved(start: &[(i64, u64)]) -> impl Iterator<Item = bool> + use<'_> {
+    let is_moved = |&(start, last): &(i64, u64)| u64::try_from(start).map_or(true, |s| s > last);
+    start.iter().map(is_moved)
 }
