@@ -33,7 +33,9 @@ impl Iterator for Large {
         if random.percent(40) {
             pack(random, &mut call);
         }
-        call.index = starts(random, call.index.len(), &reaches);
+        if random.percent(70) {
+            call.index = starts(random, call.index.len(), &reaches);
+        }
         fill(random, &mut call.source);
         fill(random, &mut call.dest);
         Some(call)

@@ -10,6 +10,7 @@ pub mod large;
 mod random;
 mod rules;
 pub mod small;
+mod starts;
 mod valid;
 
 pub use faults::fault_names;

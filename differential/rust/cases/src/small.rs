@@ -1,7 +1,7 @@
 //! Small cases, all of them: every meaning on a small grid, every short axis
 //! list, every small destination layout, every view near the ends of its
 //! slice, every pair of walk axes from a list of edges, every rule on two
-//! updates of one cell.
+//! updates of one cell, every way in which two windows slide.
 
 use crate::valid::shape;
 use lines::{Call, Data, Element, GatherSpec, Job, Layout, Rule, ScatterSpec, Spec, View};
@@ -23,6 +23,8 @@ pub fn all(size: Size, take: &mut dyn FnMut(Call)) {
     walks(size, take);
     spans(size, take);
     rules(size, take);
+    slides(size, take);
+    shared_starts(size, take);
 }
 
 /// Calls `take` with every list that has one entry from each of `choices`.
@@ -529,4 +531,82 @@ fn twice_on_one(rule: Rule, element: Element, source: Data, dest: Data) -> Call 
         rule,
         ..call
     }
+}
+
+/// Starts below 0, inside, and past the last one of windows with room for one
+/// step or for none.
+fn edge_starts(size: Size) -> Vec<i64> {
+    match size {
+        Size::Short => vec![-1, 0, 1, 2],
+        Size::Long => vec![i64::MIN, -2, -1, 0, 1, 2, i64::MAX],
+    }
+}
+
+/// Every two starts of two components, on windows with room on both axes, on
+/// one or on none, and without cells; with the batch axis before, between and
+/// after the window's.
+fn slides(size: Size, take: &mut dyn FnMut(Call)) {
+    const WINDOWS: [[u64; 2]; 6] = [[2, 1], [3, 1], [2, 2], [3, 2], [0, 1], [2, 0]];
+    const SHOWN: [[u64; 2]; 3] = [[1, 2], [0, 2], [0, 1]];
+    let mut turn = 0;
+    for windows in WINDOWS {
+        each(&vec![edge_starts(size); 4], &mut |starts| {
+            turn += 1;
+            let places = match size {
+                Size::Short => turn % 3..turn % 3 + 1,
+                Size::Long => 0..3,
+            };
+            for shown in &SHOWN[places] {
+                let a = two_components(&windows, shown, &[2]);
+                for call in [gathered(&a, 0), scattered(&a, 0)] {
+                    take(with_starts(call, starts, None));
+                }
+            }
+        });
+    }
+}
+
+/// The same with four windows in two rows, of which those of a row, those of a
+/// column or all read one start through stride 0, and with batch axes of
+/// extent 1 and of none.
+fn shared_starts(size: Size, take: &mut dyn FnMut(Call)) {
+    const BATCHES: [([u64; 2], [i64; 3]); 5] = [
+        ([2, 2], [1, 0, 2]),
+        ([2, 2], [1, 2, 0]),
+        ([2, 2], [1, 0, 0]),
+        ([1, 2], [1, 0, 2]),
+        ([2, 0], [1, 2, 2]),
+    ];
+    for (batch, strides) in BATCHES {
+        each(&vec![edge_starts(size); 4], &mut |starts| {
+            let a = two_components(&[2, 1], &[1, 3], &batch);
+            for call in [gathered(&a, 0), scattered(&a, 0)] {
+                take(with_starts(call, starts, Some(&strides)));
+            }
+        });
+    }
+}
+
+/// A grid of three by two with a start on each axis, the vector axis first.
+fn two_components<'a>(windows: &'a [u64; 2], shown: &'a [u64; 2], batch: &[u64]) -> Arranged<'a> {
+    Arranged {
+        extents: &[3, 2],
+        windows,
+        hidden: &[],
+        map: &[0, 1],
+        index_extents: [&[2], batch].concat(),
+        vector: 0,
+        shown,
+        shape: shape(shown, windows, batch),
+    }
+}
+
+/// The call with these starts, read by these strides or by its own.
+fn with_starts(mut call: Call, starts: &[i64], strides: Option<&[i64; 3]>) -> Call {
+    let place = call.job.index_place();
+    if let Some(strides) = strides {
+        call.job.views[place].layout.strides = strides.to_vec();
+    }
+    call.index = starts.to_vec();
+    call
 }

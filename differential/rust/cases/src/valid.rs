@@ -2,6 +2,7 @@
 
 use crate::contents::{elements, starts};
 use crate::random::Random;
+use crate::starts::{aim, Components};
 use lines::{Call, Element, GatherSpec, Job, Layout, Rule, ScatterSpec, Spec, View};
 
 const MOST_GRID: u64 = 64;
@@ -245,6 +246,15 @@ pub fn gather_of(random: &mut Random, w: Windowed) -> Call {
     let (dest, dest_len) = placed(random, w.shape, dest_strides);
     let reach = operand.layout.extents.iter().copied().filter(|&e| e < 99);
     let reach = reach.max().unwrap_or(0) as i64;
+    let mut starts = starts(random, index_len, reach);
+    let components = components(
+        &w.map,
+        &operand.layout.extents,
+        &w.windows,
+        &index,
+        w.vector,
+    );
+    aim_some(random, &components, &mut starts);
     let spec = GatherSpec {
         offset_dims: w.shown,
         collapsed_slice_dims: w.hidden,
@@ -259,10 +269,33 @@ pub fn gather_of(random: &mut Random, w: Windowed) -> Call {
             spec: Spec::Gather(spec),
         },
         source: elements(random, element, operand_len),
-        index: starts(random, index_len, reach),
+        index: starts,
         dest: elements(random, element, dest_len),
         layouts: [None, None, None],
         rule: Rule::Add,
+    }
+}
+
+/// The components of the starts of windows on a grid.
+fn components<'a>(
+    map: &[u64],
+    extents: &[u64],
+    windows: &[u64],
+    index: &'a View,
+    vector: u64,
+) -> Components<'a> {
+    let last = |&axis: &u64| extents[axis as usize] - windows[axis as usize];
+    Components {
+        index,
+        vector,
+        lasts: map.iter().map(last).collect(),
+    }
+}
+
+/// Aims the starts of half the calls.
+fn aim_some(random: &mut Random, components: &Components, starts: &mut [i64]) {
+    if random.percent(50) {
+        aim(random, components, starts);
     }
 }
 
@@ -309,6 +342,9 @@ pub fn scatter_of(random: &mut Random, w: Windowed) -> Call {
     let update_strides = any_strides(random, &w.shape);
     let (updates, update_len) = placed(random, w.shape, update_strides);
     let reach = w.extents.iter().copied().max().unwrap_or(0) as i64;
+    let mut starts = starts(random, index_len, reach);
+    let components = components(&w.map, &w.extents, &w.windows, &index, w.vector);
+    aim_some(random, &components, &mut starts);
     let dest_strides = nested_strides(random, &w.extents);
     let (dest, dest_len) = placed(random, w.extents, dest_strides);
     let spec = ScatterSpec {
@@ -323,7 +359,7 @@ pub fn scatter_of(random: &mut Random, w: Windowed) -> Call {
             views: [index, updates, dest],
             spec: Spec::Scatter(spec),
         },
-        index: starts(random, index_len, reach),
+        index: starts,
         source: elements(random, element, update_len),
         dest: elements(random, element, dest_len),
         layouts: [None, None, None],

@@ -8,7 +8,7 @@ use strided::ffi;
 /// tells where the two differ.
 pub fn call(call: &Call) -> Answer {
     let views = &call.job.views;
-    let ((number, dest), refusal) = match &call.job.spec {
+    let ((number, dest, slid), refusal) = match &call.job.spec {
         Spec::Gather(spec) => (gather(call, spec), gather_refusal(views, spec)),
         Spec::Scatter(spec) => (scatter(call, spec), scatter_refusal(views, spec)),
     };
@@ -17,11 +17,12 @@ pub fn call(call: &Call) -> Answer {
         _ => Number::DONE,
     };
     assert_eq!(refusal, compiled);
-    Answer::Called(number, dest)
+    Answer::Called(number, dest, slid)
 }
 
-/// Compile and call: the number, and the destination as they leave it.
-fn gather(call: &Call, spec: &GatherSpec) -> (Number, Data) {
+/// Compile and call: the number, the destination as they leave it, and how
+/// many windows slid.
+fn gather(call: &Call, spec: &GatherSpec) -> (Number, Data, Option<u64>) {
     let [operand, index, dest] = &call.job.views;
     let [a, b, c] = [0, 1, 2].map(|place| call.call_layout(place));
     // The two functions differ in the element alone.
@@ -63,9 +64,9 @@ fn gather(call: &Call, spec: &GatherSpec) -> (Number, Data) {
     )
 }
 
-/// Compile and call: the number, and the destination as they leave it. The two
-/// functions differ in the element, and in the limit that i32 has not.
-fn scatter(call: &Call, spec: &ScatterSpec) -> (Number, Data) {
+/// Compile and call, as in a gather. The two functions differ in the element,
+/// and in the limit that i32 has not.
+fn scatter(call: &Call, spec: &ScatterSpec) -> (Number, Data, Option<u64>) {
     let [index, updates, dest] = &call.job.views;
     let [a, b, c] = [0, 1, 2].map(|place| call.call_layout(place));
     let (rule, limit) = rule(call.rule);

@@ -38,30 +38,43 @@ fn too_many(call: &Call) -> bool {
     model.runs_too_long(call) && model.judge(call).answer == Answer::TooMany
 }
 
-fn number([n, a, b]: ffi::Answer) -> Number {
+/// The number that a function gives which moves no window: a panic tells if it
+/// counts some all the same.
+fn number([n, a, b, slid]: ffi::Answer) -> Number {
+    assert_eq!(slid, 0);
     Number::new(n, a, b)
 }
 
+/// The number of a call, and how many windows slid where it was done.
+fn number_and_slid(answer: ffi::Answer) -> (Number, Option<u64>) {
+    match answer {
+        [0, a, b, slid] => (Number::new(0, a, b), Some(slid)),
+        refused => (number(refused), None),
+    }
+}
+
 /// What the function for the call's elements answers, given source and
-/// destination, and the destination as it leaves it.
+/// destination, with the destination as it leaves it.
 fn called(
     call: &Call,
     by_i32: impl FnOnce(&[i32], &mut [i32]) -> ffi::Answer,
     by_f64: impl FnOnce(&[f64], &mut [f64]) -> ffi::Answer,
-) -> (Number, Data) {
-    match (&call.source, &call.dest) {
+) -> (Number, Data, Option<u64>) {
+    let (answer, dest) = match (&call.source, &call.dest) {
         (Data::I32(source), Data::I32(dest)) => {
             let mut dest = dest.clone();
             let answer = by_i32(source, &mut dest);
-            (number(answer), Data::I32(dest))
+            (answer, Data::I32(dest))
         }
         (Data::F64(source), Data::F64(dest)) => {
             let floats = |bits: &[u64]| bits.iter().map(|&x| f64::from_bits(x)).collect::<Vec<_>>();
             let (source, mut dest) = (floats(source), floats(dest));
             let answer = by_f64(&source, &mut dest);
             let bits = dest.iter().map(|x| x.to_bits()).collect();
-            (number(answer), Data::F64(bits))
+            (answer, Data::F64(bits))
         }
         _ => unreachable!("both slices are of the job's element"),
-    }
+    };
+    let (number, slid) = number_and_slid(answer);
+    (number, dest, slid)
 }

@@ -52,8 +52,8 @@ pub fn call(call: &Call) -> Option<Answer> {
     if written(&call.job, &mut bytes).n != 0 {
         return None;
     }
-    let (number, dest) = run(&bytes[..stored_len(&bytes)], call);
-    Some(Answer::Called(number, dest))
+    let (number, dest, slid) = run(&bytes[..stored_len(&bytes)], call);
+    Some(Answer::Called(number, dest, slid))
 }
 
 /// The length of the job that has been written to the front of `bytes`.
@@ -107,8 +107,8 @@ fn written(job: &Job, out: &mut [u8]) -> Number {
     })
 }
 
-/// The number, and the destination as the run leaves it.
-fn run(job: &[u8], call: &Call) -> (Number, Data) {
+/// The number, the destination as the run leaves it, and how many windows slid.
+fn run(job: &[u8], call: &Call) -> (Number, Data, Option<u64>) {
     let starts = &call.index;
     match call.job.spec {
         Spec::Gather(_) => called(
