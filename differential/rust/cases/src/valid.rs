@@ -80,7 +80,8 @@ fn windowed(random: &mut Random) -> Windowed {
 }
 
 fn windowed_of_any_size(random: &mut Random) -> Windowed {
-    let rank = few(random, 8);
+    // A grid without axes has no starts.
+    let rank = few(random, 8).max(usize::from(random.percent(60)));
     let extents = extents(random, rank, MOST_GRID);
     let hidden = hidden_axes(random, &extents);
     let kept: Vec<u64> = (0..rank as u64).filter(|a| !hidden.contains(a)).collect();
@@ -107,7 +108,7 @@ pub fn with_batch(
 ) -> Windowed {
     let rank = extents.len();
     let kept: Vec<u64> = (0..rank as u64).filter(|a| !hidden.contains(a)).collect();
-    let scalar = rank > 0 && (batch.len() == 8 || random.percent(40));
+    let scalar = rank > 0 && (batch.len() == 8 || random.percent(30));
     let (map, index_extents, vector) = index(random, rank, &batch, scalar);
     let mut shown = random.choose(kept.len() + batch.len(), kept.len());
     if random.percent(40) {
@@ -159,7 +160,10 @@ fn index(
     if scalar {
         return (random.choose(rank, 1), batch.to_vec(), batch.len() as u64);
     }
-    let components = random.size(0, rank);
+    let components = match random.percent(50) {
+        true => rank,
+        false => random.size(0, rank),
+    };
     let map = random.choose(rank, components);
     let vector = random.size(0, batch.len());
     let mut extents = batch.to_vec();
