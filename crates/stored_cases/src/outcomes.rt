@@ -1,6 +1,6 @@
-// What comes of a case: compile and the call on copies of its slices, and whether the answer and every element of the
-// destination are those that are stored.
-use layout::Answer;
+// What comes of a case: compile and the call on copies of its slices, and whether the answer, the number of windows that
+// slid and every element of the destination are those that are stored.
+use layout::CallAnswer;
 use stored_reader::elements;
 use stored_reader::packed;
 use stored_reader::packed::list;
@@ -13,16 +13,19 @@ pub const DIFFERENT: usize = 1;
 // Larger than the arrays that its slices are copied to.
 pub const TOO_LARGE: usize = 2;
 
-// Whether this is the stored answer.
-fn is_stored(answer: Answer, head: &[u8], words: &[u64]) -> bool {
+// Whether this is the stored answer, with the stored number of windows that slid.
+fn is_stored(called: CallAnswer, head: &[u8], words: &[u64]) -> bool {
+    let answer = called.answer;
+    let slid = called.reported;
     layout::number(answer) == packed::number(head)
         && layout::first_number(answer) == packed::word_at(words, packed::A)
         && layout::second_number(answer) == packed::word_at(words, packed::B)
+        && slid == packed::word_at(words, packed::SLID)
 }
 
 // The outcome of this answer, where `left` says whether the destination holds what is stored.
-fn outcome_of(answer: Answer, left: bool, head: &[u8], words: &[u64]) -> usize {
-    if left && is_stored(answer, head, words) {
+fn outcome_of(called: CallAnswer, left: bool, head: &[u8], words: &[u64]) -> usize {
+    if left && is_stored(called, head, words) {
         EQUAL
     } else {
         DIFFERENT
@@ -36,7 +39,7 @@ fn call_i32(
     numbers: &[i64],
     source: &[i32],
     into: &mut [i32],
-) -> Answer {
+) -> CallAnswer {
     if packed::is_gather(head) {
         stored_gathers::call_i32(head, words, numbers, source, into)
     } else {
@@ -52,9 +55,9 @@ fn compare_i32(
     source: &[i32],
     into: &mut [i32],
 ) -> usize {
-    let answer = call_i32(head, words, numbers, source, into);
+    let called = call_i32(head, words, numbers, source, into);
     let left = elements::same_i32(into, signed_list(numbers, head, packed::DEST_AFTER));
-    outcome_of(answer, left, head, words)
+    outcome_of(called, left, head, words)
 }
 
 // Of the arrays, the parts that a case's slices have filled.
@@ -92,7 +95,7 @@ fn call_f64(
     numbers: &[i64],
     source: &[f64],
     into: &mut [f64],
-) -> Answer {
+) -> CallAnswer {
     if packed::is_gather(head) {
         stored_gathers::call_f64(head, words, numbers, source, into)
     } else {
@@ -108,9 +111,9 @@ fn compare_f64(
     source: &[f64],
     into: &mut [f64],
 ) -> usize {
-    let answer = call_f64(head, words, numbers, source, into);
+    let called = call_f64(head, words, numbers, source, into);
     let left = elements::same_f64(into, list(words, head, packed::DEST_AFTER));
-    outcome_of(answer, left, head, words)
+    outcome_of(called, left, head, words)
 }
 
 // Of the arrays, the parts that a case's slices have filled.

@@ -1,7 +1,7 @@
 // A stored gather, whole: compile, then the call.
 use gather_plan::CompiledGather;
 use gather_plan::GatherPlan;
-use layout::Answer;
+use layout::CallAnswer;
 use stored_reader::packed;
 use stored_reader::packed::list;
 use stored_reader::packed::signed_list;
@@ -30,7 +30,7 @@ fn run_i32(
     numbers: &[i64],
     source: &[i32],
     into: &mut [i32],
-) -> Answer {
+) -> CallAnswer {
     let operand = views::call_view(head, words, numbers, 0);
     let index = views::call_view(head, words, numbers, 1);
     let dest = views::call_view(head, words, numbers, 2);
@@ -45,7 +45,7 @@ pub fn call_i32(
     numbers: &[i64],
     source: &[i32],
     into: &mut [i32],
-) -> Answer {
+) -> CallAnswer {
     let compiled = compile(head, words, numbers);
     let answer = compiled.answer;
     let plan = compiled.plan;
@@ -53,7 +53,7 @@ pub fn call_i32(
     if layout::is_done(refused) {
         run_i32(plan, head, words, numbers, source, into)
     } else {
-        refused
+        layout::refused_call(refused)
     }
 }
 
@@ -64,7 +64,7 @@ fn run_f64(
     numbers: &[i64],
     source: &[f64],
     into: &mut [f64],
-) -> Answer {
+) -> CallAnswer {
     let operand = views::call_view(head, words, numbers, 0);
     let index = views::call_view(head, words, numbers, 1);
     let dest = views::call_view(head, words, numbers, 2);
@@ -79,7 +79,7 @@ pub fn call_f64(
     numbers: &[i64],
     source: &[f64],
     into: &mut [f64],
-) -> Answer {
+) -> CallAnswer {
     let compiled = compile(head, words, numbers);
     let answer = compiled.answer;
     let plan = compiled.plan;
@@ -87,6 +87,6 @@ pub fn call_f64(
     if layout::is_done(refused) {
         run_f64(plan, head, words, numbers, source, into)
     } else {
-        refused
+        layout::refused_call(refused)
     }
 }

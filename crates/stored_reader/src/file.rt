@@ -84,7 +84,7 @@ fn rest_of(fd: i32) -> Sums {
 // Whether this is such a file, and the bytes after the header are as many as it says, with its sums.
 pub fn is_undamaged(fd: i32, header: &[u8]) -> bool {
     let rest = rest_of(fd);
-    word(header, 0) == 3559081087469778035
+    word(header, 0) == 3631138681507705971
         && rest.ended
         && rest.bytes == word(header, 16)
         && rest.sum == word(header, 24)

@@ -87,12 +87,15 @@ pub fn list_count(head: &[u8], list: usize) -> usize
 
 // ---- the words
 
-// Places of words: after the offsets of the three views the vector axis, then a and b of the stored answer.
+// Places of words: after the offsets of the three views the vector axis, then a and b of the stored answer, and how many
+// windows slid.
 pub const VECTOR_AXIS: usize = 3;
 
 pub const A: usize = 4;
 
 pub const B: usize = 5;
+
+pub const SLID: usize = 6;
 
 pub fn word_at(words: &[u64], i: usize) -> u64 {
     if i < words.len() { words[i] } else { 0 }
@@ -130,12 +133,12 @@ fn lists_before(place: usize) -> usize
     if place < 20 { place } else { 20 }
 }
 
-// Where the list of this place begins: past six words and the lists before it.
+// Where the list of this place begins: past seven words and the lists before it.
 fn list_start(head: &[u8], place: usize) -> usize
-    ensures { λ r. ⌜ r ≤ 5106 ⌝ }
+    ensures { λ r. ⌜ r ≤ 5107 ⌝ }
 {
     let n = lists_before(place);
-    let mut at: usize = 6;
+    let mut at: usize = 7;
     let mut i: usize = 0;
     while i < n {
         at += list_count(head, i);

@@ -1,5 +1,5 @@
 // A stored scatter, whole: compile, then the call.
-use layout::Answer;
+use layout::CallAnswer;
 use rules::Rule;
 use rules::RuleF64;
 use scatter_plan::CompiledScatter;
@@ -31,7 +31,7 @@ fn run_i32(
     numbers: &[i64],
     source: &[i32],
     into: &mut [i32],
-) -> Answer {
+) -> CallAnswer {
     let plan = compiled.plan;
     let batch_axes = compiled.batch_axes;
     let window_axes = compiled.window_axes;
@@ -62,14 +62,14 @@ pub fn call_i32(
     numbers: &[i64],
     source: &[i32],
     into: &mut [i32],
-) -> Answer {
+) -> CallAnswer {
     let compiled = compile(head, words, numbers);
     let answer = compiled.answer;
     let refused = views::refusal(answer, head, words, numbers);
     if layout::is_done(refused) {
         run_i32(compiled, head, words, numbers, source, into)
     } else {
-        refused
+        layout::refused_call(refused)
     }
 }
 
@@ -81,7 +81,7 @@ fn run_f64(
     numbers: &[i64],
     source: &[f64],
     into: &mut [f64],
-) -> Answer {
+) -> CallAnswer {
     let plan = compiled.plan;
     let batch_axes = compiled.batch_axes;
     let window_axes = compiled.window_axes;
@@ -112,13 +112,13 @@ pub fn call_f64(
     numbers: &[i64],
     source: &[f64],
     into: &mut [f64],
-) -> Answer {
+) -> CallAnswer {
     let compiled = compile(head, words, numbers);
     let answer = compiled.answer;
     let refused = views::refusal(answer, head, words, numbers);
     if layout::is_done(refused) {
         run_f64(compiled, head, words, numbers, source, into)
     } else {
-        refused
+        layout::refused_call(refused)
     }
 }

@@ -5,7 +5,7 @@ use Rattle.stored_reader.proofs.packed.list_start.Statement.{statement}
 use Rattle.stored_reader.proofs.packed.list_start.Tie as tie
 
 abbrev Inv-loop : tie.InvT-loop
-Inv-loop head place n at₀ i₀ at i = (i ≤ 20) × (at ≤ 6 + 255 * i)
+Inv-loop head place n at₀ i₀ at i = (i ≤ 20) × (at ≤ 7 + 255 * i)
 
 abbrev μ-loop : tie.MeasureT-loop
 μ-loop head place n at₀ i₀ at i = 20 - i

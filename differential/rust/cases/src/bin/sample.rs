@@ -8,14 +8,14 @@
 
 use cases::answers::{completed, first_seen, load, telling, Answered};
 use lines::{Answer, Call, Spec};
-use model::{mutants, starts, Model};
+use model::{mutants, Model};
 use std::collections::{BTreeMap, BTreeSet};
 use std::path::Path;
 use std::{fs, io};
 
 /// Longer lines than this are left out.
 const LONGEST: usize = 330;
-const MOST_BYTES: usize = 560_000;
+const MOST_BYTES: usize = 660_000;
 /// Of how many windows the starts are looked at.
 const MOST_WINDOWS: usize = 64;
 
@@ -114,15 +114,15 @@ fn features(call: &Call, given: &str) -> Vec<(String, usize)> {
         features.push((format!("{kind} {number}"), 1));
     }
     if verdict.refused_by.is_none() {
-        features.push((format!("{kind} {element} done"), 120));
+        features.push((format!("{kind} {element} done"), 60));
         let ranks = call.job.views.iter().map(|view| view.layout.extents.len());
         for (place, rank) in ranks.enumerate() {
-            features.push((format!("{kind} {element} view {place} rank {rank}"), 9));
+            features.push((format!("{kind} {element} view {place} rank {rank}"), 6));
         }
         let rank = call.job.index().layout.extents.len();
         features.push((format!("{kind} vector {vector} of {rank}"), 3));
         let changed = !given.ends_with(&format!("dest {}", call.dest));
-        features.push((format!("{kind} {element} changed {changed}"), 60));
+        features.push((format!("{kind} {element} changed {changed}"), 40));
         features.extend(slid_features(call, kind));
     }
     features
@@ -132,32 +132,31 @@ fn features(call: &Call, given: &str) -> Vec<(String, usize)> {
 /// where their starts lie, which component moves alone, and whether windows
 /// share a start.
 fn slid_features(call: &Call, kind: &str) -> Vec<(String, usize)> {
-    let starts: Vec<Vec<(i64, u64)>> = starts(call).take(MOST_WINDOWS).collect();
+    let starts: Vec<Vec<(i64, u64)>> = model::starts(call).take(MOST_WINDOWS).collect();
     let cells = match call.job.spec {
         Spec::Gather(_) => !call.job.dest().layout.extents.contains(&0),
         Spec::Scatter(_) => !call.job.source().layout.extents.contains(&0),
     };
-    let slid: Vec<_> = starts
+    let slid = starts
         .iter()
-        .filter(|start| moved(start).any(|m| m))
-        .collect();
-    let which = match slid.len() {
+        .filter(|start| moved(start).any(|moved| moved));
+    let which = match slid.count() {
         0 => "none",
         n if n == starts.len() => "all",
         _ => "some",
     };
-    let mut features = vec![(format!("{kind} cells {cells} slid {which}"), 20)];
+    let (element, most) = (call.job.element, if cells { 30 } else { 10 });
+    let mut features = vec![(format!("{kind} {element} cells {cells} slid {which}"), most)];
     let index = &call.job.index().layout;
-    let shared = index.extents.iter().zip(&index.strides);
-    if shared
-        .into_iter()
-        .any(|(&extent, &stride)| extent > 1 && stride == 0)
-    {
+    let mut axes = index.extents.iter().zip(&index.strides);
+    if axes.any(|(&extent, &stride)| extent > 1 && stride == 0) {
         features.push((format!("{kind} cells {cells} shared, slid {which}"), 8));
     }
-    for start in &starts {
-        features.extend(start_features(start, kind, cells));
-    }
+    // Once each, however many windows show it.
+    let of_windows = starts
+        .iter()
+        .flat_map(|start| start_features(start, kind, cells));
+    features.extend(of_windows.collect::<BTreeMap<_, _>>());
     features
 }
 
@@ -175,7 +174,7 @@ fn start_features(start: &[(i64, u64)], kind: &str, cells: bool) -> Vec<(String,
         };
         (
             format!("{kind} cells {cells} start {lies}, room {}", last > 0),
-            6,
+            4,
         )
     };
     let mut features: Vec<_> = start.iter().map(lies).collect();
