@@ -37,9 +37,9 @@ const STYLES: [Style; 9] = [
     Style::Any,
 ];
 
-/// Puts starts into the slice of the index view. Windows that share a start
-/// through stride 0 keep the one that was put last.
-pub fn aim(random: &mut Random, components: &Components, starts: &mut [i64]) {
+/// Puts such starts into the slice of the index view. Windows that share a
+/// start through stride 0 keep the one that was put last.
+pub fn put_at_ends(random: &mut Random, components: &Components, starts: &mut [i64]) {
     let style = random.pick(&STYLES);
     let extents = components.batch();
     let windows = extents.iter().product::<u64>();
@@ -54,14 +54,11 @@ pub fn aim(random: &mut Random, components: &Components, starts: &mut [i64]) {
                 Style::OneWindow => window == chosen,
                 Style::Any => random.percent(50),
             };
-            let place = components.place(&extents, window, c as u64);
-            if let Some(start) = starts.get_mut(place) {
-                *start = if moves {
-                    moved(random, last)
-                } else {
-                    kept(random, last)
-                };
-            }
+            let start = match moves {
+                true => moved(random, last),
+                false => kept(random, last),
+            };
+            starts[components.place(&extents, window, c as u64)] = start;
         }
     }
 }
@@ -99,7 +96,7 @@ impl Components<'_> {
 /// A start that the clamp leaves: often the first or the last.
 fn kept(random: &mut Random, last: u64) -> i64 {
     let last = i64::try_from(last).unwrap_or(i64::MAX);
-    let inside = (random.next() >> 1) as i64 % last.saturating_add(1).max(1);
+    let inside = (random.next() >> 1) as i64 % last.saturating_add(1);
     random.pick(&[0, last, last, inside])
 }
 

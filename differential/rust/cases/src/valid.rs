@@ -2,7 +2,7 @@
 
 use crate::contents::{elements, starts};
 use crate::random::Random;
-use crate::starts::{aim, Components};
+use crate::starts::{put_at_ends, Components};
 use lines::{Call, Element, GatherSpec, Job, Layout, Rule, ScatterSpec, Spec, View};
 
 const MOST_GRID: u64 = 64;
@@ -258,7 +258,7 @@ pub fn gather_of(random: &mut Random, w: Windowed) -> Call {
         &index,
         w.vector,
     );
-    aim_some(random, &components, &mut starts);
+    put_some_at_ends(random, &components, &mut starts);
     let spec = GatherSpec {
         offset_dims: w.shown,
         collapsed_slice_dims: w.hidden,
@@ -296,10 +296,10 @@ fn components<'a>(
     }
 }
 
-/// Aims the starts of half the calls.
-fn aim_some(random: &mut Random, components: &Components, starts: &mut [i64]) {
+/// Starts at the ends of what the clamp leaves, in half the calls.
+fn put_some_at_ends(random: &mut Random, components: &Components, starts: &mut [i64]) {
     if random.percent(50) {
-        aim(random, components, starts);
+        put_at_ends(random, components, starts);
     }
 }
 
@@ -348,7 +348,7 @@ pub fn scatter_of(random: &mut Random, w: Windowed) -> Call {
     let reach = w.extents.iter().copied().max().unwrap_or(0) as i64;
     let mut starts = starts(random, index_len, reach);
     let components = components(&w.map, &w.extents, &w.windows, &index, w.vector);
-    aim_some(random, &components, &mut starts);
+    put_some_at_ends(random, &components, &mut starts);
     let dest_strides = nested_strides(random, &w.extents);
     let (dest, dest_len) = placed(random, w.extents, dest_strides);
     let spec = ScatterSpec {

@@ -1,5 +1,7 @@
 //! The mutation run: `mutate CASES ORACLE`. Every mutant of the model must
 //! be told from the oracle by some case, but for those that no case can see.
+//! How many windows slid the oracle does not tell: that number is the one of
+//! the model that is not twisted.
 
 use cases::answers::{first_seen, load, telling};
 use model::{mutants, Model, Mutant};
