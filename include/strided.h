@@ -1,8 +1,8 @@
 /* Gather and scatter on strided grids: the functions of libstrided.a (`rt staticlib strided`).
 
    Every function answers for all arguments, always returns, and reads and writes only inside the slices that it is lent.
-   Its answer is three numbers in `answer`: STRIDED_DONE, or one of the refusals below, then a and b, 0 where unnamed; the
-   version's function alone has none, and returns its number.
+   Its answer is four numbers in `answer`: STRIDED_DONE, or one of the refusals below, then a and b, 0 where unnamed, and last
+   how many windows slid; the version's function alone has none, and returns its number.
    A refusal changes no element of a destination and no byte of a job. A call that is done changes only the destination's
    elements that its cells name. An accepted call takes as long as its plan has cells: a gather has at most as many as its
    destination has elements, but a scatter whose index and updates have strides of 0 can name 2^62 updates in a few
@@ -16,6 +16,12 @@
    A view is a layout (extents and strides of equal length, in elements, at most STRIDED_RANK_LIMIT axes) with an offset into
    its slice. Coordinates go first axis fastest. Axis lists are those of StableHLO's gather and scatter. Starts are clamped, in
    a gather and in a scatter.
+
+   How many windows slid, answer[3], is the number of batch coordinates with at least one moved component: one whose clamped start
+   is not its start. A batch coordinate counts once, however many of its components are moved; two batch coordinates that read the
+   same start, through a stride of 0 of the index, are two. The number is 0 where the call is refused, and 0 where the destination
+   of a gather, or the updates of a scatter, have no cells, even if batch coordinates exist; and 0 in every function that moves
+   nothing.
 
    A scatter takes its updates in order, and the rule says what an element becomes of what it holds and of each update that lands
    on it:
@@ -46,10 +52,10 @@ extern "C" {
 /* The version of these functions, which grows with every change of them, and which the function returns. An archive of another
    version has no function of this name, and a program that includes this header does not link with it (with GCC and Clang; with
    other compilers, if it calls the function). */
-#define STRIDED_VERSION 2
-uint64_t strided_version_2(void);
+#define STRIDED_VERSION 3
+uint64_t strided_version_3(void);
 #if defined(__GNUC__)
-__attribute__((used)) static uint64_t (*const strided_version_wanted)(void) = strided_version_2;
+__attribute__((used)) static uint64_t (*const strided_version_wanted)(void) = strided_version_3;
 #endif
 
 #define STRIDED_RANK_LIMIT 8
@@ -79,11 +85,11 @@ enum { STRIDED_ADD = 1, STRIDED_LOWEST = 2, STRIDED_HIGHEST = 3, STRIDED_REPLACE
 
 /* ---- stored jobs: a gather or a scatter with its views, as bytes */
 
-/* Whether the bytes store a job; 10 where they do not. A job that is stored may still be refused when it is run. */
-void strided_read_job(const uint8_t *bytes, size_t bytes_count, uint64_t answer[3]);
+/* Whether the bytes store a job; 10 where they do not. A job that is stored may still be refused when it is run. answer[3] is 0. */
+void strided_read_job(const uint8_t *bytes, size_t bytes_count, uint64_t answer[4]);
 
 /* Writes a job to the front of `out`; bytes past it stay. Refuses by 10 (a: 6, an element that is not listed), 1, 2, 5 (a list
-   of more than STRIDED_LIST_LIMIT) and 9. The job's first four bytes, big-endian, count those that follow. */
+   of more than STRIDED_LIST_LIMIT) and 9. The job's first four bytes, big-endian, count those that follow. answer[3] is 0. */
 void strided_write_gather_job(
     uint64_t element,
     const uint64_t *operand_extents, size_t operand_extents_count,
@@ -97,7 +103,7 @@ void strided_write_gather_job(
     const uint64_t *start_index_map, size_t start_index_map_count,
     uint64_t index_vector_dim,
     const uint64_t *slice_sizes, size_t slice_sizes_count,
-    uint8_t *out, size_t out_count, uint64_t answer[3]);
+    uint8_t *out, size_t out_count, uint64_t answer[4]);
 
 void strided_write_scatter_job(
     uint64_t element,
@@ -111,26 +117,26 @@ void strided_write_scatter_job(
     const uint64_t *inserted_window_dims, size_t inserted_window_dims_count,
     const uint64_t *scatter_dims_to_operand_dims, size_t scatter_dims_to_operand_dims_count,
     uint64_t index_vector_dim,
-    uint8_t *out, size_t out_count, uint64_t answer[3]);
+    uint8_t *out, size_t out_count, uint64_t answer[4]);
 
-/* Read a job, compile it and call it; a scatter adds. A job of another kind or element is refused by 10, at byte 5 or 6; none is
-   refused by 8. */
+/* Read a job, compile it and call it; a scatter adds. Done, answer[3] is how many windows slid. A job of another kind or element is
+   refused by 10, at byte 5 or 6; none is refused by 8. */
 void strided_gather_i32(
     const uint8_t *job, size_t job_count, const int32_t *operand, size_t operand_count,
-    const int64_t *starts, size_t starts_count, int32_t *destination, size_t destination_count, uint64_t answer[3]);
+    const int64_t *starts, size_t starts_count, int32_t *destination, size_t destination_count, uint64_t answer[4]);
 void strided_gather_f64(
     const uint8_t *job, size_t job_count, const double *operand, size_t operand_count,
-    const int64_t *starts, size_t starts_count, double *destination, size_t destination_count, uint64_t answer[3]);
+    const int64_t *starts, size_t starts_count, double *destination, size_t destination_count, uint64_t answer[4]);
 void strided_scatter_i32(
     const uint8_t *job, size_t job_count, const int64_t *starts, size_t starts_count,
-    const int32_t *updates, size_t updates_count, int32_t *destination, size_t destination_count, uint64_t answer[3]);
+    const int32_t *updates, size_t updates_count, int32_t *destination, size_t destination_count, uint64_t answer[4]);
 void strided_scatter_f64(
     const uint8_t *job, size_t job_count, const int64_t *starts, size_t starts_count,
-    const double *updates, size_t updates_count, double *destination, size_t destination_count, uint64_t answer[3]);
+    const double *updates, size_t updates_count, double *destination, size_t destination_count, uint64_t answer[4]);
 
 /* ---- without a stored job */
 
-/* Compile's refusal alone. */
+/* Compile's refusal alone. answer[3] is 0. */
 void strided_gather_refusal(
     const uint64_t *operand_extents, size_t operand_extents_count,
     const int64_t *operand_strides, size_t operand_strides_count,
@@ -143,7 +149,7 @@ void strided_gather_refusal(
     const uint64_t *start_index_map, size_t start_index_map_count,
     uint64_t index_vector_dim,
     const uint64_t *slice_sizes, size_t slice_sizes_count,
-    uint64_t answer[3]);
+    uint64_t answer[4]);
 
 void strided_scatter_refusal(
     const uint64_t *index_extents, size_t index_extents_count,
@@ -156,10 +162,11 @@ void strided_scatter_refusal(
     const uint64_t *inserted_window_dims, size_t inserted_window_dims_count,
     const uint64_t *scatter_dims_to_operand_dims, size_t scatter_dims_to_operand_dims_count,
     uint64_t index_vector_dim,
-    uint64_t answer[3]);
+    uint64_t answer[4]);
 
-/* Compile by the first three layouts and the lists, then call on the three views. A view whose layout is not the one that was
-   compiled for it is refused by 8. A scatter goes by its rule; the limit is read by STRIDED_CEILING alone, and may be any f64. */
+/* Compile by the first three layouts and the lists, then call on the three views. Done, answer[3] is how many windows slid. A view
+   whose layout is not the one that was compiled for it is refused by 8. A scatter goes by its rule; the limit is read by
+   STRIDED_CEILING alone, and may be any f64. */
 void strided_raw_gather_i32(
     const uint64_t *operand_extents, size_t operand_extents_count,
     const int64_t *operand_strides, size_t operand_strides_count,
@@ -181,7 +188,7 @@ void strided_raw_gather_i32(
     const int32_t *operand, size_t operand_count,
     const int64_t *starts, size_t starts_count,
     int32_t *dest, size_t dest_count,
-    uint64_t answer[3]);
+    uint64_t answer[4]);
 
 void strided_raw_gather_f64(
     const uint64_t *operand_extents, size_t operand_extents_count,
@@ -204,7 +211,7 @@ void strided_raw_gather_f64(
     const double *operand, size_t operand_count,
     const int64_t *starts, size_t starts_count,
     double *dest, size_t dest_count,
-    uint64_t answer[3]);
+    uint64_t answer[4]);
 
 void strided_raw_scatter_i32(
     uint64_t rule,
@@ -227,7 +234,7 @@ void strided_raw_scatter_i32(
     const int64_t *starts, size_t starts_count,
     const int32_t *updates, size_t updates_count,
     int32_t *dest, size_t dest_count,
-    uint64_t answer[3]);
+    uint64_t answer[4]);
 
 void strided_raw_scatter_f64(
     uint64_t rule, double limit,
@@ -250,7 +257,7 @@ void strided_raw_scatter_f64(
     const int64_t *starts, size_t starts_count,
     const double *updates, size_t updates_count,
     double *dest, size_t dest_count,
-    uint64_t answer[3]);
+    uint64_t answer[4]);
 
 #ifdef __cplusplus
 }
