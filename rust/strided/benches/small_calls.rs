@@ -7,8 +7,8 @@
 use std::hint::black_box;
 use std::time::{Duration, Instant};
 use strided::{
-    gather_job, scatter_job, Element, GatherJob, GatherSpec, Job, Result, ScatterJob, ScatterSpec,
-    StridedError, ViewLayout,
+    gather_job, scatter_job, Done, Element, GatherJob, GatherSpec, Job, Result, ScatterJob,
+    ScatterSpec, StridedError, ViewLayout,
 };
 
 const SIDE: usize = 100;
@@ -111,7 +111,7 @@ fn row<T: Element>(kind: &str, [rows, columns]: [usize; 2], one: [f64; 2], many:
 }
 
 /// The median time of a call.
-fn nanoseconds(mut call: impl FnMut() -> Result<()>) -> Result<f64> {
+fn nanoseconds(mut call: impl FnMut() -> Result<Done>) -> Result<f64> {
     let begun = Instant::now();
     let mut calls = 0u32;
     while begun.elapsed() < ROUND {

@@ -24,7 +24,7 @@ fn main() -> strided::Result<()> {
 
     // The first two cuts share a cell; the third begins off the basin and is moved to its edge.
     let mut depths = [100; 15];
-    plan.execute(
+    let done = plan.execute(
         &mut basin.view_mut(&mut depths),
         &starts.view(&[0, 0, 0, 1, 2, 9]),
         &cuts.view(&[3, 3, 4, 4, 5, 6]),
@@ -32,6 +32,8 @@ fn main() -> strided::Result<()> {
     for row in depths.chunks(5) {
         println!("{row:?}");
     }
+    println!("{} of 3 cuts moved inward", done.slid());
+    assert_eq!(done.slid(), 1);
     assert_eq!(depths[..5], [103, 107, 104, 100, 100]);
     assert_eq!(depths[5..10], [100; 5]);
     assert_eq!(depths[10..], [100, 100, 100, 105, 106]);

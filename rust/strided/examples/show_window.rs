@@ -29,7 +29,7 @@ fn main() -> strided::Result<()> {
 
     // Column 5 would leave the basin, so that the window is moved to column 3.
     let mut shown = [0; 6];
-    plan.execute(
+    let done = plan.execute(
         &mut window.view_mut(&mut shown),
         &basin.view(&depths),
         &start.view(&[1, 5]),
@@ -37,6 +37,10 @@ fn main() -> strided::Result<()> {
     for row in shown.chunks(3) {
         println!("{row:?}");
     }
+    if done.slid() > 0 {
+        println!("moved inward at the basin's edge");
+    }
     assert_eq!(shown, [13, 14, 15, 23, 24, 25]);
+    assert_eq!(done.slid(), 1);
     Ok(())
 }

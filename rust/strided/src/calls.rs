@@ -1,16 +1,17 @@
 //! The calls that there are for each type of element.
 
 use crate::ffi::{self, steps, words};
-use crate::{Element, GatherPlan, Result, ScatterPlan, StridedError, StridedMut, StridedRef};
+use crate::{Done, Element, GatherPlan, Result, ScatterPlan, StridedMut, StridedRef};
 
 /// The calls that there are for each type of element. A user cannot name this
 /// trait, so that [`Element`](crate::Element) stays with `i32` and `f64`.
 pub trait Calls: Sized {
     #[doc(hidden)]
-    fn gather_job(job: &[u8], operand: &[Self], starts: &[i64], dest: &mut [Self]) -> Result<()>;
+    fn gather_job(job: &[u8], operand: &[Self], starts: &[i64], dest: &mut [Self]) -> Result<Done>;
 
     #[doc(hidden)]
-    fn scatter_job(job: &[u8], starts: &[i64], updates: &[Self], dest: &mut [Self]) -> Result<()>;
+    fn scatter_job(job: &[u8], starts: &[i64], updates: &[Self], dest: &mut [Self])
+        -> Result<Done>;
 
     #[doc(hidden)]
     fn raw_gather(
@@ -18,7 +19,7 @@ pub trait Calls: Sized {
         dest: &mut StridedMut<'_, Self>,
         operand: &StridedRef<'_, Self>,
         starts: &StridedRef<'_, i64>,
-    ) -> Result<()>;
+    ) -> Result<Done>;
 
     #[doc(hidden)]
     fn raw_scatter(
@@ -27,7 +28,7 @@ pub trait Calls: Sized {
         starts: &StridedRef<'_, i64>,
         updates: &StridedRef<'_, Self>,
         rule: <Self as Element>::Rule,
-    ) -> Result<()>
+    ) -> Result<Done>
     where
         Self: Element;
 }
@@ -45,8 +46,8 @@ macro_rules! calls {
                 operand: &[Self],
                 starts: &[i64],
                 dest: &mut [Self],
-            ) -> Result<()> {
-                StridedError::check(ffi::$gather(job, operand, starts, dest))
+            ) -> Result<Done> {
+                Done::of(ffi::$gather(job, operand, starts, dest))
             }
 
             fn scatter_job(
@@ -54,8 +55,8 @@ macro_rules! calls {
                 starts: &[i64],
                 updates: &[Self],
                 dest: &mut [Self],
-            ) -> Result<()> {
-                StridedError::check(ffi::$scatter(job, starts, updates, dest))
+            ) -> Result<Done> {
+                Done::of(ffi::$scatter(job, starts, updates, dest))
             }
 
             fn raw_gather(
@@ -63,8 +64,8 @@ macro_rules! calls {
                 dest: &mut StridedMut<'_, Self>,
                 operand: &StridedRef<'_, Self>,
                 starts: &StridedRef<'_, i64>,
-            ) -> Result<()> {
-                StridedError::check(ffi::$raw_gather(
+            ) -> Result<Done> {
+                Done::of(ffi::$raw_gather(
                     words(&plan.operand.dims),
                     steps(&plan.operand.strides),
                     words(&plan.index.dims),
@@ -97,8 +98,8 @@ macro_rules! calls {
                 starts: &StridedRef<'_, i64>,
                 updates: &StridedRef<'_, Self>,
                 $rule: <Self as Element>::Rule,
-            ) -> Result<()> {
-                StridedError::check(ffi::$raw_scatter(
+            ) -> Result<Done> {
+                Done::of(ffi::$raw_scatter(
                     $($of_rule,)+
                     words(&plan.index.dims),
                     steps(&plan.index.strides),

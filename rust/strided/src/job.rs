@@ -3,8 +3,8 @@
 use crate::ffi::{self, steps, words};
 use crate::stored::Fields;
 use crate::{
-    Element, ElementType, GatherPlan, GatherSpec, Result, ScatterPlan, ScatterSpec, StridedError,
-    ViewLayout,
+    Done, Element, ElementType, GatherPlan, GatherSpec, Result, ScatterPlan, ScatterSpec,
+    StridedError, ViewLayout,
 };
 
 /// A gather with its views, as a job holds it.
@@ -101,8 +101,8 @@ pub struct ScatterJob {
 /// assert_eq!(Job::from_bytes(&bytes)?, job);
 ///
 /// let mut dest = [0; 4];
-/// gather_job(&bytes, &[10, 20, 30, 40, 50], &[4, -1], &mut dest)?;
-/// assert_eq!(dest, [40, 50, 10, 20]);
+/// let done = gather_job(&bytes, &[10, 20, 30, 40, 50], &[4, -1], &mut dest)?;
+/// assert_eq!((dest, done.slid()), ([40, 50, 10, 20], 2));
 /// # Ok::<(), strided::StridedError>(())
 /// ```
 #[derive(Clone, Debug, Eq, PartialEq)]
@@ -312,6 +312,7 @@ pub fn check_job(bytes: &[u8]) -> Result<()> {
 
 /// Reads a stored gather, compiles it and calls it, as
 /// [`GatherPlan::execute`] does, on the slices of its three views.
+/// [`Done::slid`] tells how many windows the clamp moved.
 ///
 /// # Errors
 ///
@@ -350,13 +351,14 @@ pub fn gather_job<T: Element>(
     operand: &[T],
     starts: &[i64],
     dest: &mut [T],
-) -> Result<()> {
+) -> Result<Done> {
     T::gather_job(job, operand, starts, dest)
 }
 
 /// Reads a stored scatter, compiles it and calls it, as
-/// [`ScatterPlan::execute`] does, on the slices of its three views. A stored
-/// scatter adds; for another rule [`Job::from_bytes`] gives the job, whose plan
+/// [`ScatterPlan::execute`] does, on the slices of its three views.
+/// [`Done::slid`] tells how many windows the clamp moved. A stored scatter
+/// adds; for another rule [`Job::from_bytes`] gives the job, whose plan
 /// [`execute_updates`](ScatterPlan::execute_updates) takes.
 ///
 /// # Errors
@@ -382,8 +384,8 @@ pub fn gather_job<T: Element>(
 /// .to_bytes()?;
 ///
 /// let mut grid = [0; 5];
-/// scatter_job(&bytes, &[0, 0, 9], &[3, 4, 5], &mut grid)?;
-/// assert_eq!(grid, [7, 0, 0, 0, 5]);
+/// let done = scatter_job(&bytes, &[0, 0, 9], &[3, 4, 5], &mut grid)?;
+/// assert_eq!((grid, done.slid()), ([7, 0, 0, 0, 5], 1));
 ///
 /// // A grid that is too short is refused, and stays.
 /// let refusal = scatter_job(&bytes, &[0, 0, 9], &[3, 4, 5], &mut grid[..4]).unwrap_err();
@@ -396,6 +398,6 @@ pub fn scatter_job<T: Element>(
     starts: &[i64],
     updates: &[T],
     dest: &mut [T],
-) -> Result<()> {
+) -> Result<Done> {
     T::scatter_job(job, starts, updates, dest)
 }

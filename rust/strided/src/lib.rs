@@ -29,12 +29,13 @@
 //! let depths = [10, 20, 30, 40, 50];
 //! let starts = [4, -1]; // clamped to 3 and 0
 //! let mut windows = [0; 4];
-//! plan.execute(
+//! let done = plan.execute(
 //!     &mut StridedMut::new(&mut windows, &[2, 2], &[1, 2], 0),
 //!     &StridedRef::new(&depths, &[5], &[1], 0),
 //!     &StridedRef::new(&starts, &[2], &[1], 0),
 //! )?;
 //! assert_eq!(windows, [40, 50, 10, 20]);
+//! assert_eq!(done.slid(), 2); // both windows were moved
 //! # Ok::<(), strided::StridedError>(())
 //! ```
 //!
@@ -61,6 +62,12 @@
 //! assert_eq!(grid, [7.0, 0.0, 0.0, 0.0, 5.0]);
 //! # Ok::<(), strided::StridedError>(())
 //! ```
+//!
+//! # Windows that slide
+//!
+//! A call that is done gives [`Done`], and [`Done::slid`] tells how many windows
+//! the clamp moved: for a mark on the screen where a window was pushed inward at
+//! the grid's edge.
 //!
 //! # Rules
 //!
@@ -134,8 +141,8 @@
 //! A destination that is read in the same call is not accepted:
 //!
 //! ```compile_fail
-//! # use strided::{GatherPlan, StridedMut, StridedRef};
-//! # fn within(plan: &GatherPlan) -> strided::Result<()> {
+//! # use strided::{Done, GatherPlan, StridedMut, StridedRef};
+//! # fn within(plan: &GatherPlan) -> strided::Result<Done> {
 //! let mut grid = [10, 20, 30, 40, 50];
 //! plan.execute(
 //!     &mut StridedMut::new(&mut grid, &[2, 2], &[1, 2], 0),
@@ -151,6 +158,7 @@
 compile_error!("strided is for 64-bit targets: its library counts and steps in 64 bits");
 
 mod calls;
+mod done;
 mod element;
 mod error;
 #[allow(unsafe_code)]
@@ -162,6 +170,7 @@ mod spec;
 mod stored;
 mod view;
 
+pub use done::Done;
 pub use element::{Element, ElementType};
 pub use error::{Result, StridedError};
 pub use job::{check_job, gather_job, scatter_job, GatherJob, Job, ScatterJob};

@@ -1,7 +1,7 @@
 //! Plans: three layouts and a spec that compile has accepted.
 
 use crate::ffi::{self, steps, words};
-use crate::{Element, GatherSpec, Result, ScatterSpec, StridedError, StridedMut, StridedRef};
+use crate::{Done, Element, GatherSpec, Result, ScatterSpec, StridedError, StridedMut, StridedRef};
 
 /// Extents and strides that a plan keeps.
 #[derive(Clone, Debug, Eq, PartialEq)]
@@ -39,12 +39,12 @@ impl Layout {
 /// let plan = GatherPlan::compile(&[5], &[1], &[2], &[1], &[2, 2], &[1, 2], spec)?;
 ///
 /// let mut dest = [0; 4];
-/// plan.execute(
+/// let done = plan.execute(
 ///     &mut StridedMut::new(&mut dest, &[2, 2], &[1, 2], 0),
 ///     &StridedRef::new(&[10, 20, 30, 40, 50], &[5], &[1], 0),
 ///     &StridedRef::new(&[4, -1], &[2], &[1], 0),
 /// )?;
-/// assert_eq!(dest, [40, 50, 10, 20]);
+/// assert_eq!((dest, done.slid()), ([40, 50, 10, 20], 2));
 /// # Ok::<(), strided::StridedError>(())
 /// ```
 #[derive(Clone, Debug, Eq, PartialEq)]
@@ -120,6 +120,7 @@ impl GatherPlan {
     /// Reads the windows at the starts, which are clamped so that each window
     /// lies inside the operand, and writes them to the destination bit for
     /// bit. Elements that no coordinate of the destination names stay.
+    /// [`Done::slid`] tells how many windows the clamp moved.
     ///
     /// # Errors
     ///
@@ -158,7 +159,7 @@ impl GatherPlan {
         dest: &mut StridedMut<'_, T>,
         operand: &StridedRef<'_, T>,
         start_indices: &StridedRef<'_, i64>,
-    ) -> Result<()> {
+    ) -> Result<Done> {
         T::raw_gather(self, dest, operand, start_indices)
     }
 }
@@ -184,12 +185,12 @@ impl GatherPlan {
 /// let plan = ScatterPlan::compile(&[3], &[1], &[3], &[1], &[5], &[1], spec)?;
 ///
 /// let mut grid = [0; 5];
-/// plan.execute(
+/// let done = plan.execute(
 ///     &mut StridedMut::new(&mut grid, &[5], &[1], 0),
 ///     &StridedRef::new(&[0, 0, 9], &[3], &[1], 0),
 ///     &StridedRef::new(&[3, 4, 5], &[3], &[1], 0),
 /// )?;
-/// assert_eq!(grid, [7, 0, 0, 0, 5]);
+/// assert_eq!((grid, done.slid()), ([7, 0, 0, 0, 5], 1));
 /// # Ok::<(), strided::StridedError>(())
 /// ```
 #[derive(Clone, Debug, Eq, PartialEq)]
@@ -262,7 +263,8 @@ impl ScatterPlan {
 
     /// Adds each update to the element it lands on, batch by batch and, inside
     /// a window, cell by cell, first axis fastest. Starts are clamped so that
-    /// each window lies inside the destination; none is skipped. It is
+    /// each window lies inside the destination; none is skipped, and
+    /// [`Done::slid`] tells how many windows the clamp moved. It is
     /// [`execute_updates`](Self::execute_updates) by [`Rule::Add`](crate::Rule).
     ///
     /// The time goes by the number of update coordinates, which a stride of 0
@@ -299,14 +301,15 @@ impl ScatterPlan {
         dest: &mut StridedMut<'_, T>,
         scatter_indices: &StridedRef<'_, i64>,
         updates: &StridedRef<'_, T>,
-    ) -> Result<()> {
+    ) -> Result<Done> {
         self.execute_updates(dest, scatter_indices, updates, T::Rule::default())
     }
 
     /// Puts each update on the element it lands on by a rule, in the order and
     /// at the places of [`execute`](Self::execute). `f64` takes a
     /// [`Rule`](crate::Rule) as well as a [`RuleF64`](crate::RuleF64); what
-    /// each of them does stands there.
+    /// each of them does stands there. The rule makes no difference to how many
+    /// windows slide.
     ///
     /// # Errors
     ///
@@ -348,8 +351,8 @@ impl ScatterPlan {
     /// A ceiling is no rule of `i32`:
     ///
     /// ```compile_fail
-    /// # use strided::{RuleF64, ScatterPlan, StridedMut, StridedRef};
-    /// # fn of_i32(plan: &ScatterPlan, starts: &StridedRef<'_, i64>) -> strided::Result<()> {
+    /// # use strided::{Done, RuleF64, ScatterPlan, StridedMut, StridedRef};
+    /// # fn of_i32(plan: &ScatterPlan, starts: &StridedRef<'_, i64>) -> strided::Result<Done> {
     /// let mut depths = [900, 900, 900];
     /// plan.execute_updates(
     ///     &mut StridedMut::new(&mut depths, &[3], &[1], 0),
@@ -365,7 +368,7 @@ impl ScatterPlan {
         scatter_indices: &StridedRef<'_, i64>,
         updates: &StridedRef<'_, T>,
         rule: impl Into<T::Rule>,
-    ) -> Result<()> {
+    ) -> Result<Done> {
         T::raw_scatter(self, dest, scatter_indices, updates, rule.into())
     }
 }

@@ -4,7 +4,7 @@
 use crate::cases::{bits, cells, summed, view, Cell, GatherCase, ScatterCase};
 use crate::random::Random;
 use strided::{
-    gather_job, scatter_job, Element, GatherJob, GatherSpec, Job, Result, Rule, ScatterJob,
+    gather_job, scatter_job, Done, Element, GatherJob, GatherSpec, Job, Result, Rule, ScatterJob,
     ScatterPlan, ScatterSpec, StridedError, ViewLayout,
 };
 
@@ -104,7 +104,7 @@ fn gather<T: Cell>(
     views: &GatherJob,
     starts: &[i64],
     [operand_len, dest_len]: [usize; 2],
-) -> Result<()> {
+) -> Result<Done> {
     let operand = cells::<T>(random, operand_len);
     let before = cells::<T>(random, dest_len);
     let mut dest = before.clone();
@@ -129,17 +129,18 @@ fn gather<T: Cell>(
     answer
 }
 
-/// As [`gather`]. By any rule the answer is the same.
+/// As [`gather`]; none where there are too many updates. By any rule the
+/// answer is the same.
 fn scatter<T: Cell>(
     random: &mut Random,
     job: &ScatterJob,
     views: &ScatterJob,
     starts: &[i64],
     [updates_len, dest_len]: [usize; 2],
-) -> Result<()> {
+) -> Result<Option<Done>> {
     let plan = job.compile();
     if plan.is_ok() && job.updates.dims.iter().product::<usize>() > MOST_UPDATES {
-        return Ok(());
+        return Ok(None);
     }
     let updates = cells::<T>(random, updates_len);
     let before = cells::<T>(random, dest_len);
@@ -160,7 +161,7 @@ fn scatter<T: Cell>(
             assert_eq!(summed(&again), summed(&dest));
         }
     }
-    answer
+    answer.map(Some)
 }
 
 /// Executes a plan, where there is one, with the views of `views`.
@@ -171,7 +172,7 @@ fn put<T: Cell>(
     updates: &[T],
     dest: &mut [T],
     rule: T::Rule,
-) -> Result<()> {
+) -> Result<Done> {
     plan.clone()?.execute_updates(
         &mut views.dest.view_mut(dest),
         &views.index.view(starts),

@@ -1,9 +1,9 @@
 //! The harbour cases, and what is particular to each type of element.
 
 use crate::cases::{cuts_added, window_read, Cell};
-use strided::{Element, ElementType, GatherJob, Result, ScatterJob};
+use strided::{Done, Element, ElementType, GatherJob, Result, ScatterJob};
 
-fn read<T: Cell>(job: &GatherJob, operand: &[T], starts: &[i64], dest: &mut [T]) -> Result<()> {
+fn read<T: Cell>(job: &GatherJob, operand: &[T], starts: &[i64], dest: &mut [T]) -> Result<Done> {
     job.compile()?.execute(
         &mut job.dest.view_mut(dest),
         &job.operand.view(operand),
@@ -11,7 +11,7 @@ fn read<T: Cell>(job: &GatherJob, operand: &[T], starts: &[i64], dest: &mut [T])
     )
 }
 
-fn add<T: Cell>(job: &ScatterJob, starts: &[i64], updates: &[T], dest: &mut [T]) -> Result<()> {
+fn add<T: Cell>(job: &ScatterJob, starts: &[i64], updates: &[T], dest: &mut [T]) -> Result<Done> {
     job.compile()?.execute(
         &mut job.dest.view_mut(dest),
         &job.index.view(starts),

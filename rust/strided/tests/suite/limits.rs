@@ -2,7 +2,7 @@
 
 use crate::cases::{cuts_added, packed, view, window_read};
 use strided::{
-    gather_job, scatter_job, GatherJob, GatherPlan, Job, Result, ScatterJob, StridedMut,
+    gather_job, scatter_job, Done, GatherJob, GatherPlan, Job, Result, ScatterJob, StridedMut,
     StridedRef, ViewLayout, RANK_LIMIT,
 };
 
@@ -132,8 +132,14 @@ fn slices_without_elements() {
     job.index = packed(&[0]);
     job.dest = packed(&[2, 0]);
     let stored = Job::Gather(job).to_bytes().unwrap();
-    assert_eq!(gather_job(&stored, &[1; 5], &[], &mut []), Ok(()));
-    assert_eq!(gather_job(&stored, &[1; 5], &[], &mut dest), Ok(()));
+    assert_eq!(
+        gather_job(&stored, &[1; 5], &[], &mut []).map(Done::slid),
+        Ok(0)
+    );
+    assert_eq!(
+        gather_job(&stored, &[1; 5], &[], &mut dest).map(Done::slid),
+        Ok(0)
+    );
     assert_eq!(dest, [7; 4]);
 
     let mut job = cuts_added();
@@ -141,7 +147,10 @@ fn slices_without_elements() {
     job.updates = packed(&[0]);
     let stored = Job::Scatter(job).to_bytes().unwrap();
     let mut grid = [7; 5];
-    assert_eq!(scatter_job(&stored, &[], &[], &mut grid), Ok(()));
+    assert_eq!(
+        scatter_job(&stored, &[], &[], &mut grid).map(Done::slid),
+        Ok(0)
+    );
     assert_eq!(grid, [7; 5]);
 }
 
@@ -170,7 +179,10 @@ fn grids_without_axes() {
     job.spec.slice_sizes = vec![];
     let stored = Job::Gather(job).to_bytes().unwrap();
     let mut dest = [0];
-    assert_eq!(gather_job(&stored, &[42], &[], &mut dest), Ok(()));
+    assert_eq!(
+        gather_job(&stored, &[42], &[], &mut dest).map(Done::slid),
+        Ok(0)
+    );
     assert_eq!(dest, [42]);
 }
 
@@ -217,12 +229,12 @@ fn plans_and_views_go_between_threads() {
             &StridedRef::new(&cells, &[5], &[1], 0),
             &StridedRef::new(&[4, -1], &[2], &[1], 0),
         );
-        answer.map(|()| dest)
+        answer.map(|done| (dest, done.slid()))
     };
     std::thread::scope(|scope| {
         let runs: Vec<_> = (0..4).map(|_| scope.spawn(read)).collect();
         for run in runs {
-            assert_eq!(run.join().unwrap(), Ok([40, 50, 10, 20]));
+            assert_eq!(run.join().unwrap(), Ok(([40, 50, 10, 20], 2)));
         }
     });
 }

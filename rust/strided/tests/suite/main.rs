@@ -13,5 +13,6 @@ mod random;
 mod reference;
 mod refusals;
 mod rules;
+mod slid;
 mod times;
 mod two_ships;

@@ -2,7 +2,7 @@
 
 use crate::cases::{bits, cells, summed, Cell, GatherCase, ScatterCase};
 use crate::random::Random;
-use strided::{gather_job, scatter_job, GatherJob, Job, Rule, ScatterJob, ViewLayout};
+use strided::{gather_job, scatter_job, Done, GatherJob, Job, Rule, ScatterJob, ViewLayout};
 
 const CASES: usize = 4000;
 
@@ -38,17 +38,19 @@ fn gathers<T: Cell>(seed: u64) {
 
         let mut dest = before.clone();
         let plan = call.job.compile().expect("a valid gather");
-        plan.execute(
+        let done = plan.execute(
             &mut call.job.dest.view_mut(&mut dest),
             &call.job.operand.view(&operand),
             &call.job.index.view(&call.starts),
-        )
-        .expect("views inside their slices");
+        );
+        let slid = slid_in_gather(&call.job, &call.starts);
+        assert_eq!(done.map(Done::slid), Ok(slid), "case {case}");
         assert_eq!(bits(&dest), bits(&expected), "case {case}: {:?}", call.job);
 
         let mut dest = before;
         let job = Job::Gather(call.job).to_bytes().expect("a small job");
-        gather_job(&job, &operand, &call.starts, &mut dest).expect("the same by its job");
+        let by_job = gather_job(&job, &operand, &call.starts, &mut dest);
+        assert_eq!(by_job, done, "case {case}, by its job");
         assert_eq!(bits(&dest), bits(&expected), "case {case}, by its job");
     }
 }
@@ -66,12 +68,13 @@ fn scatters<T: Cell>(seed: u64) {
 
         let mut dest = before.clone();
         let plan = call.job.compile().expect("a valid scatter");
-        plan.execute(
+        let done = plan.execute(
             &mut call.job.dest.view_mut(&mut dest),
             &call.job.index.view(&call.starts),
             &call.job.updates.view(&updates),
-        )
-        .expect("views inside their slices");
+        );
+        let slid = slid_in_scatter(&call.job, &call.starts);
+        assert_eq!(done.map(Done::slid), Ok(slid), "case {case}");
         assert_eq!(
             summed(&dest),
             summed(&expected),
@@ -81,7 +84,8 @@ fn scatters<T: Cell>(seed: u64) {
 
         let mut dest = before;
         let job = Job::Scatter(call.job).to_bytes().expect("a small job");
-        scatter_job(&job, &call.starts, &updates, &mut dest).expect("the same by its job");
+        let by_job = scatter_job(&job, &call.starts, &updates, &mut dest);
+        assert_eq!(by_job, done, "case {case}, by its job");
         assert_eq!(summed(&dest), summed(&expected), "case {case}, by its job");
     }
 }
@@ -122,16 +126,10 @@ pub fn landings(job: &ScatterJob, starts: &[i64]) -> Vec<(usize, usize)> {
     let spec = &job.spec;
     let kept = others(job.dest.dims.len(), &spec.inserted_window_dims);
     let batch_axes = others(job.updates.dims.len(), &spec.update_window_dims);
-    let extents = |axes: &[usize]| -> Vec<usize> {
-        axes.iter().map(|&axis| job.updates.dims[axis]).collect()
-    };
-    let window = extents(&spec.update_window_dims);
-    let mut windows = vec![1; job.dest.dims.len()];
-    for (&axis, &extent) in kept.iter().zip(&window) {
-        windows[axis] = extent;
-    }
+    let window = picked(&job.updates.dims, &spec.update_window_dims);
+    let windows = scatter_windows(job);
     let mut found = Vec::new();
-    for batch in coordinates(&extents(&batch_axes)) {
+    for batch in coordinates(&picked(&job.updates.dims, &batch_axes)) {
         for cell in coordinates(&window) {
             let components = components(&job.index, starts, spec.index_vector_dim, &batch);
             let mut taken = vec![0; job.updates.dims.len()];
@@ -150,6 +148,72 @@ pub fn landings(job: &ScatterJob, starts: &[i64]) -> Vec<(usize, usize)> {
         }
     }
     found
+}
+
+/// The window on each axis of a scatter's destination.
+fn scatter_windows(job: &ScatterJob) -> Vec<usize> {
+    let kept = others(job.dest.dims.len(), &job.spec.inserted_window_dims);
+    let window = picked(&job.updates.dims, &job.spec.update_window_dims);
+    let mut windows = vec![1; job.dest.dims.len()];
+    for (axis, extent) in kept.into_iter().zip(window) {
+        windows[axis] = extent;
+    }
+    windows
+}
+
+/// How many windows of a gather slide.
+pub fn slid_in_gather(job: &GatherJob, starts: &[i64]) -> u64 {
+    let spec = &job.spec;
+    let batch_axes = others(job.dest.dims.len(), &spec.offset_dims);
+    let moved = |batch: &Vec<usize>| {
+        let components = components(&job.index, starts, spec.index_vector_dim, batch);
+        moves(
+            &job.operand.dims,
+            &spec.slice_sizes,
+            &spec.start_index_map,
+            &components,
+        )
+    };
+    match job.dest.dims.contains(&0) {
+        true => 0,
+        false => count(&picked(&job.dest.dims, &batch_axes), moved),
+    }
+}
+
+/// How many windows of a scatter slide.
+pub fn slid_in_scatter(job: &ScatterJob, starts: &[i64]) -> u64 {
+    let spec = &job.spec;
+    let batch_axes = others(job.updates.dims.len(), &spec.update_window_dims);
+    let windows = scatter_windows(job);
+    let moved = |batch: &Vec<usize>| {
+        let components = components(&job.index, starts, spec.index_vector_dim, batch);
+        moves(
+            &job.dest.dims,
+            &windows,
+            &spec.scatter_dims_to_operand_dims,
+            &components,
+        )
+    };
+    match job.updates.dims.contains(&0) {
+        true => 0,
+        false => count(&picked(&job.updates.dims, &batch_axes), moved),
+    }
+}
+
+/// How many coordinates have something.
+fn count(dims: &[usize], has: impl Fn(&Vec<usize>) -> bool) -> u64 {
+    coordinates(dims).into_iter().filter(has).count() as u64
+}
+
+/// Whether the clamp moves one of the components, which are on these axes.
+fn moves(grid: &[usize], windows: &[usize], axes: &[usize], components: &[i64]) -> bool {
+    let mut pairs = axes.iter().zip(components);
+    pairs.any(|(&axis, &start)| clamped(start, grid[axis], windows[axis]) as i64 != start)
+}
+
+/// The entries at these places.
+fn picked(list: &[usize], places: &[usize]) -> Vec<usize> {
+    places.iter().map(|&place| list[place]).collect()
 }
 
 /// The axes below `rank` that are not listed.

@@ -3,7 +3,7 @@
 use crate::cases::{cuts_added, packed, view, window_read};
 use core::fmt::Debug;
 use strided::{
-    check_job, gather_job, scatter_job, GatherJob, Job, Result, ScatterJob, StridedError,
+    check_job, gather_job, scatter_job, Done, GatherJob, Job, Result, ScatterJob, StridedError,
 };
 
 const LENGTHS: &str = "the extents and strides of a layout differ in length";
@@ -204,7 +204,7 @@ fn a_shape_is_not_the_expected_one() {
 }
 
 /// Executes the window read, compiled as it is, with views of `views`.
-fn read_with(views: &GatherJob) -> Result<()> {
+fn read_with(views: &GatherJob) -> Result<Done> {
     let mut dest = [7; 4];
     let plan = window_read().compile()?;
     let answer = plan.execute(
@@ -217,7 +217,7 @@ fn read_with(views: &GatherJob) -> Result<()> {
 }
 
 /// Executes the cuts added, compiled as they are, with views of `views`.
-fn add_with(views: &ScatterJob) -> Result<()> {
+fn add_with(views: &ScatterJob) -> Result<Done> {
     let mut dest = [7.0; 5];
     let plan = cuts_added().compile()?;
     let answer = plan.execute(

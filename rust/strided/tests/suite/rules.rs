@@ -6,7 +6,7 @@ use crate::header::number_of;
 use crate::random::Random;
 use crate::reference::{landings, plain_scatter};
 use strided::ffi::{self, Answer};
-use strided::{Element, Result, Rule, RuleF64, ScatterJob, ViewLayout};
+use strided::{Done, Element, Result, Rule, RuleF64, ScatterJob, ViewLayout};
 
 const CASES: usize = 4000;
 const INFINITY: f64 = f64::INFINITY;
@@ -27,7 +27,7 @@ fn put<T: Cell>(
     updates: &[T],
     dest: &mut [T],
     rule: impl Into<T::Rule>,
-) -> Result<()> {
+) -> Result<Done> {
     job.compile()?.execute_updates(
         &mut job.dest.view_mut(dest),
         &job.index.view(starts),

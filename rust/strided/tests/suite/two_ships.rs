@@ -2,11 +2,11 @@
 //! both take the lowest or both take the highest, and otherwise where no
 //! element gets an update from both.
 
-use crate::cases::{cells, cuts_added, packed, Cell, ScatterCase, RULES};
+use crate::cases::{cells, cuts_added, packed, Cell, GatherCase, ScatterCase, RULES};
 use crate::random::Random;
-use crate::reference::landings;
+use crate::reference::{landings, slid_in_gather, slid_in_scatter};
 use std::collections::BTreeSet;
-use strided::{ElementType, Result, Rule, RuleF64, ScatterJob};
+use strided::{Done, ElementType, Result, Rule, RuleF64, ScatterJob};
 
 const CASES: usize = 2000;
 
@@ -50,7 +50,7 @@ impl Ship {
         found
     }
 
-    fn put_on(&self, grid: &mut [i32]) -> Result<()> {
+    fn put_on(&self, grid: &mut [i32]) -> Result<Done> {
         self.job.compile()?.execute_updates(
             &mut self.job.dest.view_mut(grid),
             &self.job.index.view(&self.starts),
@@ -60,13 +60,15 @@ impl Ship {
     }
 }
 
-/// The grid after both ships, in either order. Both are accepted in both.
+/// The grid after both ships, in either order. Both are accepted in both, and
+/// as many of a ship's windows slide whatever the other has done.
 fn in_both_orders(ships: [&Ship; 2], before: &[i32]) -> [Vec<i32>; 2] {
     let [north, south] = ships;
     [[north, south], [south, north]].map(|order| {
         let mut grid = before.to_vec();
         for ship in order {
-            assert_eq!(ship.put_on(&mut grid), Ok(()));
+            let slid = ship.put_on(&mut grid).map(Done::slid);
+            assert_eq!(slid, Ok(slid_in_scatter(&ship.job, &ship.starts)));
         }
         grid
     })
@@ -136,8 +138,8 @@ fn ships_apart_may_be_swapped_whatever_their_rules() {
             let [one, other] = in_both_orders([&north, &south], &before);
             assert_eq!(one, other, "case {case}, {rules:?}");
             let mut alone = [before.clone(), before.clone()];
-            assert_eq!(north.put_on(&mut alone[0]), Ok(()));
-            assert_eq!(south.put_on(&mut alone[1]), Ok(()));
+            assert!(north.put_on(&mut alone[0]).is_ok());
+            assert!(south.put_on(&mut alone[1]).is_ok());
             let landing = [&north, &south].map(|ship| ship.landing(before.len()));
             for (element, held) in before.into_iter().enumerate() {
                 let lands = [0, 1].map(|ship: usize| !landing[ship][element].is_empty());
@@ -153,6 +155,38 @@ fn ships_apart_may_be_swapped_whatever_their_rules() {
         }
         assert!(landed.iter().all(|&count| count > CASES / 16), "{rules:?}");
     }
+}
+
+/// A window that is read before and after a ship has been there slides as
+/// often, whatever the ship has put on it.
+#[test]
+fn a_gather_beside_a_ship_slides_as_often() {
+    let mut random = Random::new(71);
+    let mut slid = [0, 0];
+    for case in 0..CASES {
+        let rule = random.pick(&RULES);
+        let ship = Ship::random(&mut random, rule);
+        let GatherCase {
+            job,
+            operand_len,
+            starts,
+            dest_len,
+        } = GatherCase::random(&mut random, ElementType::I32);
+        let plan = job.compile().unwrap();
+        let mut grid = cells(&mut random, ship.grid_len.max(operand_len));
+        let mut window = vec![0; dest_len];
+        let mut read = |grid: &[i32]| {
+            let dest = &mut job.dest.view_mut(&mut window);
+            plan.execute(dest, &job.operand.view(grid), &job.index.view(&starts))
+        };
+        let before = read(&grid).unwrap();
+        let of_ship = ship.put_on(&mut grid).unwrap();
+        assert_eq!(read(&grid), Ok(before), "case {case}");
+        assert_eq!(before.slid(), slid_in_gather(&job, &starts), "case {case}");
+        slid[0] += usize::from(before.slid() > 0);
+        slid[1] += usize::from(of_ship.slid() > 0);
+    }
+    assert!(slid.iter().all(|&count| count > CASES / 4), "{slid:?}");
 }
 
 /// A ship with one update, for the middle one of three cells.
