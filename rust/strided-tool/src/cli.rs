@@ -51,6 +51,17 @@ pub enum Command {
     Print(PrintArgs),
 }
 
+impl Command {
+    /// Whether windows are to be listed.
+    pub fn is_verbose(&self) -> bool {
+        match self {
+            Command::Gather(args) => args.verbose,
+            Command::Scatter(args) => args.verbose,
+            _ => false,
+        }
+    }
+}
+
 /// What to do with a job.
 #[derive(Subcommand)]
 pub enum JobCommand {
@@ -133,6 +144,7 @@ impl Lock {
 With a job, the shape and order of each file are those of the job's view.
 Without one, extents and order come from the files, and StableHLO's axis lists from options; one that is left out is empty.
 Without --dest the destination begins as zeros: in the order of the job's layout of it, where that is packed, or of the operand.
+A window that would hang over the grid's edge is moved inward. A line tells how many were, where some were; --verbose lists them.
 
 Example:
   strided gather --job berth.job --operand bed.npy --starts berth.npy --out window.npy
@@ -157,6 +169,9 @@ pub struct GatherArgs {
     /// Files of any shape and order lend their elements in memory order, by the job's layouts
     #[arg(long, conflicts_with = "index_vector_dim")]
     pub any_shape: bool,
+    /// List the windows that were moved inward, at most 1000, each with its start as it is and as it is clamped
+    #[arg(long)]
+    pub verbose: bool,
     /// How the output is locked.
     #[command(flatten)]
     pub lock: Lock,
@@ -170,6 +185,7 @@ pub struct GatherArgs {
 #[command(after_help = "\
 With a job, the shape and order of each file are those of the job's view.
 Without one, extents and order come from the files, and StableHLO's axis lists from options; one that is left out is empty.
+A window that would hang over the grid's edge is moved inward. A line tells how many were, where some were; --verbose lists them.
 The output is written beside and takes its name at the end, so that a failure leaves an old file as it was.
 An old file is locked from before the grid is read: of runs on one file at once, each waits for the one before.
 
@@ -206,6 +222,9 @@ pub struct ScatterArgs {
     /// Files of any shape and order lend their elements in memory order, by the job's layouts
     #[arg(long, conflicts_with = "index_vector_dim")]
     pub any_shape: bool,
+    /// List the windows that were moved inward, at most 1000, each with its start as it is and as it is clamped
+    #[arg(long)]
+    pub verbose: bool,
     /// Do also a scatter of more than 2^36 updates, which takes a minute and more
     #[arg(long)]
     pub yes: bool,

@@ -11,6 +11,7 @@ mod picture;
 mod progress;
 mod refusal;
 mod rule;
+mod slid;
 mod window;
 
 use std::io::{self, Write};

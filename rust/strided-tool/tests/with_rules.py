@@ -110,7 +110,8 @@ def told():
                             (["--rule", "lowest"], "put 3 updates (3) on the grid grid.npy by lowest; it is in out.npy"),
                             (["--rule", "replace"], "put 3 updates (3) on the grid grid.npy by replace; it is in out.npy")]:
             call = ["scatter", *rule, *LISTS, *FILES, "--out", "out.npy"]
-            check(run(*call) == (0, "", f"strided: {words}\n"), f"{rule}: {run(*call)}")
+            said = f"strided: {words}\nstrided: 1 of 3 windows was moved inward\n"
+            check(run(*call) == (0, "", said), f"{rule}: {run(*call)}")
             check(run("-q", *call) == (0, "", ""), f"{rule}, quiet")
     _, _, said = run("scatter", "--rule", "ceiling:60", *LISTS, *FILES, "--out", "out.npy")
     check("by ceiling:60; it is" in said, f"ceiling: {said}")

@@ -14,6 +14,7 @@ use crate::npy::{self, cells, shape_in_words, Grid, Item};
 use crate::output::{self, Output};
 use crate::progress;
 use crate::refusal::{batch, others, pick};
+use crate::slid;
 
 pub fn run(args: &GatherArgs, report: &mut Report) -> Outcome<()> {
     let mut inputs = vec![
@@ -129,7 +130,7 @@ fn gather<T: Element + Item>(
         None => fresh(stored, job)?,
     };
     let count = cells(&job.dest.dims).unwrap_or(0);
-    progress::timed(&format!("gathering {count} cells"), || {
+    let done = progress::timed(&format!("gathering {count} cells"), || {
         strided::gather_job(&stored.bytes, &operand.data, &starts.data, &mut dest.data)
     })
     .map_err(|error| {
@@ -144,12 +145,14 @@ fn gather<T: Element + Item>(
         ];
         stored.refused(error, Some(lent))
     })?;
+    let moved = slid::told(done, &stored.job, &starts.data, args.verbose)?;
     let name = args.out.display().to_string();
     output.write(|file| npy::write(&dest, &name, file))?;
     report.say(&format!(
         "gathered {count} cells ({}) into {name}",
         shape_in_words(&job.dest.dims)
     ));
+    report.say_all(&moved);
     Ok(())
 }
 

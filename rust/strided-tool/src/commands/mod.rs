@@ -37,10 +37,22 @@ impl Report {
             let _ = writeln!(io::stderr(), "strided: {line}");
         }
     }
+
+    /// Lines for the user, one after the other.
+    pub fn say_all(&mut self, lines: &[String]) {
+        for line in lines {
+            self.say(line);
+        }
+    }
 }
 
 /// Does what the command line asks for. The exit status may tell what was found.
 pub fn run(command: &Command, report: &mut Report) -> Outcome<ExitCode> {
+    // Clap does not see the one before the command and the other behind it.
+    if report.quiet && command.is_verbose() {
+        let why = "--verbose lists windows, and --quiet says nothing; give one of them";
+        return Err(Failure::Unusable(why.to_owned()));
+    }
     let done = match command {
         Command::Job(command) => job::run(command, report),
         Command::Gather(args) => gather::run(args, report),

@@ -2,7 +2,7 @@
 
 use std::path::Path;
 
-use strided::{Element, ElementType, Job, ScatterJob};
+use strided::{Done, Element, ElementType, Job, ScatterJob};
 
 use super::lent::{fit, Lent};
 use super::stored::Stored;
@@ -13,6 +13,7 @@ use crate::npy::{self, shape_in_words, Item};
 use crate::output::{self, Output};
 use crate::progress;
 use crate::rule::{RuleName, TypedRule};
+use crate::slid;
 
 /// A scatter of more updates than this is done where the user has said so: at a nanosecond each it takes more than a minute.
 const MANY: u128 = 1 << 36;
@@ -157,7 +158,7 @@ impl Call<'_> {
         updates: &[T],
         grid: &mut [T],
         rule: T::Rule,
-    ) -> strided::Result<()> {
+    ) -> strided::Result<Done> {
         if self.stored.is_file {
             return strided::scatter_job(&self.stored.bytes, starts, updates, grid);
         }
@@ -182,7 +183,7 @@ fn scatter<T: Element + Item>(
     let changes = files.updates.load::<T>()?;
     let mut grid = files.grid.load::<T>()?;
     let count = updates(call.job);
-    progress::timed(&call.rule.doing(&format!("{count} updates")), || {
+    let done = progress::timed(&call.rule.doing(&format!("{count} updates")), || {
         call.run(&starts.data, &changes.data, &mut grid.data, rule)
     })
     .map_err(|error| {
@@ -193,11 +194,13 @@ fn scatter<T: Element + Item>(
         ];
         call.stored.refused(error, Some(lent))
     })?;
+    let moved = slid::told(done, &call.stored.job, &starts.data, args.verbose)?;
     let name = args.out.display().to_string();
     output.write(|file| npy::write(&grid, &name, file))?;
     let shape = shape_in_words(&call.job.updates.dims);
     let updates = format!("{count} updates ({shape})");
-    let done = call.rule.done(&updates, &args.grid.display().to_string());
-    report.say(&format!("{done}; it is in {name}"));
+    let put = call.rule.done(&updates, &args.grid.display().to_string());
+    report.say(&format!("{put}; it is in {name}"));
+    report.say_all(&moved);
     Ok(())
 }

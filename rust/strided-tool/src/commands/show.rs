@@ -2,7 +2,7 @@
 
 use std::path::Path;
 
-use strided::{Element, GatherPlan, GatherSpec, StridedMut, StridedRef, ViewLayout};
+use strided::{Done, Element, GatherPlan, GatherSpec, StridedMut, StridedRef, ViewLayout};
 
 use super::packed::layout_of;
 use super::Report;
@@ -111,6 +111,7 @@ impl<T: Element + Item + Drawn> Field for Numbered<'_, T> {
         };
         cells.resize(part.cells(), T::default());
         self.gather(part, &operand, &dest, cells)
+            .map(drop)
             .map_err(|error| refused(&self.path.display().to_string(), error, &Known::default()))
     }
 }
@@ -123,7 +124,7 @@ impl<T: Element + Item> Numbered<'_, T> {
         operand: &ViewLayout,
         dest: &ViewLayout,
         cells: &mut [T],
-    ) -> strided::Result<()> {
+    ) -> strided::Result<Done> {
         let spec = GatherSpec {
             offset_dims: vec![0, 1],
             collapsed_slice_dims: Vec::new(),

@@ -5,7 +5,7 @@ use std::fs::File;
 use std::io::Read;
 use std::path::Path;
 
-use strided::{Job, StridedError};
+use strided::{Done, Job, StridedError};
 
 use crate::failure::{Failure, Outcome};
 use crate::refusal::{refused, Known};
@@ -87,10 +87,10 @@ impl Stored {
     }
 
     /// The failure where a job is of the other kind than the command.
-    pub fn of_other_kind(&self, answer: strided::Result<()>, command: &str) -> Failure {
+    pub fn of_other_kind(&self, answer: strided::Result<Done>, command: &str) -> Failure {
         let hint = format!("run it with `strided {command}`");
         match answer {
-            Ok(()) => self.unusable(hint),
+            Ok(_) => self.unusable(hint),
             Err(error) => match self.refused(error, None) {
                 Failure::Refused(text) => Failure::Refused(format!("{text}; {hint}")),
                 other => other,

@@ -6,6 +6,7 @@ mod gather;
 mod scatter;
 
 pub use counts::{batch, others, pick};
+pub use scatter::windows as scatter_windows;
 
 use strided::{Job, StridedError, ViewLayout};
 

@@ -83,7 +83,7 @@ fn axes(job: &ScatterJob, found: (u64, u64)) -> Option<String> {
 }
 
 /// The window's extent along each axis of the destination: that of the updates, or 1 where the axis is inserted.
-fn windows(job: &ScatterJob) -> Vec<usize> {
+pub fn windows(job: &ScatterJob) -> Vec<usize> {
     let spec = &job.spec;
     let mut kept = pick(&job.updates.dims, &spec.update_window_dims).into_iter();
     (0..job.dest.dims.len())
