@@ -78,6 +78,8 @@ def main():
     np.save(os.path.join(folder, "south_starts.npy"), np.asfortranarray(south))
     np.save(os.path.join(folder, "south_cuts.npy"), np.asfortranarray(cuts(numbers, len(south), 4, 4, 740)))
     np.save(os.path.join(folder, "berth_start.npy"), np.array([0, 18], dtype="<i8"))
+    # A window of the berth's size asked for at the basin's corner, most of it past the edge.
+    np.save(os.path.join(folder, "corner_start.npy"), np.array([74, 104], dtype="<i8"))
     np.save(os.path.join(folder, "counting.npy"), np.arange(COLUMNS, dtype="<i4"))
     print(f"{len(north)} cuts by North, {len(south)} by South")
 
