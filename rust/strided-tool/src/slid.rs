@@ -12,17 +12,16 @@ use crate::refusal::{batch, others, pick, scatter_windows};
 /// No more windows than this are listed.
 const MOST: usize = 1000;
 
-/// What is told of the windows that were moved: how many they are, where there are any; and, where they are to be listed, how many
-/// whether there are any or not, and a line for each. Refused where those that are found are not as many as the library says, which
-/// cannot be.
+/// The lines that tell of the windows that were moved: how many, where some were. Where they are to be listed, how many in any case,
+/// and a line for each; refused where those that are found are not as many as the library says, which cannot be.
 pub fn told(done: Done, job: &Job, starts: &[i64], list: bool) -> Outcome<Vec<String>> {
-    let batch = Starts::of(job);
-    let count = in_words(done.slid(), batch.windows());
+    let places = Starts::of(job);
+    let count = in_words(done.slid(), places.windows());
     if !list {
         return Ok(Vec::from_iter((done.slid() > 0).then_some(count)));
     }
     let found = progress::timed("finding the windows that were moved", || {
-        batch.moved(starts)
+        places.moved(starts)
     });
     if found.count != done.slid() {
         return Err(Failure::Unusable(DIFFERENT.to_owned()));
