@@ -1,3 +1,4 @@
 pub mod Numbers
 pub mod Moving
 pub mod Parts
+pub mod Slid

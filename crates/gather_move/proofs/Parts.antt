@@ -12,8 +12,9 @@ use mir.Syntax.{w64}
 use mir.Val.{SFits, toZ}
 use Rattle.integer.specs.Z.{back, known, znorm, zflat, zfacts, ≤-from, <-from}
 use Rattle.integer.specs.Laws.{≤-pos, ≤ℤ-trans, +ℤ-mono-r}
-use Rattle.indexing.specs.Coordinates.{product, elementAt, store}
-use Rattle.indexing.specs.Gather.{Gather, cells, shownDims, batchDims, readAt, writeAt, gathered}
+use Rattle.indexing.specs.Coordinates.{product, unravel, elementAt, store}
+use Rattle.indexing.specs.Gather.{Gather, cells, shownDims, batchDims, gatherStart, readAt, writeAt, gathered}
+use Rattle.indexing.specs.Slid.{howMany, slides, slidOf, batchExtents, slidGather}
 use Rattle.indexing.specs.Loops.{gathered-loop}
 use Rattle.indexing.specs.Reach.{lowest}
 use Rattle.indexing.specs.Steps.{windowSteps, batchSteps}
@@ -32,11 +33,14 @@ use Rattle.calls.proofs.Does.{not-outside, zero-of}
 use Rattle.gather_checks.specs.Refusals.{specRefusal, refusalOf}
 use Rattle.runs.proofs.Place.{read}
 use Rattle.runs.proofs.Turns.{none}
-use Rattle.gather_windows.specs.Gathering.{gatheredBy, Gathering}
+use Rattle.windows.specs.Windows.{placeAt}
+use Rattle.indexed_runs.specs.IndexedRuns.{startsMoved}
+use Rattle.gather_windows.specs.Gathering.{gatheredBy, Gathering, Batched}
 use Rattle.gather_move.specs.Prepared.{gatherNumbers, startBase, Ready, Prepares, Cells, Movable}
 use Rattle.gather_move.specs.declared.GatherNumbers.{GatherNumbers}
 use Rattle.gather_move.specs.declared.PreparedGather.{PreparedGather}
 use Rattle.gather_move.proofs.Moving.{at-valid, gathering, move-is}
+use Rattle.gather_move.proofs.Slid.{batched, slid-is}
 
 -- numbers that were read back
 pub back-end : {A : Type 0} (z : A) (rule : A → A → A) (src : List A) (starts offsets strides : List ℤ) (limits : List ℕ) (count : ℕ) (s t d : ℤ) (shape : List ℕ) (ss ts ds : List ℤ) (rank : ℕ) (x y : List A) → SFits w64 s → SFits w64 t → SFits w64 d
@@ -70,6 +74,18 @@ module _ (p : PreparedGather) (low high on : ℕ) (starts : List ℤ) (dn : ℕ)
 
   inside : Inside (g .result .extents) (g .result .strides) c dn low high
   inside = reach-inside (g .result .extents) (g .result .strides) c dn low high (sym (ready .reach) ∙ k .cells)
+
+  -- its batch coordinates, and how many of them slid
+  pub part-batched : Batched (p .numbers .extents) (p .numbers .«batch_extents») (p .numbers .«batch_steps») (p .numbers .rank)
+  part-batched = subst (λ (v : GatherNumbers). Batched (v .extents) (v .«batch_extents») (v .«batch_steps») (v .rank)) (sym (ready .numbers)) (batched g (ready .accepted))
+
+  pub part-slid : (r : ℕ)
+      → r ≡ slidOf (product (take (p .numbers .rank) (p .numbers .extents))) (startsMoved starts (p .numbers .offsets) (p .numbers .limits) (p .numbers .count) (product (take (p .numbers .rank) (p .numbers .«batch_extents»))) (placeAt (p .index) (p .numbers .«batch_extents») (p .numbers .«batch_steps») (p .numbers .rank)))
+      → r ≡ slidGather g starts
+  part-slid r h =
+      h
+      ∙ ap₂ (λ (v : GatherNumbers) (z : ℤ). slidOf (product (take (v .rank) (v .extents))) (startsMoved starts (v .offsets) (v .limits) (v .count) (product (take (v .rank) (v .«batch_extents»))) (placeAt z (v .«batch_extents») (v .«batch_steps») (v .rank)))) (ready .numbers) (ready .index)
+      ∙ slid-is g (ready .accepted) starts
 
   pub high-in : high < dn
   high-in = inside .fits
@@ -156,6 +172,12 @@ module _ (p : PreparedGather) (g : Gather) (on sn dn : ℕ) (r : Ready p g on sn
   without-cells z operand starts before e =
       none (λ j into. store into (writeAt g j) (elementAt z operand (readAt g starts j))) (product (g .result .extents)) before (no-cells (g .result .extents) (zero-of (g .result .extents) (g .result .strides) (g .result .offset) dn (sym (r .reach) ∙ e)))
       ∙ sym (gathered-loop z g starts operand before)
+
+  pub none-slid : (starts : List ℤ) → p .reach ≡ R.NoCells → 0 ≡ slidGather g starts
+  unfolding cells slidGather
+  none-slid starts e =
+      ap (λ (n : ℕ). slidOf n (howMany (product (batchExtents g)) (λ b. slides (g .operand .extents) (g .spec .slice-sizes) (g .spec .start-index-map) (gatherStart g starts (unravel (batchExtents g) b)))))
+      (sym (no-cells (g .result .extents) (zero-of (g .result .extents) (g .result .strides) (g .result .offset) dn (sym (r .reach) ∙ e))))
 
 -- what was prepared can be moved
 abbrev pub movable : {p : PreparedGather} {answer : Answer} {g : Gather} {on sn dn : ℕ} → Prepares p answer g on sn dn → Movable p on sn dn

@@ -11,7 +11,7 @@ use Rattle.rules.specs.Rules.{ruleF64}
 use Rattle.rules.specs.declared.RuleF64.the-variants as F
 use Rattle.runs.proofs.Place.{read}
 use Rattle.gather_windows.specs.Gathering.{Gathering}
-use Rattle.gather_move.proofs.Parts.{high-in, low-high, low-fits, sub-fits, place-is, part-asks, part-leaves}
+use Rattle.gather_move.proofs.Parts.{high-in, low-high, low-fits, sub-fits, place-is, part-asks, part-leaves, part-batched, part-slid}
 use borrow.Author.Needs.{needs}
 use Rattle.gather_move.proofs.cells_f64.Statement.{statement}
 use Rattle.gather_move.proofs.cells_f64.Tie as tie
@@ -52,18 +52,21 @@ part-run-f64-end c = let s = c .before .before .before .before in omega (arith, 
 run-f64-requires : tie.Need-run-f64-requires
 run-f64-requires c κs =
     let s = c .before .before .before .before .before in
-    let w = s .args .p .numbers in
-    subst (Gathering (s .args .starts .now) (w .offsets) (w .strides) (w .limits) (w .count) (s .args .p .operand) (s .args .p .index) (read (read (s .args .p .dest) -ℤ toZ w64 (s .args .low))) (w .extents) (w .«window_steps») (w .«batch_steps») (w .«dest_steps») (w .rank) (length (s .args .source .now)))
-    (sym (part-length s))
-    (part-asks (s .args .p) (s .args .low) (s .args .high) (length (s .args .source .now)) (s .args .starts .now) (length (s .args .into .now)) (s .pre) _ refl _ (place-is (s .args .p) (s .args .low) (s .args .high) (length (s .args .source .now)) (s .args .starts .now) (length (s .args .into .now)) (s .pre) (dest-fits s) (dest-room s)) (starts-room s))
+    let w = s .args .p .numbers in (
+      subst (Gathering (s .args .starts .now) (w .offsets) (w .strides) (w .limits) (w .count) (s .args .p .operand) (s .args .p .index) (read (read (s .args .p .dest) -ℤ toZ w64 (s .args .low))) (w .extents) (w .«window_steps») (w .«batch_steps») (w .«dest_steps») (w .rank) (length (s .args .source .now)))
+          (sym (part-length s))
+          (part-asks (s .args .p) (s .args .low) (s .args .high) (length (s .args .source .now)) (s .args .starts .now) (length (s .args .into .now)) (s .pre) _ refl _ (place-is (s .args .p) (s .args .low) (s .args .high) (length (s .args .source .now)) (s .args .starts .now) (length (s .args .into .now)) (s .pre) (dest-fits s) (dest-room s)) (starts-room s)),
+      part-batched (s .args .p) (s .args .low) (s .args .high) (length (s .args .source .now)) (s .args .starts .now) (length (s .args .into .now)) (s .pre),
+    )
 
 same-length : tie.Need-same-length
 same-length c = search needs
 
 returns : tie.Need-returns
 returns c =
-    let s = c .before .before .before .before .before .before .before .before in
-    λ k. part-leaves (s .args .p) (s .args .low) (s .args .high) (length (s .args .source .now)) (s .args .starts .now) (length (s .args .into .now)) k _ refl _ (place-is (s .args .p) (s .args .low) (s .args .high) (length (s .args .source .now)) (s .args .starts .now) (length (s .args .into .now)) k (dest-fits s) (dest-room s)) nan (ruleF64 F.Replace) (λ x u. refl) (s .args .source .now) (s .args .into .now) refl _ (c .before .before .run-f64 .ensures)
+    let q : tie.After-run-f64 = search in
+    let s : tie.Start = search in
+    λ k. (part-leaves (s .args .p) (s .args .low) (s .args .high) (length (s .args .source .now)) (s .args .starts .now) (length (s .args .into .now)) k _ refl _ (place-is (s .args .p) (s .args .low) (s .args .high) (length (s .args .source .now)) (s .args .starts .now) (length (s .args .into .now)) k (dest-fits s) (dest-room s)) nan (ruleF64 F.Replace) (λ x u. refl) (s .args .source .now) (s .args .into .now) refl _ (q .run-f64 .ensures .0), part-slid (s .args .p) (s .args .low) (s .args .high) (length (s .args .source .now)) (s .args .starts .now) (length (s .args .into .now)) k _ (q .run-f64 .ensures .1))
 
 pub cells-f64-spec : {M : Type 1} → statement M
 cells-f64-spec =

@@ -10,7 +10,7 @@ use Rattle.rules.specs.Rules.{ruleI32}
 use Rattle.rules.specs.declared.Rule.the-variants as R
 use Rattle.runs.proofs.Place.{read}
 use Rattle.gather_windows.specs.Gathering.{Gathering}
-use Rattle.gather_move.proofs.Parts.{high-in, low-high, low-fits, sub-fits, place-is, part-asks, part-leaves}
+use Rattle.gather_move.proofs.Parts.{high-in, low-high, low-fits, sub-fits, place-is, part-asks, part-leaves, part-batched, part-slid}
 use borrow.Author.Needs.{needs}
 use Rattle.gather_move.proofs.cells_i32.Statement.{statement}
 use Rattle.gather_move.proofs.cells_i32.Tie as tie
@@ -51,18 +51,21 @@ part-run-i32-end c = let s = c .before .before in omega (arith, high-in (s .args
 run-i32-requires : tie.Need-run-i32-requires
 run-i32-requires c κs =
     let s = c .before .before .before in
-    let w = s .args .p .numbers in
-    subst (Gathering (s .args .starts .now) (w .offsets) (w .strides) (w .limits) (w .count) (s .args .p .operand) (s .args .p .index) (read (read (s .args .p .dest) -ℤ toZ w64 (s .args .low))) (w .extents) (w .«window_steps») (w .«batch_steps») (w .«dest_steps») (w .rank) (length (s .args .source .now)))
-    (sym (part-length s))
-    (part-asks (s .args .p) (s .args .low) (s .args .high) (length (s .args .source .now)) (s .args .starts .now) (length (s .args .into .now)) (s .pre) _ refl _ (place-is (s .args .p) (s .args .low) (s .args .high) (length (s .args .source .now)) (s .args .starts .now) (length (s .args .into .now)) (s .pre) (dest-fits s) (dest-room s)) (starts-room s))
+    let w = s .args .p .numbers in (
+      subst (Gathering (s .args .starts .now) (w .offsets) (w .strides) (w .limits) (w .count) (s .args .p .operand) (s .args .p .index) (read (read (s .args .p .dest) -ℤ toZ w64 (s .args .low))) (w .extents) (w .«window_steps») (w .«batch_steps») (w .«dest_steps») (w .rank) (length (s .args .source .now)))
+          (sym (part-length s))
+          (part-asks (s .args .p) (s .args .low) (s .args .high) (length (s .args .source .now)) (s .args .starts .now) (length (s .args .into .now)) (s .pre) _ refl _ (place-is (s .args .p) (s .args .low) (s .args .high) (length (s .args .source .now)) (s .args .starts .now) (length (s .args .into .now)) (s .pre) (dest-fits s) (dest-room s)) (starts-room s)),
+      part-batched (s .args .p) (s .args .low) (s .args .high) (length (s .args .source .now)) (s .args .starts .now) (length (s .args .into .now)) (s .pre),
+    )
 
 same-length : tie.Need-same-length
 same-length c = search needs
 
 returns : tie.Need-returns
 returns c =
-    let s = c .before .before .before .before .before in
-    λ k. part-leaves (s .args .p) (s .args .low) (s .args .high) (length (s .args .source .now)) (s .args .starts .now) (length (s .args .into .now)) k _ refl _ (place-is (s .args .p) (s .args .low) (s .args .high) (length (s .args .source .now)) (s .args .starts .now) (length (s .args .into .now)) k (dest-fits s) (dest-room s)) (pos 0) (ruleI32 R.Replace) (λ x u. refl) (s .args .source .now) (s .args .into .now) refl _ (c .before .run-i32 .ensures)
+    let q : tie.After-run-i32 = search in
+    let s : tie.Start = search in
+    λ k. (part-leaves (s .args .p) (s .args .low) (s .args .high) (length (s .args .source .now)) (s .args .starts .now) (length (s .args .into .now)) k _ refl _ (place-is (s .args .p) (s .args .low) (s .args .high) (length (s .args .source .now)) (s .args .starts .now) (length (s .args .into .now)) k (dest-fits s) (dest-room s)) (pos 0) (ruleI32 R.Replace) (λ x u. refl) (s .args .source .now) (s .args .into .now) refl _ (q .run-i32 .ensures .0), part-slid (s .args .p) (s .args .low) (s .args .high) (length (s .args .source .now)) (s .args .starts .now) (length (s .args .into .now)) k _ (q .run-i32 .ensures .1))
 
 pub cells-i32-spec : {M : Type 1} → statement M
 cells-i32-spec =
