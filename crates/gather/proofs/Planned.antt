@@ -1,13 +1,13 @@
 -- What a plan that fits a call holds. Assumes nothing.
 use mathlib.Core.Path.{_≡_, refl, sym, ap, ap₂, subst, _∙_}
-use mathlib.Core.Bool.{Bool, true}
+use mathlib.Core.Bool.{Bool, true, cond}
 use mathlib.Core.List.{List}
 use Prim.Native.Nat.{ℕ}
 use native.Mathlib.Omega.{arith}
 use lib.ListN.{length, getD, replicate}
 use lib.IntN.{ℤ, pos}
 use Rattle.integer.specs.Tests.{and-true}
-use Rattle.indexing.specs.Coordinates.{rank, tabulate}
+use Rattle.indexing.specs.Coordinates.{rank, tabulate, has}
 use Rattle.indexing.specs.Gather.{Gather, shownDims, batchDims}
 use Rattle.indexing.specs.Steps.{windowSteps, batchSteps}
 use Rattle.indexing.specs.Updates.{length-tabulate, getD-tabulate}
@@ -78,13 +78,15 @@ module _ (p : GatherPlan) (ok : isCompiled p ≡ true) where
   unfolding movesOf
   batch-is = steps-are (λ a. moveOf a .batch) (batchSteps g) refl (length-batch g) (λ a. moves-are a .1)
 
-  pub numbers-are : (moves : Moves) (stepped : List ℤ) (limits : List ℕ) → moves ≡ movesOf (p .axes)
+  pub numbers-are : (moves : Moves) (stepped : List ℤ) (limits batches : List ℕ) → moves ≡ movesOf (p .axes)
       → stepped ≡ unlessNone (p .«start_index_map» .count) (replicate rankLimit (pos 0)) (moves .batch)
       → limits ≡ tabulate rankLimit (limitAt (extentsOf (p .operand)) (numbersOf (p .«slice_sizes»)) (numbersOf (p .«start_index_map»)))
+      → batches ≡ tabulate rankLimit (λ a. cond (has (numbersOf (p .«offset_dims»)) a) 1 (getD (p .dest .extents) a 0))
       → _≡_ {A = GatherNumbers}
       (record {
         rank = p .dest .rank;
         extents = p .dest .extents;
+        «batch_extents» = batches;
         «window_steps» = moves .window;
         «batch_steps» = stepped;
         «dest_steps» = p .dest .strides;
@@ -95,11 +97,12 @@ module _ (p : GatherPlan) (ok : isCompiled p ≡ true) where
       })
       (gatherNumbers g)
   unfolding gatherNumbers
-  numbers-are moves stepped limits em es el =
+  numbers-are moves stepped limits batches em es el eb =
       let n = ap (λ (q : GatherPlan). q .«start_index_map» .count) is in
       λ i. record {
         rank = is i .dest .rank;
         extents = is i .dest .extents;
+        «batch_extents» = (eb ∙ ap (λ (q : GatherPlan). tabulate rankLimit (λ a. cond (has (numbersOf (p .«offset_dims»)) a) 1 (getD (q .dest .extents) a 0))) is) i;
         «window_steps» = (ap (λ (m : Moves). m .window) em ∙ window-is) i;
         «batch_steps» = (es ∙ ap₂ (λ (m : ℕ) (l : List ℤ). unlessNone m (replicate rankLimit (pos 0)) l) n (ap (λ (m : Moves). m .batch) em ∙ batch-is)) i;
         «dest_steps» = is i .dest .strides;

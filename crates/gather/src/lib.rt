@@ -1,7 +1,11 @@
 // Gather: the calls with a plan. A call takes a plan by value, made by compile or by anyone, the three views and their slices. It
 // answers 8 where the plan or a layout does not fit, then 9 for each view in turn; otherwise it is done.
 ghost use mathlib.Core.Path.{_≡_};
-ghost use mathlib.Core.Bool.{true};
+ghost use mathlib.Core.Bool.{true, cond};
+ghost use lib.ListN.{getD};
+ghost use Rattle.indexing.specs.Coordinates.{tabulate, has};
+ghost use Rattle.layout.specs.Layouts.{rankLimit};
+ghost use Rattle.axis_lists.specs.Held.{numbersOf};
 ghost use lib.Ieee.{nan};
 ghost use lib.IntN.{pos};
 ghost use Rattle.calls.specs.Calls.{asIs, Gathers};
@@ -9,12 +13,14 @@ ghost use Rattle.gather_same.specs.Same.{isCompiled};
 ghost use Rattle.gather_plan.specs.Plan.{heldGather};
 ghost use Rattle.gather_move.specs.Prepared.{gatherNumbers, Prepares};
 ghost use Rattle.gather.specs.Calls.{gatherOf, planFits, callAnswer, byPlan, moveOf, movesOf};
+use axis_lists::Numbers;
 use gather_move::GatherNumbers;
 use gather_move::PreparedGather;
 use gather_plan::GatherPlan;
 use gather_plan::GatherReplayAxis;
 use gather_plan::Role;
 use layout::Answer;
+use layout::CallAnswer;
 use layout::RAW_FUSED_RANK_LIMIT;
 use layout::View;
 
@@ -65,6 +71,18 @@ fn moves_of(axes: [GatherReplayAxis; RAW_FUSED_RANK_LIMIT]) -> Moves
     Moves { window, batch }
 }
 
+// The extents of the destination's axes, with 1 on those that a list by value names.
+fn batch_extents_of(
+    extents: [u64; RAW_FUSED_RANK_LIMIT],
+    dims: Numbers,
+) -> [u64; RAW_FUSED_RANK_LIMIT]
+    ensures { λ r. ⌜ r ≡ tabulate rankLimit (λ a. cond (has (numbersOf dims) a) 1 (getD extents a 0)) ⌝ }
+{
+    let listed = dims.entries;
+    let n = layout::axis_count(dims.count);
+    gather_move::batch_extents(extents, &listed[0..n])
+}
+
 // The numbers that the cells of a plan are moved with.
 fn numbers_of(plan: GatherPlan) -> GatherNumbers
     requires { ⌜ isCompiled plan ≡ true ⌝ }
@@ -83,12 +101,15 @@ fn numbers_of(plan: GatherPlan) -> GatherNumbers
     let stepped = components::unless_none(map.count, batch);
     let limits = components::limits_of(operand, sizes, map);
     let extents = dest.extents;
+    let dims = plan.offset_dims;
+    let batch_extents = batch_extents_of(extents, dims);
     let dest_steps = dest.strides;
     let offsets = index_component_offsets.entries;
     let strides = index_operand_strides.entries;
     GatherNumbers {
         rank: dest.rank,
         extents,
+        batch_extents,
         window_steps: window,
         batch_steps: stepped,
         dest_steps,
@@ -163,7 +184,7 @@ pub fn gather_i32(
     source: &[i32],
     starts: &[i64],
     into: &mut [i32],
-) -> Answer
+) -> CallAnswer
     ensures { λ r. ⌜ Gathers (pos 0) asIs (byPlan plan operand index dest (now (starts .entry))) (now (source .entry)) (now (into .entry)) (now (into .exit)) r ⌝ }
 {
     let p = prepare(
@@ -187,7 +208,7 @@ pub fn gather_f64(
     source: &[f64],
     starts: &[i64],
     into: &mut [f64],
-) -> Answer
+) -> CallAnswer
     ensures { λ r. ⌜ Gathers nan asIs (byPlan plan operand index dest (now (starts .entry))) (now (source .entry)) (now (into .entry)) (now (into .exit)) r ⌝ }
 {
     let p = prepare(

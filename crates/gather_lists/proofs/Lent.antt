@@ -3,10 +3,10 @@ use mathlib.Core.Path.{_≡_, refl, sym, ap, subst, _∙_}
 use mathlib.Core.Bool.{Bool, true, false, cond}
 use mathlib.Core.List.{List}
 use Prim.Native.Nat.{ℕ, min}
-use lib.ListN.{length, take, replicate}
+use lib.ListN.{length, getD, take, replicate}
 use lib.IntN.{ℤ, pos}
 use Rattle.integer.specs.Tests.{and-true, and-both}
-use Rattle.indexing.specs.Coordinates.{View, rank, pick, tabulate}
+use Rattle.indexing.specs.Coordinates.{View, rank, pick, tabulate, has}
 use Rattle.indexing.specs.Gather.{Gather, shownDims, batchDims}
 use Rattle.indexing.specs.Steps.{vectorStride, windowSteps, batchSteps}
 use Rattle.layout.specs.declared.Answer.{Answer}
@@ -38,20 +38,21 @@ module _ (g : Gather) (window batch : List ℤ) (q : Found g window batch) where
   abbrev map : List ℕ
   map = g .spec .start-index-map
 
-  pub numbers-are : (offsets : Steps) (strides stepped dests : List ℤ) (extents limits : List ℕ)
+  pub numbers-are : (offsets : Steps) (strides stepped dests : List ℤ) (extents batches limits : List ℕ)
       → offsets ≡ heldSteps (tabulate (min (length map) rankLimit) (offsetOr (vectorStride (g .indices) (g .spec .index-vector-dim))))
       → strides ≡ padded rankLimit (pos 0) (pick (pos 0) (take rankLimit map) (g .operand .strides))
       → limits ≡ tabulate rankLimit (limitAt (g .operand .extents) (g .spec .slice-sizes) map)
       → stepped ≡ unlessNone (length map) (replicate rankLimit (pos 0)) batch
-      → extents ≡ padded rankLimit 1 (g .result .extents) → dests ≡ padded rankLimit (pos 0) (g .result .strides)
+      → extents ≡ padded rankLimit 1 (g .result .extents) → batches ≡ tabulate rankLimit (λ a. cond (has (g .spec .offset-dims) a) 1 (getD extents a 0)) → dests ≡ padded rankLimit (pos 0) (g .result .strides)
       → _≡_ {A = GatherNumbers}
-      (record { rank = rank (g .result); extents = extents; «window_steps» = window; «batch_steps» = stepped; «dest_steps» = dests; count = length map; offsets = offsets .entries; strides = strides; limits = limits })
+      (record { rank = rank (g .result); extents = extents; «batch_extents» = batches; «window_steps» = window; «batch_steps» = stepped; «dest_steps» = dests; count = length map; offsets = offsets .entries; strides = strides; limits = limits })
       (gatherNumbers g)
   unfolding gatherNumbers
-  numbers-are offsets strides stepped dests extents limits eo es el ep ee ed =
+  numbers-are offsets strides stepped dests extents batches limits eo es el ep ee eb ed =
       λ i. record {
         rank = rank (g .result);
         extents = ee i;
+        «batch_extents» = (eb ∙ ap (λ (l : List ℕ). tabulate rankLimit (λ a. cond (has (g .spec .offset-dims) a) 1 (getD l a 0))) ee) i;
         «window_steps» = q .window-is i;
         «batch_steps» = (ep ∙ ap (unlessNone (length map) (replicate rankLimit (pos 0))) (q .batch-is)) i;
         «dest_steps» = ed i;

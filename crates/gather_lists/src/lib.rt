@@ -39,10 +39,12 @@ fn numbers_on(
     let limits = components::limits_on(start_index_map, operand_extents, slice_sizes);
     let stepped = components::unless_none(start_index_map.len(), batch);
     let extents = layout::padded_extents(dest_extents);
+    let batch_extents = gather_move::batch_extents(extents, offset_dims);
     let dest_steps = layout::padded_strides(dest_strides);
     GatherNumbers {
         rank: dest_extents.len(),
         extents,
+        batch_extents,
         window_steps: window,
         batch_steps: stepped,
         dest_steps,

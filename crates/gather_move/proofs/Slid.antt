@@ -31,6 +31,7 @@ use Rattle.layout.specs.Spans.{andThenU, totalFrom, totalOf}
 use Rattle.axis_lists.proofs.Filling.{entry-below}
 use Rattle.checks.specs.Checks.{totalFits}
 use Rattle.checks.proofs.Held.{length-padded}
+use Rattle.checks.proofs.Lists.{tabulate-same}
 use Rattle.checks.proofs.Made.{or-done}
 use Rattle.components.specs.Components.{limitAt, unlessNone}
 use Rattle.components.proofs.Padded.{padded-entry, unless-some}
@@ -41,6 +42,7 @@ use Rattle.gather_plan.proofs.Valid.{checks, valid}
 use Rattle.windows.specs.Windows.{placeAt}
 use Rattle.indexed_runs.specs.IndexedRuns.{componentMoved, startMoved, startsMoved}
 use Rattle.gather_windows.specs.Gathering.{BatchAxis, Batched}
+use Rattle.gather_windows.proofs.Batches.{batch-most}
 use Rattle.gather_move.specs.Prepared.{gatherNumbers, startBase}
 use Rattle.gather_move.specs.declared.GatherNumbers.{GatherNumbers}
 use Rattle.gather_move.proofs.Numbers.{rank-few, map-few, extents-are, batch-steps, offset-at, limit-at}
@@ -66,11 +68,6 @@ take-tabulate zero m f h = refl
 take-tabulate (suc n) zero f h = absurd (omega arith)
 take-tabulate (suc n) (suc m) f h = ap (λ l. f 0 ∷ l) (take-tabulate n m (λ i. f (suc i)) (omega arith))
 
-tabulate-same : {A : Type 0} (n : ℕ) (f h : ℕ → A) → ((k : ℕ) → k < n → f k ≡ h k) → tabulate n f ≡ tabulate n h
-unfolding tabulate
-tabulate-same zero f h e = refl
-tabulate-same (suc n) f h e = ap₂ _∷_ (e 0 (omega arith)) (tabulate-same n (λ i. f (suc i)) (λ i. h (suc i)) (λ k l. e (suc k) (omega arith)))
-
 product-most : (n : ℕ) (ds bs : List ℕ) → n ≤ length ds → n ≤ length bs → ((i : ℕ) → i < n → 0 < getD ds i 0 → getD bs i 0 ≤ getD ds i 0) → AllPos (take n ds) → product (take n bs) ≤ product (take n ds)
 unfolding product AllPos
 product-most zero ds bs h k e p = omega arith
@@ -79,10 +76,6 @@ product-most (suc n) (d ∷ ds) [] h k e p = absurd (omega arith)
 product-most (suc n) (d ∷ ds) (b ∷ bs) h k e p =
     let q : product (take n bs) ≤ product (take n ds) = product-most n ds bs (omega arith) (omega arith) (λ i l. e (suc i) (omega arith)) (p .1) in
     omega (arith, mul-le-mul-left {m = product (take n bs)} {n = product (take n ds)} b q, mul-le-mul-left {m = b} {n = d} (product (take n ds)) (e 0 (omega arith) (p .0)), mul-comm b (product (take n ds)), mul-comm d (product (take n ds)))
-
-axis-most : (d b : ℕ) (t : ℤ) → BatchAxis d b t → 0 < d → b ≤ d
-axis-most d b t (inl e) h = omega arith
-axis-most d b t (inr e) h = let q = e .0 in omega arith
 
 moved-limit : (x : ℤ) (extent window : ℕ) → moved x (extent - window) 0 ≡ moved x extent window
 unfolding moved
@@ -152,7 +145,7 @@ module _ (g : Gather) (done : isDone (refusalOf A.Done g) ≡ true) where
       record {
         room = batches-room;
         each = axis;
-        fits = λ p. omega (arith, product-most r extents batches extents-room batches-room (λ i h. axis-most _ _ _ (axis i h)) p, ap product (extents-are g done), total-fits);
+        fits = λ p. omega (arith, product-most r extents batches extents-room batches-room (λ i h. batch-most _ _ _ (axis i h)) p, ap product (extents-are g done), total-fits);
       }
 
   batches-are : take r batches ≡ batchExtents g

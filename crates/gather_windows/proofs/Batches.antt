@@ -43,7 +43,7 @@ batch-still : (d b : ℕ) (t : ℤ) → BatchAxis d b t → b ≡ 1 → StillAxi
 batch-still d b t (inl e) h = unit-still d t (sym e ∙ h)
 batch-still d b t (inr e) h = zero-still d t (e .1)
 
-batch-most : (d b : ℕ) (t : ℤ) → BatchAxis d b t → 0 < d → b ≤ d
+pub batch-most : (d b : ℕ) (t : ℤ) → BatchAxis d b t → 0 < d → b ≤ d
 batch-most d b t (inl e) h = omega arith
 batch-most d b t (inr e) h = let q = e .0 in omega arith
 
