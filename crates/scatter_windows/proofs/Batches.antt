@@ -1,7 +1,8 @@
 -- The batches of a scatter are those below the places of their last axis. Over anything that is done at a batch's two places, and any rank. Assumes nothing.
 use mathlib.Core.Path.{_≡_, sym, ap, ap₂, subst, _∙_}
 use mathlib.Core.List.{List}
-use Prim.Native.Nat.{ℕ, suc, _+_, _*_, _-_, _<_, _^_}
+use Prim.Native.Nat.{ℕ, suc, _+_, _*_, _-_, _<_, _≤_, _^_}
+use native.Mathlib.Nat.{mul-one, mul-le-mul-left}
 use native.Mathlib.Omega.{arith}
 use lib.ListN.{length, getD, take}
 use lib.IntN.{ℤ, pos}
@@ -47,6 +48,9 @@ module _ {C : Type 0} (act : ℤ → ℤ → C → C) (shape : List ℕ) (ts us 
       ∙ ap (λ (k : ℕ). inOrder (λ b. act (placeAt t shape ts (suc top) b) (placeAt u shape us (suc top) b)) k x) (sym (product-top shape top le))
 
 -- ---- where the batches lie: below place j of the last axis
+part-of : (m n : ℕ) → 0 < n → m ≤ m * n
+part-of m n h = omega (arith, mul-le-mul-left {m = 1} {n = n} m h, mul-one m)
+
 places-below : (P : ℤ → ℤ → Type 0) (t u : ℤ) (shape : List ℕ) (ts us : List ℤ) (top sn : ℕ) → BatchPlaces P t u shape ts us (suc top) sn → (j : ℕ) → j < getD shape top 0
     → BatchPlaces P (line t (getD ts top (pos 0)) j) (line u (getD us top (pos 0)) j) shape ts us top sn
 places-below P t u shape ts us top sn w j h =
@@ -57,6 +61,7 @@ places-below P t u shape ts us top sn w j h =
     let p : AllPos (take top shape) = positive-top shape top (omega arith) (w .positive) .0 in
     record {
       small = omega arith;
+      few-batches = omega (arith, w .few-batches, product-top shape top (omega arith), part-of (product (take top shape)) (getD shape top 0) (omega arith));
       positive = p;
       index = region-below t shape ts top (2 ^ 63 - 1) (w .index) p j h;
       updates = region-below u shape us top sn (w .updates) p j h;

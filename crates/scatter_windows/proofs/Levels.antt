@@ -1,24 +1,28 @@
 -- Batches whose windows have one cell end in runs. Over any elements and any rank. Assumes nothing.
 use mathlib.Core.Path.{_≡_, refl, sym, ap, subst, _∙_}
+use mathlib.Core.Bool.{Bool}
 use mathlib.Core.List.{List}
-use Prim.Native.Nat.{ℕ, suc, _-_, _<_, _^_}
+use Prim.Native.Nat.{ℕ, suc, _+_, _*_, _-_, _<_, _^_}
 use native.Mathlib.Omega.{arith}
-use lib.ListN.{getD}
+use lib.ListN.{length, getD, take}
 use lib.IntN.{ℤ, pos, _+ℤ_}
 use mir.Syntax.{w64}
 use mir.Val.{SFits}
 use Rattle.integer.specs.Z.{back}
+use Rattle.indexing.specs.Coordinates.{product}
+use Rattle.indexing.specs.Odometer.{AllPos}
 use Rattle.indexing.specs.Loops.{inOrder}
 use Rattle.runs.specs.Runs.{cellAt, line}
 use Rattle.runs.proofs.Turns.{same-places}
-use Rattle.runs.proofs.Place.{read, machine}
+use Rattle.runs.proofs.Place.{read, machine, Step}
 use Rattle.windows.specs.Windows.{placeAt, windowed}
-use Rattle.windows.proofs.Last.{units-product, units-place}
+use Rattle.windows.proofs.Last.{product-top, positive-top, units-product, units-place}
 use Rattle.windows.proofs.Levels.{region-line}
-use Rattle.indexed_runs.specs.IndexedRuns.{startAt, Starting, movedAt, Putting}
+use Rattle.indexed_runs.specs.IndexedRuns.{startAt, startMoved, startsMoved, Starting, movedAt, Putting}
 use Rattle.indexed_runs.proofs.Puts.{puts-end}
 use Rattle.scatter_windows.specs.Scattering.{putBy, PutLevel}
 use Rattle.scatter_windows.proofs.Batches.{step-places}
+use Rattle.scatter_windows.proofs.Counted.{parts-below, counted-run, counted-more, counted-end}
 
 module _ {A : Type 0} (z : A) (rule : A → A → A) (src : List A) (starts offsets strides : List ℤ) (limits : List ℕ) (count : ℕ) where
   -- what is done at a batch whose start is read at x and whose first update is at y: where its window has one cell, and else
@@ -75,3 +79,31 @@ module _ (starts offsets strides : List ℤ) (limits : List ℕ) (count : ℕ) (
       puts-end z rule src starts offsets strides limits count u t d (getD us top (pos 0)) (getD ts top (pos 0)) (getD shape top 0) (getD shape top 0) x y fu ft fd fc fa refl h
       ∙ run-is starts offsets strides limits count t u d shape ts us top sn dn (run-here g) z rule src x
       ∙ ap (λ (r : ℕ). putBy z rule src starts offsets strides limits count t u d shape ts us r x) (sym e)
+
+  -- ---- how many of the batches have a start that is moved
+  abbrev flag : ℤ → Bool
+  flag x = startMoved starts offsets limits x count
+
+  shape-room : top < length shape
+  shape-room = omega (arith, w .places .index .extents)
+
+  steps-room : top < length ts
+  steps-room = omega (arith, w .places .index .strided)
+
+  pub run-count : (c : ℕ) → top ≡ low → c ≡ startsMoved starts offsets limits count (getD shape top 0) (line (read t) (read (getD ts top (pos 0)))) → c ≡ startsMoved starts offsets limits count (product (take rank shape)) (placeAt t shape ts rank)
+  run-count c g h = counted-run flag shape ts t rank top e shape-room steps-room ft c fa (run-here g .units) h
+
+  pub part-fits : (j c d : ℕ) (x : ℤ) → j < getD shape top 0 → c ≡ startsMoved starts offsets limits count (product (take top shape) * j) (placeAt (read t) shape ts rank) → d ≡ startsMoved starts offsets limits count (product (take top shape)) (placeAt x shape ts top) → c + d < 2 ^ 64
+  part-fits j c d x h ec ed =
+      let f : product (take (suc top) shape) < 2 ^ 64 = subst (λ (r : ℕ). product (take r shape) < 2 ^ 64) e (w .places .few-batches) in
+      omega (arith, f, product-top shape top shape-room, parts-below (product (take top shape)) j (getD shape top 0) _ _ c d h ec ed)
+
+  pub part-more : (j m c d : ℕ) → j < getD shape top 0 → Step t (getD ts top (pos 0)) j m
+      → c ≡ startsMoved starts offsets limits count (product (take top shape) * j) (placeAt (read t) shape ts rank) → d ≡ startsMoved starts offsets limits count (product (take top shape)) (placeAt (machine t (getD ts top (pos 0)) j) shape ts top)
+      → c + d ≡ startsMoved starts offsets limits count (product (take top shape) * (j + 1)) (placeAt (read t) shape ts rank)
+  part-more j m c d h q ec ed =
+      let p : AllPos (take (suc top) shape) = subst (λ (r : ℕ). AllPos (take r shape)) e (w .places .positive) in
+      counted-more flag shape ts t rank top e shape-room steps-room ft (positive-top shape top shape-room p .0) j m c d h q ec ed
+
+  pub parts-end : (j c : ℕ) → j ≡ getD shape top 0 → c ≡ startsMoved starts offsets limits count (product (take top shape) * j) (placeAt (read t) shape ts rank) → c ≡ startsMoved starts offsets limits count (product (take rank shape)) (placeAt t shape ts rank)
+  parts-end j c g h = counted-end flag shape ts t rank top e shape-room steps-room ft j c g h

@@ -13,15 +13,21 @@ use Rattle.indexing.specs.Coordinates.{InSlice, elementAt}
 use Rattle.indexing.specs.Start.{clamp}
 use Rattle.indexing.specs.Axes.{sumOf}
 use Rattle.indexing.specs.Loops.{inOrder}
+use Rattle.indexing.specs.Slid.{moved, oneOf, howMany}
+use Rattle.indexing.specs.Counting.{many-same}
 use Rattle.runs.specs.Runs.{cellAt, line}
 use Rattle.runs.proofs.Turns.{same-places}
 use Rattle.runs.proofs.Place.{read, in-fits, line-zero}
-use Rattle.indexed_runs.specs.IndexedRuns.{componentAt, startAt, movedAt, Putting, clampedAt, Clamped}
+use Rattle.indexed_runs.specs.IndexedRuns.{componentAt, startAt, componentMoved, startMoved, startsMoved, movedAt, Putting, clampedAt, movesAt, Clamped}
 
 module _ (starts offsets strides : List ℤ) (limits : List ℕ) where
   only : (t : ℤ) → startAt starts offsets strides limits t 1 ≡ componentAt starts offsets strides limits t 0
   unfolding sumOf
   only t = +ℤ-idl (componentAt starts offsets strides limits t 0)
+
+  only-moved : (t : ℤ) → startMoved starts offsets limits t 1 ≡ componentMoved starts offsets limits t 0
+  unfolding oneOf
+  only-moved t = refl
 
   module _ (t ts : ℤ) where
     ahead : (k : ℕ) → line (t +ℤ getD offsets 0 (pos 0)) ts k ≡ line t ts k +ℤ getD offsets 0 (pos 0)
@@ -34,6 +40,9 @@ module _ (starts offsets strides : List ℤ) (limits : List ℕ) where
     single-place d k =
         ap (λ (a : ℤ). d +ℤ a) (only (line t ts k))
         ∙ ap (λ (a : ℤ). d +ℤ getD strides 0 (pos 0) *ℤ clamp (elementAt (pos 0) starts a) (getD limits 0 0) 0) (sym (ahead k))
+
+    single-moved : (k : ℕ) → movesAt starts (line (t +ℤ getD offsets 0 (pos 0)) ts) (getD limits 0 0) k ≡ startMoved starts offsets limits (line t ts k) 1
+    single-moved k = ap (λ (a : ℤ). moved (elementAt (pos 0) starts a) (getD limits 0 0) 0) (ahead k) ∙ sym (only-moved (line t ts k))
 
   module _ (s t d ss ts : ℤ) (n sn dn : ℕ) (w : Putting starts offsets strides limits 1 s t d ss ts n sn dn) (p : 0 < n) where
     single-in : (k : ℕ) → k < n → InSlice (length starts) (line (t +ℤ getD offsets 0 (pos 0)) ts k)
@@ -84,3 +93,10 @@ module _ (starts offsets strides : List ℤ) (limits : List ℕ) (count : ℕ) (
       ∙ ap₂ (λ (a b : ℤ). inOrder (cellAt z rule src (line s ss) (clampedAt starts (line (t +ℤ getD offsets 0 (pos 0)) ts) a b (getD limits 0 0))) n x) (back fd) (back fk)
       ∙ sym (same-places z rule src (line s ss) (movedAt starts offsets strides limits 1 (λ _. d) (line t ts)) (line s ss) (clampedAt starts (line (t +ℤ getD offsets 0 (pos 0)) ts) d (getD strides 0 (pos 0)) (getD limits 0 0)) n (λ k _. refl) (λ k _. single-place starts offsets strides limits t ts d k) x)
       ∙ ap (λ (m : ℕ). inOrder (cellAt z rule src (line s ss) (movedAt starts offsets strides limits m (λ _. d) (line t ts))) n x) (sym one)
+
+  pub single-count : (c : ℕ) → c ≡ howMany n (movesAt starts (line (read (read t +ℤ read (getD offsets 0 (pos 0)))) (read ts)) (getD limits 0 0)) → c ≡ startsMoved starts offsets limits count n (line t ts)
+  single-count c h =
+      h
+      ∙ ap₂ (λ (a b : ℤ). howMany n (movesAt starts (line a b) (getD limits 0 0))) (back at-sum ∙ ap₂ _+ℤ_ (back ft) (back fo)) (back fts)
+      ∙ many-same n _ _ (λ k _. single-moved starts offsets strides limits t ts k)
+      ∙ ap (λ (m : ℕ). startsMoved starts offsets limits m n (line t ts)) (sym one)

@@ -96,7 +96,7 @@ module _ (starts offsets strides : List ℤ) (limits : List ℕ) (count : ℕ) (
   pub no-window : {A : Type 0} (z : A) (rule : A → A → A) (src x : List A) → hasZero (take wrank wshape) ≡ true → x ≡ scatteredBy z rule src starts offsets strides limits count t u d bshape ts us brank wshape ws ds wrank x
   no-window z rule src x e = idle _ (product (take brank bshape)) (λ b y. none _ (product (take wrank wshape)) y (no-cells (take wrank wshape) e)) x
 
-  module _ (sn dn : ℕ) (w : Scattering starts offsets strides limits count t u d bshape ts us brank wshape ws ds wrank sn dn) (bp : AllPos (take brank bshape)) (wp : AllPos (take wrank wshape)) (ft : SFits w64 t) (fu : SFits w64 u) (fd : SFits w64 d) where
+  module _ (sn dn : ℕ) (w : Scattering starts offsets strides limits count t u d bshape ts us brank wshape ws ds wrank sn dn) (few : product (take brank bshape) < 2 ^ 64) (bp : AllPos (take brank bshape)) (wp : AllPos (take wrank wshape)) (ft : SFits w64 t) (fu : SFits w64 u) (fd : SFits w64 d) where
     here : Batches starts offsets strides limits count t u d bshape ts us brank wshape ws ds wrank sn dn
     here = w .batches (product-pos (take brank bshape) bp) (product-pos (take wrank wshape) wp)
 
@@ -112,7 +112,7 @@ module _ (starts offsets strides : List ℤ) (limits : List ℕ) (count : ℕ) (
         }
 
     places-of : (P : ℤ → ℤ → Type 0) → ((b : ℕ) → b < product (take brank bshape) → P (placeAt t bshape ts brank b) (placeAt u bshape us brank b)) → BatchPlaces P t u bshape ts us brank sn
-    places-of P f = record { small = w .small; positive = bp; index = here .index; updates = firsts; each = f }
+    places-of P f = record { small = w .small; few-batches = few; positive = bp; index = here .index; updates = firsts; each = f }
 
     -- windows of one cell
     pub each-asks : BatchPlaces (λ x y. Starting starts offsets strides limits (read d) x count dn) (read t) (read u) bshape ts us brank sn

@@ -42,9 +42,10 @@ pub record OneCell (r : Bool) (shape : List ℕ) (rank : ℕ) : Type 0 where
   pub yes : r ≡ true → Units rank shape
   pub no : r ≡ false → Units rank shape → ⊥
 
--- batches, of which there are some, with their places of starts and updates; P is asked of both places of each
+-- batches, of which there are some and no more than a u64 counts, with their places of starts and updates; P is asked of both places of each
 pub record BatchPlaces (P : ℤ → ℤ → Type 0) (t u : ℤ) (shape : List ℕ) (ts us : List ℤ) (rank sn : ℕ) : Type 0 where
   pub small : rank ≤ rankLimit
+  pub few-batches : product (take rank shape) < 2 ^ 64
   pub positive : AllPos (take rank shape)
   pub index : Region t shape ts rank (2 ^ 63 - 1)
   pub updates : Region u shape us rank sn
