@@ -1,23 +1,26 @@
 -- Written by tests/twins from crates/scatter_windows/proofs/+scatter_cells/Proof.antt.
 use mathlib.Core.Path.{_≡_, refl, sym, subst, _∙_}
-use Prim.Native.Nat.{ℕ, suc, _-_, _<_, _≤_, _^_}
+use Prim.Native.Nat.{ℕ, suc, _*_, _-_, _<_, _≤_, _^_}
 use native.Mathlib.Omega.{arith}
 use borrow.Author.Needs.{needs, sfits-of}
 use borrow.Fn.Kinds.{In}
 use borrow.Fn.PlainCycle.{Measures, is, falls, and}
 use lib.Ieee.{nan}
-use lib.ListN.{length, getD}
+use lib.ListN.{length, getD, take}
 use lib.IntN.{pos}
 use mir.Syntax.{w64}
 use mir.Val.{SFits, toZ}
+use Rattle.indexing.specs.Coordinates.{product}
 use Rattle.indexing.specs.Loops.{inOrder}
+use Rattle.indexing.specs.Counting.{many-none}
 use Rattle.rules.specs.Rules.{ruleF64}
 use Rattle.runs.proofs.Turns.{none}
 use Rattle.runs.proofs.Place.{read, machine, Step}
-use Rattle.indexed_runs.specs.IndexedRuns.{Starting}
+use Rattle.windows.specs.Windows.{placeAt}
+use Rattle.indexed_runs.specs.IndexedRuns.{startsMoved, Starting}
 use Rattle.scatter_windows.specs.Scattering.{PutLevel}
 use Rattle.scatter_windows.proofs.Batches.{below, step-index, step-update, levels-more, levels-end}
-use Rattle.scatter_windows.proofs.Levels.{put, step-put, run-asks, run-end}
+use Rattle.scatter_windows.proofs.Levels.{put, step-put, run-asks, run-end, run-count, part-fits, part-more, parts-end}
 use Rattle.scatter_windows_f64.proofs.scatter_cells.Reads as axes
 use Rattle.scatter_windows_f64.proofs.scatter_cells.Kinds as kinds
 use Rattle.scatter_windows_f64.proofs.+scatter_cells.Lts-scatter_cells as lts
@@ -39,12 +42,13 @@ abbrev claims : ℕ → lts.Claims
 claims t = (run-reads.Asked, run-reads.Learnt, under t, axes.Post)
 
 abbrev Inv : lts.InvT-loop
-Inv rule src starts dst₀ extents ts us count offsets strides limits low rank t u d top n x y j₀ dst j =
+Inv rule src starts dst₀ extents ts us count offsets strides limits low rank t u d top n x y slid₀ j₀ dst slid j =
     (j ≤ n) × (length dst ≡ length dst₀)
     × (dst ≡ inOrder (below (put nan (ruleF64 rule) src starts offsets strides limits count (toZ w64 d)) extents ts us (toZ w64 t) (toZ w64 u) (toZ w64 x) (toZ w64 y) top) j dst₀)
+    × (slid ≡ startsMoved starts offsets limits count (product (take top extents) * j) (placeAt (toZ w64 t) extents ts rank))
 
 abbrev μ : lts.MeasureT-loop
-μ rule src starts dst₀ extents ts us count offsets strides limits low rank t u d top n x y j₀ dst j = n - j
+μ rule src starts dst₀ extents ts us count offsets strides limits low rank t u d top n x y slid₀ j₀ dst slid j = n - j
 
 module _ (t : ℕ) where
   abbrev Begun : Type 0
@@ -113,35 +117,58 @@ module _ (t : ℕ) where
       let t1 : lts.Then1 (claims t) (at t) axes.Post Inv μ = search in
       let s : lts.After-scatter-run (claims t) (at t) axes.Post Inv μ = search in
       let B : Read = search in
-      let a = start B in run-end _ _ _ _ _ _ _ _ _ _ _ _ _ _ _ (a .pre .1) (a .fits .t) (a .fits .u) (a .fits .d) _ (top-is B) (x-fits B) (y-fits B) nan (ruleF64 (a .args .rule)) (a .args .src .now) (a .args .dst .now) _ (t1 .if1 .taken) (s .scatter-run .ensures)
+      let a = start B in (
+        run-end _ _ _ _ _ _ _ _ _ _ _ _ _ _ _ (a .pre .1) (a .fits .t) (a .fits .u) (a .fits .d) _ (top-is B) (x-fits B) (y-fits B) nan (ruleF64 (a .args .rule)) (a .args .src .now) (a .args .dst .now) _ (t1 .if1 .taken) (s .scatter-run .ensures .0),
+        run-count _ _ _ _ _ _ _ _ _ _ _ _ _ _ _ (a .pre .1) (a .fits .t) (a .fits .u) (a .fits .d) _ (top-is B) (x-fits B) (y-fits B) _ (t1 .if1 .taken) (s .scatter-run .ensures .1),
+      )
 
   loop-holds : lts.Need-loop-holds (claims t) (at t) axes.Post Inv μ
-  loop-holds c = (omega arith, refl, none _ 0 _ refl)
+  loop-holds c = (omega arith, refl, none _ 0 _ refl, many-none _ _ (omega arith))
 
   cast-k : lts.Need-cast-k (claims t) (at t) axes.Post Inv μ
-  cast-k c = index (c .before .before .before) (c .before .loop .j) (c .loop-test .taken) .count
+  cast-k c =
+      let B : Read = search in
+      index B (c .before .loop .j) (c .loop-test .taken) .count
 
   mul-p : lts.Need-mul-p (claims t) (at t) axes.Post Inv μ
-  mul-p c = index (c .before .before .before) (c .before .loop .j) (c .loop-test .taken) .multiple
+  mul-p c =
+      let B : Read = search in
+      index B (c .before .loop .j) (c .loop-test .taken) .multiple
 
   add-p : lts.Need-add-p (claims t) (at t) axes.Post Inv μ
-  add-p c = index (c .before .before .before) (c .before .loop .j) (c .loop-test .taken) .fits
+  add-p c =
+      let B : Read = search in
+      index B (c .before .loop .j) (c .loop-test .taken) .fits
 
   mul-q : lts.Need-mul-q (claims t) (at t) axes.Post Inv μ
-  mul-q c = from (c .before .before .before) (c .before .loop .j) (c .loop-test .taken) .multiple
+  mul-q c =
+      let B : Read = search in
+      from B (c .before .loop .j) (c .loop-test .taken) .multiple
 
   add-q : lts.Need-add-q (claims t) (at t) axes.Post Inv μ
-  add-q c = from (c .before .before .before) (c .before .loop .j) (c .loop-test .taken) .fits
+  add-q c =
+      let B : Read = search in
+      from B (c .before .loop .j) (c .loop-test .taken) .fits
 
   scatter-cells-requires : lts.Need-scatter-cells-requires (claims t) (at t) axes.Post Inv μ
   scatter-cells-requires c κs =
       let h = c .before .before in
-      let B = h .before .before in
+      let B : Read = search in
+      let e : lts.Else1 (claims t) (at t) axes.Post Inv μ = search in
       let a = start B in (
         omega (arith, a .pre .0, a .pre .1 .below),
         subst (PutLevel (a .args .starts .now) (a .args .offsets .now) (a .args .strides .now) (a .args .limits .now) (a .args .count) (machine (a .args .t) (getD (a .args .ts .now) (a .args .rank - 1) (pos 0)) (h .loop .j)) (machine (a .args .u) (getD (a .args .us .now) (a .args .rank - 1) (pos 0)) (h .loop .j)) (read (a .args .d)) (a .args .extents .now) (a .args .ts .now) (a .args .us .now) (a .args .low) (a .args .rank - 1) (length (a .args .src .now))) (sym (h .loop .inv .1))
-            (step-put _ _ _ _ _ _ _ _ _ _ _ _ _ _ _ (a .pre .1) (a .fits .t) (a .fits .u) (a .fits .d) _ (top-is B) (x-fits B) (y-fits B) (src-room a) (h .loop .j) (c .before .loop-test .taken) (omega (arith, a .pre .1 .below, h .before .if1 .left))),
+            (step-put _ _ _ _ _ _ _ _ _ _ _ _ _ _ _ (a .pre .1) (a .fits .t) (a .fits .u) (a .fits .d) _ (top-is B) (x-fits B) (y-fits B) (src-room a) (h .loop .j) (c .before .loop-test .taken) (omega (arith, a .pre .1 .below, e .if1 .left))),
       )
+
+  add-slid : lts.Need-add-slid (claims t) (at t) axes.Post Inv μ
+  add-slid c =
+      let d′ : lts.In-loop (claims t) (at t) axes.Post Inv μ = search in
+      let s : lts.After-scatter-cells (claims t) (at t) axes.Post Inv μ = search in
+      let h : lts.At-loop (claims t) (at t) axes.Post Inv μ = search in
+      let B : Read = search in
+      let a = start B in
+      omega (arith, part-fits _ _ _ _ _ _ _ _ _ _ _ _ _ _ _ (a .pre .1) (a .fits .t) (a .fits .u) (a .fits .d) _ (top-is B) (x-fits B) (y-fits B) (h .loop .j) _ _ _ (d′ .loop-test .taken) (h .loop .inv .3) (s .scatter-cells .ensures .1))
 
   add-j : lts.Need-add-j (claims t) (at t) axes.Post Inv μ
   add-j c =
@@ -156,12 +183,13 @@ module _ (t : ℕ) where
       let d′ : lts.In-loop (claims t) (at t) axes.Post Inv μ = search in
       let s : lts.After-scatter-cells (claims t) (at t) axes.Post Inv μ = search in
       let h : lts.At-loop (claims t) (at t) axes.Post Inv μ = search in
-      let B = h .before .before in
+      let B : Read = search in
       let a = start B in
       let l = d′ .loop-test .taken in (
         omega arith,
         s .scatter-cells .kept .1 .1 .1 .0 ∙ h .loop .inv .1,
-        levels-more (λ d x y. Starting (a .args .starts .now) (a .args .offsets .now) (a .args .strides .now) (a .args .limits .now) d x (a .args .count) (length (a .args .dst .now))) _ _ _ _ _ _ _ _ (a .pre .1 .places) (a .fits .t) (a .fits .u) (a .fits .d) _ (top-is B) (x-fits B) (y-fits B) (put nan (ruleF64 (a .args .rule)) (a .args .src .now) (a .args .starts .now) (a .args .offsets .now) (a .args .strides .now) (a .args .limits .now) (a .args .count)) (h .loop .j) _ (a .args .dst .now) (h .loop .dst) _ (index B (h .loop .j) l) (from B (h .loop .j) l) (h .loop .inv .2) (s .scatter-cells .ensures),
+        levels-more (λ d x y. Starting (a .args .starts .now) (a .args .offsets .now) (a .args .strides .now) (a .args .limits .now) d x (a .args .count) (length (a .args .dst .now))) _ _ _ _ _ _ _ _ (a .pre .1 .places) (a .fits .t) (a .fits .u) (a .fits .d) _ (top-is B) (x-fits B) (y-fits B) (put nan (ruleF64 (a .args .rule)) (a .args .src .now) (a .args .starts .now) (a .args .offsets .now) (a .args .strides .now) (a .args .limits .now) (a .args .count)) (h .loop .j) _ (a .args .dst .now) (h .loop .dst) _ (index B (h .loop .j) l) (from B (h .loop .j) l) (h .loop .inv .2) (s .scatter-cells .ensures .0),
+        part-more _ _ _ _ _ _ _ _ _ _ _ _ _ _ _ (a .pre .1) (a .fits .t) (a .fits .u) (a .fits .d) _ (top-is B) (x-fits B) (y-fits B) (h .loop .j) _ _ _ l (index B (h .loop .j) l) (h .loop .inv .3) (s .scatter-cells .ensures .1),
       )
 
   same-length-2 : lts.Need-same-length-2 (claims t) (at t) axes.Post Inv μ
@@ -170,9 +198,11 @@ module _ (t : ℕ) where
   returns-2 : lts.Need-returns-2 (claims t) (at t) axes.Post Inv μ
   returns-2 c =
       let h = c .before in
-      let B = h .before .before in
-      let a = start B in
-      levels-end (λ d x y. Starting (a .args .starts .now) (a .args .offsets .now) (a .args .strides .now) (a .args .limits .now) d x (a .args .count) (length (a .args .dst .now))) _ _ _ _ _ _ _ _ (a .pre .1 .places) (a .fits .t) (a .fits .u) (a .fits .d) _ (top-is B) (x-fits B) (y-fits B) (put nan (ruleF64 (a .args .rule)) (a .args .src .now) (a .args .starts .now) (a .args .offsets .now) (a .args .strides .now) (a .args .limits .now) (a .args .count)) (h .loop .j) (a .args .dst .now) (h .loop .dst) (omega arith) (h .loop .inv .2)
+      let B : Read = search in
+      let a = start B in (
+        levels-end (λ d x y. Starting (a .args .starts .now) (a .args .offsets .now) (a .args .strides .now) (a .args .limits .now) d x (a .args .count) (length (a .args .dst .now))) _ _ _ _ _ _ _ _ (a .pre .1 .places) (a .fits .t) (a .fits .u) (a .fits .d) _ (top-is B) (x-fits B) (y-fits B) (put nan (ruleF64 (a .args .rule)) (a .args .src .now) (a .args .starts .now) (a .args .offsets .now) (a .args .strides .now) (a .args .limits .now) (a .args .count)) (h .loop .j) (a .args .dst .now) (h .loop .dst) (omega arith) (h .loop .inv .2),
+        parts-end _ _ _ _ _ _ _ _ _ _ _ _ _ _ _ (a .pre .1) (a .fits .t) (a .fits .u) (a .fits .d) _ (top-is B) (x-fits B) (y-fits B) (h .loop .j) _ (omega arith) (h .loop .inv .3),
+      )
 
 pub +scatter-cells-spec : {M : Type 1} → statement M
 +scatter-cells-spec = close μ-axes λ t. lts.spec (claims t) (at t) axes.Post Inv μ
@@ -193,6 +223,7 @@ pub +scatter-cells-spec : {M : Type 1} → statement M
     (mul-q t)
     (add-q t)
     (scatter-cells-requires t)
+    (add-slid t)
     (add-j t)
     (loop-less t)
     (loop-again t)
