@@ -90,10 +90,10 @@ module _ (s : Scatter) (done : isDone (refusalOf A.Done s) ≡ true) where
   window = windowWalk s .replay .extents
 
   -- ---- the places of batch k
-  total-batches : product (take brank batch) ≡ product (batchShape s)
+  pub total-batches : product (take brank batch) ≡ product (batchShape s)
   total-batches = batch-walked s done .total
 
-  total-cells : product (take wrank window) ≡ product (windowShape s)
+  pub total-cells : product (take wrank window) ≡ product (windowShape s)
   total-cells = window-walked s done .total
 
   update-base : (k : ℕ) → placeAt b batch (stepsAt 2 br) brank k ≡ b +ℤ dot (updateBatchSteps s) (unravel (batchShape s) k)
@@ -119,7 +119,7 @@ module _ (s : Scatter) (done : isDone (refusalOf A.Done s) ≡ true) where
   abbrev startPlace : ℕ → ℤ
   startPlace k = placeAt (startBase s) batch steps brank k
 
-  component-place : (k j : ℕ) → j < n → startPlace k +ℤ getD offsets j (pos 0) ≡ componentPlace k j
+  pub component-place : (k j : ℕ) → j < n → startPlace k +ℤ getD offsets j (pos 0) ≡ componentPlace k j
   component-place k j h =
       ap₂ _+ℤ_ (index-place (omega arith) k) (offset-at s done j h)
       ∙ +ℤ-assoc a (dot (without (s .spec .index-vector-dim) (s .indices .strides)) (unravel (batchShape s) k)) (vectorStride (s .indices) (s .spec .index-vector-dim) *ℤ pos j)
