@@ -1,5 +1,6 @@
-// How many changed plans were tried, how many of them refused by 8, and how many calls changed the destination.
-use layout::Answer;
+// How many changed plans were tried, how many of them refused by 8, with no window reported to have slid, and how many calls changed
+// the destination.
+use layout::CallAnswer;
 
 pub struct Counts {
     pub tried: u64,
@@ -19,8 +20,9 @@ fn one_if(holds: bool) -> u64 {
     if holds { 1 } else { 0 }
 }
 
-pub fn with_call(counted: Counts, answer: Answer, unchanged: bool) -> Counts {
-    let eight = one_if(layout::number(answer) == 8);
+pub fn with_call(counted: Counts, told: CallAnswer, unchanged: bool) -> Counts {
+    let answer = told.answer;
+    let eight = one_if(layout::number(answer) == 8 && told.reported == 0);
     let changed = one_if(!unchanged);
     Counts {
         tried: std::num::wrapping_add_u64(counted.tried, 1),
@@ -54,10 +56,12 @@ fn put_elements(into: &[i32]) {
     }
 }
 
-// A call's answer, and what it left.
-pub fn put_called(name: &[u8], answer: Answer, into: &[i32]) {
+// A call's answer, how many windows slid, and what it left.
+pub fn put_called(name: &[u8], told: CallAnswer, into: &[i32]) {
+    let answer = told.answer;
     printing::put(name);
     put_with(b": answer ", layout::number(answer));
+    put_with(b", slid ", told.reported);
     printing::put(b", destination");
     put_elements(into);
     printing::end_line();

@@ -34,7 +34,11 @@ fn clamp(start: i64, extent: u64, window: u64) {
     printing::put(b", window ");
     printing::put_u64(window);
     printing::put(b": ");
-    printing::put_u64(layout::clamp_window_start(start, extent, window));
+    let clamped = layout::clamp_window_start(start, extent, window);
+    printing::put_u64(clamped.start);
+    if clamped.moved {
+        printing::put(b", moved");
+    }
     printing::end_line();
 }
 

@@ -8,7 +8,7 @@ ghost use Rattle.gather.specs.Calls as gathers;
 ghost use Rattle.scatter.specs.Calls.{byPlan};
 ghost use Rattle.order.specs.Orders.{EitherOrder, GatherBeside};
 use gather_plan::GatherPlan;
-use layout::Answer;
+use layout::CallAnswer;
 use layout::RAW_FUSED_RANK_LIMIT;
 use layout::View;
 use rules::Rule;
@@ -23,19 +23,19 @@ pub struct PlannedScatter {
     pub dest: View,
 }
 
-// What was answered: North and then South on one grid, South and then North on the other.
+// What was answered, with the numbers reported: North and then South on one grid, South and then North on the other.
 pub struct Orders {
-    pub north_first: Answer,
-    pub south_second: Answer,
-    pub south_first: Answer,
-    pub north_second: Answer,
+    pub north_first: CallAnswer,
+    pub south_second: CallAnswer,
+    pub south_first: CallAnswer,
+    pub north_second: CallAnswer,
 }
 
 // What a gather was answered before and after South's scatter, and that scatter.
 pub struct Around {
-    pub before: Answer,
-    pub south: Answer,
-    pub after: Answer,
+    pub before: CallAnswer,
+    pub south: CallAnswer,
+    pub after: CallAnswer,
 }
 
 // A scatter on a grid.
@@ -46,7 +46,7 @@ pub fn scatter_by(
     starts: &[i64],
     updates: &[i32],
     grid: &mut [i32],
-) -> Answer
+) -> CallAnswer
     ensures { λ r. ⌜ Scatters (pos 0) (ruleI32 (work .rule)) asIs (byPlan (work .plan) batch window (work .index) (work .updates) (work .dest) (now (starts .entry)) (now (updates .entry))) (now (grid .entry)) (now (grid .exit)) r ⌝ }
 {
     let rule = work.rule;

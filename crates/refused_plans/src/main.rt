@@ -6,7 +6,7 @@ use changed_plans::counts;
 use changed_plans::counts::Counts;
 use gather_plan::CompiledGather;
 use gather_plan::GatherPlan;
-use layout::Answer;
+use layout::CallAnswer;
 use layout::RAW_FUSED_RANK_LIMIT;
 use layout::View;
 
@@ -33,7 +33,13 @@ fn view(extents: &[u64], strides: &[i64]) -> View {
 }
 
 // The call on these views, with starts 4 and -1.
-fn call_on(plan: GatherPlan, operand: View, index: View, dest: View, into: &mut [i32]) -> Answer {
+fn call_on(
+    plan: GatherPlan,
+    operand: View,
+    index: View,
+    dest: View,
+    into: &mut [i32],
+) -> CallAnswer {
     gather::gather_i32(
         plan,
         operand,
@@ -46,7 +52,7 @@ fn call_on(plan: GatherPlan, operand: View, index: View, dest: View, into: &mut 
 }
 
 // The call on the views of the gather.
-fn call(plan: GatherPlan, into: &mut [i32]) -> Answer {
+fn call(plan: GatherPlan, into: &mut [i32]) -> CallAnswer {
     let operand = view(&[5], &[1]);
     let index = view(&[2], &[1]);
     let dest = view(&[2, 2], &[1, 2]);
@@ -54,7 +60,7 @@ fn call(plan: GatherPlan, into: &mut [i32]) -> Answer {
 }
 
 // The call on views of no axes, as the plan has them that stands where compile refused.
-fn call_on_scalars(plan: GatherPlan, into: &mut [i32]) -> Answer {
+fn call_on_scalars(plan: GatherPlan, into: &mut [i32]) -> CallAnswer {
     let operand = view(&[], &[]);
     let index = view(&[], &[]);
     let dest = view(&[], &[]);
@@ -223,7 +229,7 @@ fn shared_compiled() -> CompiledGather {
     gather_plan::compile(&[2], &[1], &[2], &[1], &[2], &[0], &[], &[0], &[0], 1, &[1])
 }
 
-fn call_shared(plan: GatherPlan, into: &mut [i32]) -> Answer {
+fn call_shared(plan: GatherPlan, into: &mut [i32]) -> CallAnswer {
     let operand = view(&[2], &[1]);
     let index = view(&[2], &[1]);
     let dest = view(&[2], &[0]);

@@ -12,6 +12,7 @@ ghost use Rattle.scatter_same.specs.Same.{isCompiled};
 ghost use Rattle.scatter_move.specs.Prepared.{scatterNumbers, Prepares};
 ghost use Rattle.scatter.specs.Calls.{scatterOf, planFits, callAnswer, byPlan};
 use layout::Answer;
+use layout::CallAnswer;
 use layout::RAW_FUSED_RANK_LIMIT;
 use layout::View;
 use rules::Rule;
@@ -143,7 +144,7 @@ pub fn scatter_i32(
     starts: &[i64],
     source: &[i32],
     into: &mut [i32],
-) -> Answer
+) -> CallAnswer
     ensures { λ r. ⌜ Scatters (pos 0) (ruleI32 rule) asIs (byPlan plan «batch_rows» «window_rows» index updates dest (now (starts .entry)) (now (source .entry))) (now (into .entry)) (now (into .exit)) r ⌝ }
 {
     let p = prepare(
@@ -172,7 +173,7 @@ pub fn scatter_f64(
     starts: &[i64],
     source: &[f64],
     into: &mut [f64],
-) -> Answer
+) -> CallAnswer
     ensures { λ r. ⌜ Scatters nan (ruleF64 rule) asIs (byPlan plan «batch_rows» «window_rows» index updates dest (now (starts .entry)) (now (source .entry))) (now (into .entry)) (now (into .exit)) r ⌝ }
 {
     let p = prepare(

@@ -3,7 +3,7 @@
 use changed_plans::counts;
 use changed_plans::counts::Counts;
 use changed_scatters::Field;
-use layout::Answer;
+use layout::CallAnswer;
 use layout::RAW_FUSED_RANK_LIMIT;
 use layout::View;
 use rules::Rule;
@@ -51,7 +51,7 @@ fn call_on(
     updates: View,
     dest: View,
     into: &mut [i32],
-) -> Answer {
+) -> CallAnswer {
     scatter::scatter_i32(
         Rule::Add,
         plan,
@@ -72,7 +72,7 @@ pub fn call(
     batch: [[i64; 4]; RAW_FUSED_RANK_LIMIT],
     window: [[i64; 4]; RAW_FUSED_RANK_LIMIT],
     into: &mut [i32],
-) -> Answer {
+) -> CallAnswer {
     let index = view(&[2, 2], &[1, 2]);
     let updates = view(&[2, 2], &[1, 2]);
     let dest = view(&[3, 2], &[1, 3]);
@@ -80,7 +80,7 @@ pub fn call(
 }
 
 // The call on views of no axes, as the plan has them that stands where compile refused.
-pub fn call_on_scalars(compiled: CompiledScatter, into: &mut [i32]) -> Answer {
+pub fn call_on_scalars(compiled: CompiledScatter, into: &mut [i32]) -> CallAnswer {
     let plan = compiled.plan;
     let batch = batch_rows(compiled);
     let window = window_rows(compiled);
@@ -181,7 +181,7 @@ pub fn shared_again() -> CompiledScatter {
 }
 
 // The call with updates 3 4 on starts 0 1.
-pub fn call_shared(compiled: CompiledScatter, into: &mut [i32]) -> Answer {
+pub fn call_shared(compiled: CompiledScatter, into: &mut [i32]) -> CallAnswer {
     let plan = compiled.plan;
     let batch = batch_rows(compiled);
     let window = window_rows(compiled);

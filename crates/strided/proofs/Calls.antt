@@ -6,9 +6,11 @@ use Prim.Native.Nat.{ℕ}
 use lib.ListN.{length}
 use Rattle.indexing.specs.Gather.{gathered}
 use Rattle.indexing.specs.Scatter.{scattered}
+use Rattle.indexing.specs.Slid.{slidGather, slidScatter}
 use Rattle.layout.specs.declared.Answer.{Answer}
+use Rattle.layout.specs.declared.CallAnswer.{CallAnswer}
 use Rattle.layout.specs.Answers.{isDone, orElse}
-use Rattle.calls.specs.Calls.{GatherCall, ScatterCall, Does, Gathers, Scatters, asIs}
+use Rattle.calls.specs.Calls.{GatherCall, ScatterCall, answerWith, Does, Gathers, Scatters, asIs}
 use Rattle.calls.proofs.Does.{by-answer, said}
 use Rattle.gather_move.specs.Prepared as gathers
 use Rattle.gather_move.specs.declared.PreparedGather.{PreparedGather}
@@ -16,18 +18,18 @@ use Rattle.gather_move.proofs.Parts as gather-parts
 use Rattle.scatter_move.specs.Prepared as scatters
 use Rattle.scatter_move.specs.declared.PreparedScatter.{PreparedScatter}
 use Rattle.scatter_move.proofs.Parts as scatter-parts
-use Rattle.strided.specs.Words.{words}
+use Rattle.strided.specs.Words.{words, bare}
 use Rattle.strided.specs.Named.{ruleRefusal, named}
 
-pub gather-handed : {A : Type 0} (z : A) (call : GatherCall) (p : PreparedGather) (operand before after : List A) (r : Answer) (handed : List ℕ)
+pub gather-handed : {A : Type 0} (z : A) (call : GatherCall) (p : PreparedGather) (operand before after : List A) (r : CallAnswer) (handed : List ℕ)
     → gathers.Prepares p (call .answer (length operand) (length before)) (call .gather) (length operand) (length (call .starts)) (length before)
-    → ((k : gathers.Movable p (length operand) (length (call .starts)) (length before)) → Does asIs (p .answer) (gathered z (k .gather) (call .starts) operand before) before after r)
+    → ((k : gathers.Movable p (length operand) (length (call .starts)) (length before)) → Does asIs (p .answer) (slidGather (k .gather) (call .starts)) (gathered z (k .gather) (call .starts) operand before) before after r)
     → handed ≡ words r → Gathers z words call operand before after handed
 gather-handed z call p operand before after r handed q m w = said words w (by-answer (q .answered) (m (gather-parts.movable q)))
 
-pub scatter-handed : {A : Type 0} (z : A) (rule : A → A → A) (call : ScatterCall A) (p : PreparedScatter) (before after : List A) (r : Answer) (handed : List ℕ)
+pub scatter-handed : {A : Type 0} (z : A) (rule : A → A → A) (call : ScatterCall A) (p : PreparedScatter) (before after : List A) (r : CallAnswer) (handed : List ℕ)
     → scatters.Prepares p (call .answer (length before)) (call .scatter) (length (call .starts)) (length (call .updates)) (length before)
-    → ((k : scatters.Movable p (length (call .starts)) (length (call .updates)) (length before)) → Does asIs (p .answer) (scattered rule z (k .scatter) (call .starts) (call .updates) before) before after r)
+    → ((k : scatters.Movable p (length (call .starts)) (length (call .updates)) (length before)) → Does asIs (p .answer) (slidScatter (k .scatter) (call .starts)) (scattered rule z (k .scatter) (call .starts) (call .updates) before) before after r)
     → handed ≡ words r → Scatters z rule words call before after handed
 scatter-handed z rule call p before after r handed q m w = said words w (by-answer (q .answered) (m (scatter-parts.movable q)))
 
@@ -36,12 +38,15 @@ module _ {A : Type 0} (z : A) (rule : A → A → A) (most n : ℕ) (call : Scat
   abbrev leaves : List A
   leaves = scattered rule z (call .scatter) (call .starts) (call .updates) before
 
+  abbrev number : ℕ
+  number = slidScatter (call .scatter) (call .starts)
+
   -- one that is not listed
-  pub named-refused : isDone (ruleRefusal most n) ≡ false → after ≡ before → handed ≡ words (ruleRefusal most n) → Scatters z rule words (named most n call) before after handed
+  pub named-refused : isDone (ruleRefusal most n) ≡ false → after ≡ before → handed ≡ words (bare (ruleRefusal most n)) → Scatters z rule words (named most n call) before after handed
   named-refused d b w =
       let e : ruleRefusal most n ≡ orElse (ruleRefusal most n) (call .answer (length before)) = ap (λ (t : Bool). cond t (call .answer (length before)) (ruleRefusal most n)) (sym d) in
       record {
-        answered = w ∙ ap words e;
+        answered = w ∙ ap (λ (t : Bool). words (record { answer = ruleRefusal most n; reported = cond t number 0 })) (sym d) ∙ ap (λ (x : Answer). words (answerWith x number)) e;
         left = b ∙ ap (λ (t : Bool). cond t leaves before) (sym d) ∙ ap (λ (x : Answer). cond (isDone x) leaves before) e;
       }
 
@@ -50,6 +55,6 @@ module _ {A : Type 0} (z : A) (rule : A → A → A) (most n : ℕ) (call : Scat
   named-listed d k =
       let e : call .answer (length before) ≡ orElse (ruleRefusal most n) (call .answer (length before)) = ap (λ (t : Bool). cond t (call .answer (length before)) (ruleRefusal most n)) (sym d) in
       record {
-        answered = k .answered ∙ ap words e;
+        answered = k .answered ∙ ap (λ (x : Answer). words (answerWith x number)) e;
         left = k .left ∙ ap (λ (x : Answer). cond (isDone x) leaves before) e;
       }

@@ -9,7 +9,7 @@ use Rattle.layout.specs.Answers.{isDone}
 use Rattle.job.specs.declared.MadeJob.{MadeJob}
 use Rattle.job.specs.Format.{encoded}
 use Rattle.job_writer.specs.Written.{writtenAnswer, writtenLeft, Written}
-use Rattle.strided.specs.Words.{words}
+use Rattle.strided.specs.Words.{words, bare}
 use Rattle.strided.specs.Stored.{storedAnswer, Stored, StoredAs}
 
 module _ (m : MadeJob) (before : List ℕ) where
@@ -23,5 +23,5 @@ module _ (m : MadeJob) (before : List ℕ) where
       let r : answer ≡ storedAnswer m (length before) = w .answers ∙ sym (ap (λ (t : Bool). cond t (writtenAnswer (m .job) (length before)) (m .answer)) e) in
       record { answered = r; left = w .leaves ∙ ap (λ (x : Answer). writtenLeft x (m .job) before) r }
 
-pub stored-as : (m k : MadeJob) (before after : List ℕ) (answer : Answer) (w : List ℕ) → m ≡ k → Stored m before after answer → w ≡ words answer → StoredAs k before after w
-stored-as m k before after answer w e s f = subst (λ (x : MadeJob). StoredAs x before after w) e (record { answered = f ∙ ap words (s .answered); left = s .left })
+pub stored-as : (m k : MadeJob) (before after : List ℕ) (answer : Answer) (w : List ℕ) → m ≡ k → Stored m before after answer → w ≡ words (bare answer) → StoredAs k before after w
+stored-as m k before after answer w e s f = subst (λ (x : MadeJob). StoredAs x before after w) e (record { answered = f ∙ ap (λ (x : Answer). words (bare x)) (s .answered); left = s .left })

@@ -11,7 +11,7 @@ use Rattle.layout.specs.Answers.{orElse}
 use Rattle.job.specs.declared.MadeJob.{MadeJob}
 use Rattle.job.specs.Jobs.{noJob}
 use Rattle.job_writer.specs.Written.{writtenAnswer, writtenLeft}
-use Rattle.strided.specs.Words.{words}
+use Rattle.strided.specs.Words.{words, bare}
 
 -- "element byte 1 i32 or 2 f64": a job of any other element is refused by 10, at that byte, before all else
 abbrev pub elementListed : ℕ → MadeJob → MadeJob
@@ -30,7 +30,7 @@ pub record Stored (m : MadeJob) (before after : List ℕ) (answer : Answer) : Ty
   pub answered : answer ≡ storedAnswer m (length before)
   pub left : after ≡ storedLeft m before
 
--- WHAT AN EXPORTED WRITER DOES: it hands back these three words and leaves this in the lent bytes
+-- WHAT AN EXPORTED WRITER DOES: it hands back these four words and leaves this in the lent bytes
 pub record StoredAs (m : MadeJob) (before after : List ℕ) (answer : List ℕ) : Type 0 where
-  pub answered : answer ≡ words (storedAnswer m (length before))
+  pub answered : answer ≡ words (bare (storedAnswer m (length before)))
   pub left : after ≡ storedLeft m before

@@ -17,35 +17,45 @@ ghost use Rattle.job.specs.Format.{elementOf, jobAt};
 ghost use Rattle.job_reader.specs.Held.{readJob};
 ghost use Rattle.job_calls.specs.Jobs.{gatherByJob, scatterByJob};
 ghost use Rattle.rules.specs.Rules.{ruleI32, ruleF64};
-ghost use Rattle.strided.specs.Words.{words};
+ghost use Rattle.strided.specs.Words.{words, bare};
 ghost use Rattle.strided.specs.Named.{ruleOf, ruleF64Of, rulesI32, rulesF64, ruleRefusal, named};
 ghost use Rattle.strided.specs.Stored.{elementListed, Stored, StoredAs};
 use job::Element;
 use job::MadeJob;
 use layout::Answer;
+use layout::CallAnswer;
 use rules::Rule;
 use rules::RuleF64;
 
 // Of these exports, as strided.h has it: it grows with every change of them. It is in the name below too, so that a program made
 // for another version finds no such function when it is linked.
-pub const VERSION: u64 = 2;
+pub const VERSION: u64 = 3;
 
 // The version of the exports.
 #[no_mangle]
-pub extern "C" fn strided_version_2() -> u64
-    ensures { λ r. ⌜ r ≡ 2 ⌝ }
+pub extern "C" fn strided_version_3() -> u64
+    ensures { λ r. ⌜ r ≡ 3 ⌝ }
 {
     VERSION
 }
 
-// The number, a and b of an answer.
-fn words_of(answer: Answer) -> [u64; 3]
-    ensures { λ r. ⌜ r ≡ words answer ⌝ }
+// The number, a and b of an answer, and the number that the call reports.
+fn words_of(told: CallAnswer) -> [u64; 4]
+    ensures { λ r. ⌜ r ≡ words told ⌝ }
 {
+    let answer = told.answer;
     let n = layout::number(answer);
     let a = layout::first_number(answer);
     let b = layout::second_number(answer);
-    [n, a, b]
+    [n, a, b, told.reported]
+}
+
+// The same of what moves nothing, which reports 0.
+fn bare_words(answer: Answer) -> [u64; 4]
+    ensures { λ r. ⌜ r ≡ words (bare answer) ⌝ }
+{
+    let told = layout::refused_call(answer);
+    words_of(told)
 }
 
 // The rules that there are for i32 and for f64: those numbered from 1 up to this one.
@@ -100,7 +110,7 @@ fn rule_f64_of(rule: u64, limit: f64) -> RuleF64
     RuleF64::Ceiling(limit)
 }
 
-// The first refusal of a gather's compile as number, a, b; zeros where compile gives a plan.
+// The first refusal of a gather's compile as number, a, b and 0; zeros where compile gives a plan.
 #[no_mangle]
 pub extern "C" fn strided_gather_refusal(
     operand_extents: &[u64],
@@ -114,9 +124,9 @@ pub extern "C" fn strided_gather_refusal(
     start_index_map: &[u64],
     index_vector_dim: u64,
     slice_sizes: &[u64],
-    answer: &mut [u64; 3],
+    answer: &mut [u64; 4],
 )
-    ensures { λ _. ⌜ now (answer .exit) ≡ words (compileGather (gatherFrom (now («operand_extents» .entry)) (now («operand_strides» .entry)) (now («index_extents» .entry)) (now («index_strides» .entry)) (now («dest_extents» .entry)) (now («dest_strides» .entry)) (now («offset_dims» .entry)) (now («collapsed_slice_dims» .entry)) (now («start_index_map» .entry)) «index_vector_dim» (now («slice_sizes» .entry)))) ⌝ }
+    ensures { λ _. ⌜ now (answer .exit) ≡ words (bare (compileGather (gatherFrom (now («operand_extents» .entry)) (now («operand_strides» .entry)) (now («index_extents» .entry)) (now («index_strides» .entry)) (now («dest_extents» .entry)) (now («dest_strides» .entry)) (now («offset_dims» .entry)) (now («collapsed_slice_dims» .entry)) (now («start_index_map» .entry)) «index_vector_dim» (now («slice_sizes» .entry))))) ⌝ }
 {
     let r = gather_checks::gather_refusal(
         operand_extents,
@@ -131,10 +141,10 @@ pub extern "C" fn strided_gather_refusal(
         index_vector_dim,
         slice_sizes,
     );
-    *answer = words_of(r);
+    *answer = bare_words(r);
 }
 
-// The first refusal of a scatter's compile as number, a, b; zeros where compile gives a plan.
+// The first refusal of a scatter's compile as number, a, b and 0; zeros where compile gives a plan.
 #[no_mangle]
 pub extern "C" fn strided_scatter_refusal(
     index_extents: &[u64],
@@ -147,9 +157,9 @@ pub extern "C" fn strided_scatter_refusal(
     inserted_window_dims: &[u64],
     scatter_dims_to_operand_dims: &[u64],
     index_vector_dim: u64,
-    answer: &mut [u64; 3],
+    answer: &mut [u64; 4],
 )
-    ensures { λ _. ⌜ now (answer .exit) ≡ words (compileScatter (scatterFrom (now («index_extents» .entry)) (now («index_strides» .entry)) (now («updates_extents» .entry)) (now («updates_strides» .entry)) (now («dest_extents» .entry)) (now («dest_strides» .entry)) (now («update_window_dims» .entry)) (now («inserted_window_dims» .entry)) (now («scatter_dims_to_operand_dims» .entry)) «index_vector_dim»)) ⌝ }
+    ensures { λ _. ⌜ now (answer .exit) ≡ words (bare (compileScatter (scatterFrom (now («index_extents» .entry)) (now («index_strides» .entry)) (now («updates_extents» .entry)) (now («updates_strides» .entry)) (now («dest_extents» .entry)) (now («dest_strides» .entry)) (now («update_window_dims» .entry)) (now («inserted_window_dims» .entry)) (now («scatter_dims_to_operand_dims» .entry)) «index_vector_dim»))) ⌝ }
 {
     let r = scatter_checks::scatter_refusal(
         index_extents,
@@ -163,10 +173,11 @@ pub extern "C" fn strided_scatter_refusal(
         scatter_dims_to_operand_dims,
         index_vector_dim,
     );
-    *answer = words_of(r);
+    *answer = bare_words(r);
 }
 
-// A gather of i32: compile by the first eleven arguments, and the call on the three views and their slices. The answer as number, a, b.
+// A gather of i32: compile by the first eleven arguments, and the call on the three views and their slices. The answer as number, a, b
+// and how many windows slid.
 #[no_mangle]
 pub extern "C" fn strided_raw_gather_i32(
     operand_extents: &[u64],
@@ -192,7 +203,7 @@ pub extern "C" fn strided_raw_gather_i32(
     operand: &[i32],
     starts: &[i64],
     dest: &mut [i32],
-    answer: &mut [u64; 3],
+    answer: &mut [u64; 4],
 )
     ensures { λ _. ⌜ Gathers (pos 0) words (gathers.byLists (gatherFrom (now («operand_extents» .entry)) (now («operand_strides» .entry)) (now («index_extents» .entry)) (now («index_strides» .entry)) (now («dest_extents» .entry)) (now («dest_strides» .entry)) (now («offset_dims» .entry)) (now («collapsed_slice_dims» .entry)) (now («start_index_map» .entry)) «index_vector_dim» (now («slice_sizes» .entry))) (viewWith (now («operand_view_extents» .entry)) (now («operand_view_strides» .entry)) «operand_offset») (viewWith (now («index_view_extents» .entry)) (now («index_view_strides» .entry)) «index_offset») (viewWith (now («dest_view_extents» .entry)) (now («dest_view_strides» .entry)) «dest_offset») (now (starts .entry))) (now (operand .entry)) (now (dest .entry)) (now (dest .exit)) (now (answer .exit)) ⌝ }
 {
@@ -225,7 +236,8 @@ pub extern "C" fn strided_raw_gather_i32(
     *answer = words_of(r);
 }
 
-// A gather of f64: compile by the first eleven arguments, and the call on the three views and their slices. The answer as number, a, b.
+// A gather of f64: compile by the first eleven arguments, and the call on the three views and their slices. The answer as number, a, b
+// and how many windows slid.
 #[no_mangle]
 pub extern "C" fn strided_raw_gather_f64(
     operand_extents: &[u64],
@@ -251,7 +263,7 @@ pub extern "C" fn strided_raw_gather_f64(
     operand: &[f64],
     starts: &[i64],
     dest: &mut [f64],
-    answer: &mut [u64; 3],
+    answer: &mut [u64; 4],
 )
     ensures { λ _. ⌜ Gathers nan words (gathers.byLists (gatherFrom (now («operand_extents» .entry)) (now («operand_strides» .entry)) (now («index_extents» .entry)) (now («index_strides» .entry)) (now («dest_extents» .entry)) (now («dest_strides» .entry)) (now («offset_dims» .entry)) (now («collapsed_slice_dims» .entry)) (now («start_index_map» .entry)) «index_vector_dim» (now («slice_sizes» .entry))) (viewWith (now («operand_view_extents» .entry)) (now («operand_view_strides» .entry)) «operand_offset») (viewWith (now («index_view_extents» .entry)) (now («index_view_strides» .entry)) «index_offset») (viewWith (now («dest_view_extents» .entry)) (now («dest_view_strides» .entry)) «dest_offset») (now (starts .entry))) (now (operand .entry)) (now (dest .entry)) (now (dest .exit)) (now (answer .exit)) ⌝ }
 {
@@ -285,7 +297,7 @@ pub extern "C" fn strided_raw_gather_f64(
 }
 
 // A scatter of i32 by the rule of a number: compile by the next ten arguments, and the call on the three views and their slices. The
-// answer as number, a, b: 18 before all others for a number that is not listed.
+// answer as number, a, b and how many windows slid: 18 before all others for a number that is not listed.
 #[no_mangle]
 pub extern "C" fn strided_raw_scatter_i32(
     rule: u64,
@@ -311,13 +323,13 @@ pub extern "C" fn strided_raw_scatter_i32(
     starts: &[i64],
     updates: &[i32],
     dest: &mut [i32],
-    answer: &mut [u64; 3],
+    answer: &mut [u64; 4],
 )
     ensures { λ _. ⌜ Scatters (pos 0) (ruleI32 (ruleOf rule)) words (named rulesI32 rule (scatters.byLists (scatterFrom (now («index_extents» .entry)) (now («index_strides» .entry)) (now («updates_extents» .entry)) (now («updates_strides» .entry)) (now («dest_extents» .entry)) (now («dest_strides» .entry)) (now («update_window_dims» .entry)) (now («inserted_window_dims» .entry)) (now («scatter_dims_to_operand_dims» .entry)) «index_vector_dim») (viewWith (now («index_view_extents» .entry)) (now («index_view_strides» .entry)) «index_offset») (viewWith (now («updates_view_extents» .entry)) (now («updates_view_strides» .entry)) «updates_offset») (viewWith (now («dest_view_extents» .entry)) (now («dest_view_strides» .entry)) «dest_offset») (now (starts .entry)) (now (updates .entry)))) (now (dest .entry)) (now (dest .exit)) (now (answer .exit)) ⌝ }
 {
     let listed = check_rule(RULES_I32, rule);
     if !layout::is_done(listed) {
-        *answer = words_of(listed);
+        *answer = bare_words(listed);
         return;
     }
     let p = scatter_lists::prepare_views(
@@ -350,7 +362,8 @@ pub extern "C" fn strided_raw_scatter_i32(
 }
 
 // A scatter of f64 by the rule of a number, whose limit Ceiling alone reads: compile by the next ten arguments, and the call on the
-// three views and their slices. The answer as number, a, b: 18 before all others for a number that is not listed.
+// three views and their slices. The answer as number, a, b and how many windows slid: 18 before all others for a number that is not
+// listed.
 #[no_mangle]
 pub extern "C" fn strided_raw_scatter_f64(
     rule: u64,
@@ -377,13 +390,13 @@ pub extern "C" fn strided_raw_scatter_f64(
     starts: &[i64],
     updates: &[f64],
     dest: &mut [f64],
-    answer: &mut [u64; 3],
+    answer: &mut [u64; 4],
 )
     ensures { λ _. ⌜ Scatters nan (ruleF64 (ruleF64Of rule limit)) words (named rulesF64 rule (scatters.byLists (scatterFrom (now («index_extents» .entry)) (now («index_strides» .entry)) (now («updates_extents» .entry)) (now («updates_strides» .entry)) (now («dest_extents» .entry)) (now («dest_strides» .entry)) (now («update_window_dims» .entry)) (now («inserted_window_dims» .entry)) (now («scatter_dims_to_operand_dims» .entry)) «index_vector_dim») (viewWith (now («index_view_extents» .entry)) (now («index_view_strides» .entry)) «index_offset») (viewWith (now («updates_view_extents» .entry)) (now («updates_view_strides» .entry)) «updates_offset») (viewWith (now («dest_view_extents» .entry)) (now («dest_view_strides» .entry)) «dest_offset») (now (starts .entry)) (now (updates .entry)))) (now (dest .entry)) (now (dest .exit)) (now (answer .exit)) ⌝ }
 {
     let listed = check_rule(RULES_F64, rule);
     if !layout::is_done(listed) {
-        *answer = words_of(listed);
+        *answer = bare_words(listed);
         return;
     }
     let p = scatter_lists::prepare_views(
@@ -419,12 +432,12 @@ pub extern "C" fn strided_raw_scatter_f64(
 
 // Whether the bytes store a job: zeros, or 10 with the place as a.
 #[no_mangle]
-pub extern "C" fn strided_read_job(bytes: &[u8], answer: &mut [u64; 3])
-    ensures { λ _. ⌜ now (answer .exit) ≡ words (readJob (jobAt (now (bytes .entry))) .answer) ⌝ }
+pub extern "C" fn strided_read_job(bytes: &[u8], answer: &mut [u64; 4])
+    ensures { λ _. ⌜ now (answer .exit) ≡ words (bare (readJob (jobAt (now (bytes .entry))) .answer)) ⌝ }
 {
     let r = job_reader::read_job(bytes);
     let x = r.answer;
-    *answer = words_of(x);
+    *answer = bare_words(x);
 }
 
 // The element by the number that stands for it in a stored job. Numbers that are not listed are refused by `listed`.
@@ -465,7 +478,7 @@ fn store(made: MadeJob, out: &mut [u8]) -> Answer
     job_writer::write_job(job, out)
 }
 
-// Writes a gather as a stored job from the first byte on. The answer as number, a, b: 10 for an element that is not listed, 1, 2,
+// Writes a gather as a stored job from the first byte on. The answer as number, a, b and 0: 10 for an element that is not listed, 1, 2,
 // 5 for a list that no job holds, 9 with the bytes that are needed as b.
 #[no_mangle]
 pub extern "C" fn strided_write_gather_job(
@@ -485,7 +498,7 @@ pub extern "C" fn strided_write_gather_job(
     index_vector_dim: u64,
     slice_sizes: &[u64],
     out: &mut [u8],
-    answer: &mut [u64; 3],
+    answer: &mut [u64; 4],
 )
     ensures { λ _. ⌜ StoredAs (elementListed element (jobFrom K.Gather (elementOf element) (now («operand_extents» .entry)) (now («operand_strides» .entry)) «operand_offset» (now («index_extents» .entry)) (now («index_strides» .entry)) «index_offset» (now («dest_extents» .entry)) (now («dest_strides» .entry)) «dest_offset» (now («offset_dims» .entry)) (now («collapsed_slice_dims» .entry)) (now («start_index_map» .entry)) «index_vector_dim» (now («slice_sizes» .entry)))) (now (out .entry)) (now (out .exit)) (now (answer .exit)) ⌝ }
 {
@@ -509,10 +522,10 @@ pub extern "C" fn strided_write_gather_job(
     );
     let job = listed(element, made);
     let r = store(job, out);
-    *answer = words_of(r);
+    *answer = bare_words(r);
 }
 
-// Writes a scatter as a stored job from the first byte on. The answer as number, a, b.
+// Writes a scatter as a stored job from the first byte on. The answer as number, a, b and 0.
 #[no_mangle]
 pub extern "C" fn strided_write_scatter_job(
     element: u64,
@@ -530,7 +543,7 @@ pub extern "C" fn strided_write_scatter_job(
     scatter_dims_to_operand_dims: &[u64],
     index_vector_dim: u64,
     out: &mut [u8],
-    answer: &mut [u64; 3],
+    answer: &mut [u64; 4],
 )
     ensures { λ _. ⌜ StoredAs (elementListed element (jobFrom K.Scatter (elementOf element) (now («index_extents» .entry)) (now («index_strides» .entry)) «index_offset» (now («updates_extents» .entry)) (now («updates_strides» .entry)) «updates_offset» (now («dest_extents» .entry)) (now («dest_strides» .entry)) «dest_offset» (now («update_window_dims» .entry)) (now («inserted_window_dims» .entry)) (now («scatter_dims_to_operand_dims» .entry)) «index_vector_dim» [])) (now (out .entry)) (now (out .exit)) (now (answer .exit)) ⌝ }
 {
@@ -553,18 +566,18 @@ pub extern "C" fn strided_write_scatter_job(
     );
     let job = listed(element, made);
     let r = store(job, out);
-    *answer = words_of(r);
+    *answer = bare_words(r);
 }
 
-// A stored gather of i32, read, compiled and called. The answer as number, a, b: 10 5 0 and 10 6 0 also for a job that is no gather or
-// not of i32.
+// A stored gather of i32, read, compiled and called. The answer as number, a, b and how many windows slid: 10 5 0 and 10 6 0 also for a
+// job that is no gather or not of i32.
 #[no_mangle]
 pub extern "C" fn strided_gather_i32(
     job: &[u8],
     operand: &[i32],
     starts: &[i64],
     dest: &mut [i32],
-    answer: &mut [u64; 3],
+    answer: &mut [u64; 4],
 )
     ensures { λ _. ⌜ Gathers (pos 0) words (gatherByJob E.I32 (now (job .entry)) (now (starts .entry))) (now (operand .entry)) (now (dest .entry)) (now (dest .exit)) (now (answer .exit)) ⌝ }
 {
@@ -573,15 +586,15 @@ pub extern "C" fn strided_gather_i32(
     *answer = words_of(r);
 }
 
-// A stored gather of f64, read, compiled and called. The answer as number, a, b: 10 5 0 and 10 6 0 also for a job that is no gather or
-// not of f64.
+// A stored gather of f64, read, compiled and called. The answer as number, a, b and how many windows slid: 10 5 0 and 10 6 0 also for a
+// job that is no gather or not of f64.
 #[no_mangle]
 pub extern "C" fn strided_gather_f64(
     job: &[u8],
     operand: &[f64],
     starts: &[i64],
     dest: &mut [f64],
-    answer: &mut [u64; 3],
+    answer: &mut [u64; 4],
 )
     ensures { λ _. ⌜ Gathers nan words (gatherByJob E.F64 (now (job .entry)) (now (starts .entry))) (now (operand .entry)) (now (dest .entry)) (now (dest .exit)) (now (answer .exit)) ⌝ }
 {
@@ -590,15 +603,15 @@ pub extern "C" fn strided_gather_f64(
     *answer = words_of(r);
 }
 
-// A stored scatter of i32, read, compiled and called. The answer as number, a, b: 10 5 0 and 10 6 0 also for a job that is no scatter or
-// not of i32.
+// A stored scatter of i32, read, compiled and called. The answer as number, a, b and how many windows slid: 10 5 0 and 10 6 0 also for a
+// job that is no scatter or not of i32.
 #[no_mangle]
 pub extern "C" fn strided_scatter_i32(
     job: &[u8],
     starts: &[i64],
     updates: &[i32],
     dest: &mut [i32],
-    answer: &mut [u64; 3],
+    answer: &mut [u64; 4],
 )
     ensures { λ _. ⌜ Scatters (pos 0) addI32 words (scatterByJob E.I32 (now (job .entry)) (now (starts .entry)) (now (updates .entry))) (now (dest .entry)) (now (dest .exit)) (now (answer .exit)) ⌝ }
 {
@@ -607,15 +620,15 @@ pub extern "C" fn strided_scatter_i32(
     *answer = words_of(r);
 }
 
-// A stored scatter of f64, read, compiled and called. The answer as number, a, b: 10 5 0 and 10 6 0 also for a job that is no scatter or
-// not of f64.
+// A stored scatter of f64, read, compiled and called. The answer as number, a, b and how many windows slid: 10 5 0 and 10 6 0 also for a
+// job that is no scatter or not of f64.
 #[no_mangle]
 pub extern "C" fn strided_scatter_f64(
     job: &[u8],
     starts: &[i64],
     updates: &[f64],
     dest: &mut [f64],
-    answer: &mut [u64; 3],
+    answer: &mut [u64; 4],
 )
     ensures { λ _. ⌜ Scatters nan addF64 words (scatterByJob E.F64 (now (job .entry)) (now (starts .entry)) (now (updates .entry))) (now (dest .entry)) (now (dest .exit)) (now (answer .exit)) ⌝ }
 {

@@ -22,7 +22,7 @@ returns c =
     let s = c .before .before .before .before .before .before .before .before .before .before .before .before .before .before .before .before in
     let f = offsets-fit s in
     let made = simp (back (f .0), back (f .1), back (f .2)) at (c .before .before .before .before .before .before .make-gather-job .ensures) in
-    stored-as (c .before .before .before .before .before .listed .result) _ (s .args .out .now) _ (c .before .before .before .store .result) (c .words-of .result) (c .before .before .before .before .before .listed .ensures ∙ ap (elementListed (s .args .element)) (made ∙ ap (λ (e : Element). jobFrom K.Gather e (s .args .operand-extents .now) (s .args .operand-strides .now) (s .args .operand-offset) (s .args .index-extents .now) (s .args .index-strides .now) (s .args .index-offset) (s .args .dest-extents .now) (s .args .dest-strides .now) (s .args .dest-offset) (s .args .offset-dims .now) (s .args .collapsed-slice-dims .now) (s .args .start-index-map .now) (s .args .index-vector-dim) (s .args .slice-sizes .now)) (c .before .before .before .before .before .before .before .element-of .ensures))) (c .before .before .before .store .ensures) (c .words-of .ensures)
+    stored-as (c .before .before .before .before .before .listed .result) _ (s .args .out .now) _ (c .before .before .before .store .result) (c .bare-words .result) (c .before .before .before .before .before .listed .ensures ∙ ap (elementListed (s .args .element)) (made ∙ ap (λ (e : Element). jobFrom K.Gather e (s .args .operand-extents .now) (s .args .operand-strides .now) (s .args .operand-offset) (s .args .index-extents .now) (s .args .index-strides .now) (s .args .index-offset) (s .args .dest-extents .now) (s .args .dest-strides .now) (s .args .dest-offset) (s .args .offset-dims .now) (s .args .collapsed-slice-dims .now) (s .args .start-index-map .now) (s .args .index-vector-dim) (s .args .slice-sizes .now)) (c .before .before .before .before .before .before .before .element-of .ensures))) (c .before .before .before .store .ensures) (c .bare-words .ensures)
 
 pub strided-write-gather-job-spec : {M : Type 1} → statement M
 strided-write-gather-job-spec =

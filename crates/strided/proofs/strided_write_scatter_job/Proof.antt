@@ -23,7 +23,7 @@ returns c =
     let s = c .before .before .before .before .before .before .before .before .before .before .before .before .before .before .before in
     let f = offsets-fit s in
     let made = simp (back (f .0), back (f .1), back (f .2)) at (c .before .before .before .before .before .before .make-scatter-job .ensures) in
-    stored-as (c .before .before .before .before .before .listed .result) _ (s .args .out .now) _ (c .before .before .before .store .result) (c .words-of .result) (c .before .before .before .before .before .listed .ensures ∙ ap (elementListed (s .args .element)) (made ∙ ap (λ (e : Element). jobFrom K.Scatter e (s .args .index-extents .now) (s .args .index-strides .now) (s .args .index-offset) (s .args .updates-extents .now) (s .args .updates-strides .now) (s .args .updates-offset) (s .args .dest-extents .now) (s .args .dest-strides .now) (s .args .dest-offset) (s .args .update-window-dims .now) (s .args .inserted-window-dims .now) (s .args .scatter-dims-to-operand-dims .now) (s .args .index-vector-dim) []) (c .before .before .before .before .before .before .before .element-of .ensures))) (c .before .before .before .store .ensures) (c .words-of .ensures)
+    stored-as (c .before .before .before .before .before .listed .result) _ (s .args .out .now) _ (c .before .before .before .store .result) (c .bare-words .result) (c .before .before .before .before .before .listed .ensures ∙ ap (elementListed (s .args .element)) (made ∙ ap (λ (e : Element). jobFrom K.Scatter e (s .args .index-extents .now) (s .args .index-strides .now) (s .args .index-offset) (s .args .updates-extents .now) (s .args .updates-strides .now) (s .args .updates-offset) (s .args .dest-extents .now) (s .args .dest-strides .now) (s .args .dest-offset) (s .args .update-window-dims .now) (s .args .inserted-window-dims .now) (s .args .scatter-dims-to-operand-dims .now) (s .args .index-vector-dim) []) (c .before .before .before .before .before .before .before .element-of .ensures))) (c .before .before .before .store .ensures) (c .bare-words .ensures)
 
 pub strided-write-scatter-job-spec : {M : Type 1} → statement M
 strided-write-scatter-job-spec =
