@@ -10,11 +10,11 @@ use borrow.Author.Tests.{ltb-true}
 use lib.Dec.{eqb, ltb}
 use lib.ListN.{length, getD, take, replicate}
 use lib.IntN.{ℤ, pos, _+ℤ_, _*ℤ_, +ℤ-assoc}
-use Rattle.integer.specs.Defs.{eqZ, checkedU, fitsOrU}
+use Rattle.integer.specs.Defs.{checkedU, fitsOrU}
 use Rattle.integer.specs.declared.CheckedU.{CheckedU}
 use Rattle.integer.specs.declared.CheckedU.the-variants as U
 use Rattle.indexing.specs.Coordinates.{rank, product, unravel, dot, ints, elementAt, placeOf, pick, tabulate, has}
-use Rattle.indexing.specs.Start.{indexCoordinate, clamp, startIndex, without}
+use Rattle.indexing.specs.Start.{indexCoordinate, startIndex, without}
 use Rattle.indexing.specs.Gather.{Gather, cells, batchDims, gatherStart}
 use Rattle.indexing.specs.Slid.{moved, oneOf, howMany, slides, slidOf, batchExtents, slidGather}
 use Rattle.indexing.specs.Counting.{one-same, many-same}
@@ -35,7 +35,7 @@ use Rattle.checks.proofs.Lists.{tabulate-same}
 use Rattle.checks.proofs.Made.{or-done}
 use Rattle.components.specs.Components.{limitAt, unlessNone}
 use Rattle.components.proofs.Padded.{padded-entry, unless-some}
-use Rattle.calls.proofs.Sums.{clamp-limit}
+use Rattle.calls.proofs.Sums.{moved-limit}
 use Rattle.gather_checks.specs.Refusals.{refusalOf}
 use Rattle.gather_plan.proofs.Accepted.{length-batch}
 use Rattle.gather_plan.proofs.Valid.{checks, valid}
@@ -76,10 +76,6 @@ product-most (suc n) (d ∷ ds) [] h k e p = absurd (omega arith)
 product-most (suc n) (d ∷ ds) (b ∷ bs) h k e p =
     let q : product (take n bs) ≤ product (take n ds) = product-most n ds bs (omega arith) (omega arith) (λ i l. e (suc i) (omega arith)) (p .1) in
     omega (arith, mul-le-mul-left {m = product (take n bs)} {n = product (take n ds)} b q, mul-le-mul-left {m = b} {n = d} (product (take n ds)) (e 0 (omega arith) (p .0)), mul-comm b (product (take n ds)), mul-comm d (product (take n ds)))
-
-moved-limit : (x : ℤ) (extent window : ℕ) → moved x (extent - window) 0 ≡ moved x extent window
-unfolding moved
-moved-limit x extent window = ap (λ (z : ℤ). not (eqZ z x)) (clamp-limit x extent window)
 
 module _ (g : Gather) (done : isDone (refusalOf A.Done g) ≡ true) where
   abbrev w : GatherNumbers

@@ -35,6 +35,17 @@ many-first b p d e =
     let f : d ≡ 0 + d = omega arith in
     f ∙ many-on 0 b p 0 d (omega arith) (many-none 0 p (omega arith)) e
 
+-- those up to c, behind those from a up to b
+pub many-further : (a b c : ℕ) (p : ℕ → Bool) (u v : ℕ) → a ≤ b → b ≤ c → u ≡ howMany (b - a) (λ k. p (k + a)) → v ≡ howMany (c - b) (λ k. p (k + b)) → u + v ≡ howMany (c - a) (λ k. p (k + a))
+many-further a b c p u v h l eu ev =
+    let q : c - a - (b - a) ≡ c - b = omega arith in
+    let s : (k : ℕ) → k + b ≡ k + (b - a) + a = λ k. omega arith in
+    many-on (b - a) (c - a) (λ k. p (k + a)) u v (omega arith) eu
+    (ev ∙ many-same (c - b) (λ k. p (k + b)) (λ k. p (k + (b - a) + a)) (λ k _. ap p (s k)) ∙ ap (λ (m : ℕ). howMany m (λ k. p (k + (b - a) + a))) (sym q))
+
+pub further-below : (a b c : ℕ) (p q : ℕ → Bool) (u v : ℕ) → a ≤ b → b ≤ c → u ≡ howMany (b - a) p → v ≡ howMany (c - b) q → u + v ≤ c
+further-below a b c p q u v h l eu ev = omega (arith, many-below (b - a) p, many-below (c - b) q, eu, ev)
+
 -- ---- a start that is read along a line
 pub moves-is : (starts : List ℤ) (t ts : ℤ) (limit i tn : ℕ) → Step t ts i tn → SFits w64 (getD starts (natAbs (machine t ts i)) (pos 0)) → (b : Bool)
     → b ≡ moved (read (getD starts (natAbs (machine t ts i)) (pos 0))) limit 0 → b ≡ movesAt starts (line (read t) (read ts)) limit i

@@ -69,6 +69,15 @@ module _ {C : Type 0} (turn : ℕ → C → C) (a : ℕ) where
       let p : a + (b - a) ≡ b = omega arith in
       f ∙ ap (inOrder (λ k. turn (k + a)) (b - a)) e ∙ sym (split turn a (b - a) x) ∙ ap (λ (m : ℕ). inOrder turn m x) p
 
+  -- and those up to c, behind those up to b
+  pub turns-further : (b c : ℕ) (x y z : C) → a ≤ b → b ≤ c → y ≡ inOrder (λ k. turn (k + a)) (b - a) x → z ≡ inOrder (λ k. turn (k + b)) (c - b) y → z ≡ inOrder (λ k. turn (k + a)) (c - a) x
+  turns-further b c x y z h l e f =
+      let q : b - a + (c - b) ≡ c - a = omega arith in
+      let s : (k : ℕ) → k + b ≡ k + (b - a) + a = λ k. omega arith in
+      f ∙ ap (inOrder (λ k. turn (k + b)) (c - b)) e
+      ∙ same-turns (λ k. turn (k + b)) (λ k. turn (k + (b - a) + a)) (c - b) (λ k _ u. ap (λ (i : ℕ). turn i u) (s k)) (inOrder (λ k. turn (k + a)) (b - a) x)
+      ∙ sym (split (λ k. turn (k + a)) (b - a) (c - b) x) ∙ ap (λ (m : ℕ). inOrder (λ k. turn (k + a)) m x) q
+
 -- where turns are left there is one, and then one fewer
 pub turn-left : (i width q n : ℕ) → i + width * q ≡ n → 0 < q → i + width + width * (q - 1) ≡ n
 turn-left i width zero n e h = absurd (omega arith)

@@ -1,13 +1,13 @@
 // Runs whose places on one side are given by starts, each clamped: windows of one cell, whose start changes with each cell. Each hands
 // back how many of its starts the clamp moved.
 ghost use mathlib.Core.Path.{_≡_};
-ghost use mathlib.Core.Bool.{cond, not};
+ghost use mathlib.Core.Bool.{cond};
 ghost use Prim.Native.Nat.{_+_, _*_, _-_, _<_, _≤_, _^_};
 ghost use lib.IntN.{pos, natAbs, _+ℤ_};
 ghost use lib.Signed.{_≤ℤ_};
 ghost use lib.ListN.{length};
 ghost use Rattle.integer.specs.Z.{up};
-ghost use Rattle.integer.specs.Defs.{minℤ, eqZ};
+ghost use Rattle.integer.specs.Defs.{minℤ};
 ghost use Rattle.indexing.specs.Start.{clamp};
 ghost use Rattle.indexing.specs.Slid.{moved, howMany};
 ghost use Rattle.indexing.specs.Loops.{inOrder};
@@ -106,11 +106,15 @@ fn at_most(x: i64, limit: i64) -> i64
     if limit < x { limit } else { x }
 }
 
-// Whether two are not the same.
-fn differ(a: i64, b: i64) -> bool
-    ensures { λ r. ⌜ r ≡ not (eqZ a b) ⌝ }
+// Whether x lies outside 0 .. limit.
+fn is_outside(x: i64, limit: i64) -> bool
+    requires { ⌜ pos 0 ≤ℤ limit ⌝ }
+    ensures { λ r. ⌜ r ≡ moved x (natAbs limit) 0 ⌝ }
 {
-    if a == b { false } else { true }
+    if x < 0 {
+        return true;
+    }
+    if limit < x { true } else { false }
 }
 
 // x moved inside 0 .. limit, and whether that is another.
@@ -120,7 +124,7 @@ pub fn clamped(x: i64, limit: i64) -> StartPlace
 {
     let y = not_below_zero(x);
     let at = at_most(y, limit);
-    let moved = differ(at, x);
+    let moved = is_outside(x, limit);
     StartPlace { at, moved }
 }
 
@@ -190,7 +194,7 @@ fn take_few(src: &[i32], starts: &[i64], dst: &mut [i32], limit: i64, from: usiz
 }
 
 // A cell for each start: of the source where the start says, clamped; of the destination in order. `width` to a turn, behind those
-// that are over.
+// that are over. That the limit is not below 0 is asked for the compiler's sake, which then asks once whether a start is outside.
 fn take_turns(
     src: &[i32],
     starts: &[i64],
@@ -203,6 +207,9 @@ fn take_turns(
     requires { ⌜ (over + width * turns ≡ length (now dst)) × Ones (now starts) limit (length (now dst)) (length (now src)) ⌝ }
     ensures { λ r. ⌜ (now (dst .exit) ≡ inOrder (cellAt (pos 0) (ruleI32 R.Replace) (now (src .entry)) (oneAt (now (starts .entry)) limit) pos) (length (now (dst .entry))) (now (dst .entry))) × (r ≡ howMany (length (now (dst .entry))) (movesAt (now (starts .entry)) pos (natAbs limit))) ⌝ }
 {
+    if limit < 0 {
+        return 0;
+    }
     let mut slid = take_few(src, starts, dst, limit, 0, over);
     let mut i = over;
     let mut left = turns;
@@ -567,23 +574,26 @@ fn put_few(
     slid
 }
 
-// A cell for each start, by the rule: of the source in order; of the destination where the start says, clamped. `width` to a turn,
-// behind those that are over.
+// The cells from `from` on, by the rule: of the source in order; of the destination where the start says, clamped. `width` to a turn.
+// That the limit is not below 0 is asked for the compiler's sake, which then asks once whether a start is outside.
 fn put_turns(
     rule: Rule,
     src: &[i32],
     starts: &[i64],
     dst: &mut [i32],
     limit: i64,
-    over: usize,
+    from: usize,
     turns: usize,
     width: usize,
 ) -> u64
-    requires { ⌜ (over + width * turns ≡ length (now src)) × Ones (now starts) limit (length (now src)) (length (now dst)) ⌝ }
-    ensures { λ r. ⌜ (now (dst .exit) ≡ inOrder (cellAt (pos 0) (ruleI32 rule) (now (src .entry)) pos (oneAt (now (starts .entry)) limit)) (length (now (src .entry))) (now (dst .entry))) × (r ≡ howMany (length (now (src .entry))) (movesAt (now (starts .entry)) pos (natAbs limit))) ⌝ }
+    requires { ⌜ (from + width * turns ≡ length (now src)) × Ones (now starts) limit (length (now src)) (length (now dst)) ⌝ }
+    ensures { λ r. ⌜ (now (dst .exit) ≡ inOrder (λ k. cellAt (pos 0) (ruleI32 rule) (now (src .entry)) pos (oneAt (now (starts .entry)) limit) (k + from)) (length (now (src .entry)) - from) (now (dst .entry))) × (r ≡ howMany (length (now (src .entry)) - from) (λ k. movesAt (now (starts .entry)) pos (natAbs limit) (k + from))) ⌝ }
 {
-    let mut slid = put_few(rule, src, starts, dst, limit, 0, over);
-    let mut i = over;
+    if limit < 0 {
+        return 0;
+    }
+    let mut slid: u64 = 0;
+    let mut i = from;
     let mut left = turns;
     while 0 < left {
         let e = i + width;
@@ -596,6 +606,28 @@ fn put_turns(
 }
 
 // The same, by a loop of each rule's own: the rule is asked once, outside the loop. Four go to a turn, and of a Replace two.
+fn put_rest(
+    rule: Rule,
+    src: &[i32],
+    starts: &[i64],
+    dst: &mut [i32],
+    limit: i64,
+    from: usize,
+    fours: usize,
+    twos: usize,
+) -> u64
+    requires { ⌜ (from + 4 * fours ≡ length (now src)) × (from + 2 * twos ≡ length (now src)) × Ones (now starts) limit (length (now src)) (length (now dst)) ⌝ }
+    ensures { λ r. ⌜ (now (dst .exit) ≡ inOrder (λ k. cellAt (pos 0) (ruleI32 rule) (now (src .entry)) pos (oneAt (now (starts .entry)) limit) (k + from)) (length (now (src .entry)) - from) (now (dst .entry))) × (r ≡ howMany (length (now (src .entry)) - from) (λ k. movesAt (now (starts .entry)) pos (natAbs limit) (k + from))) ⌝ }
+{
+    match rule {
+        Rule::Add => put_turns(Rule::Add, src, starts, dst, limit, from, fours, 4),
+        Rule::Lowest => put_turns(Rule::Lowest, src, starts, dst, limit, from, fours, 4),
+        Rule::Highest => put_turns(Rule::Highest, src, starts, dst, limit, from, fours, 4),
+        Rule::Replace => put_turns(Rule::Replace, src, starts, dst, limit, from, twos, 2),
+    }
+}
+
+// A cell for each start, by the rule: up to three that are over, and the others in turns.
 pub fn put_ones(rule: Rule, src: &[i32], starts: &[i64], dst: &mut [i32], limit: i64) -> u64
     requires { ⌜ Ones (now starts) limit (length (now src)) (length (now dst)) ⌝ }
     ensures { λ r. ⌜ (now (dst .exit) ≡ inOrder (cellAt (pos 0) (ruleI32 rule) (now (src .entry)) pos (oneAt (now (starts .entry)) limit)) (length (now (src .entry))) (now (dst .entry))) × (r ≡ howMany (length (now (src .entry))) (movesAt (now (starts .entry)) pos (natAbs limit))) ⌝ }
@@ -604,12 +636,9 @@ pub fn put_ones(rule: Rule, src: &[i32], starts: &[i64], dst: &mut [i32], limit:
     let over = n % 4;
     let fours = n / 4;
     let twos = 2 * fours;
-    match rule {
-        Rule::Add => put_turns(Rule::Add, src, starts, dst, limit, over, fours, 4),
-        Rule::Lowest => put_turns(Rule::Lowest, src, starts, dst, limit, over, fours, 4),
-        Rule::Highest => put_turns(Rule::Highest, src, starts, dst, limit, over, fours, 4),
-        Rule::Replace => put_turns(Rule::Replace, src, starts, dst, limit, over, twos, 2),
-    }
+    let few = put_few(rule, src, starts, dst, limit, 0, over);
+    let rest = put_rest(rule, src, starts, dst, limit, over, fours, twos);
+    few + rest
 }
 
 // n cells by the rule, whose every step is 1: on the parts of the source and the starts that they are, and the destination from the base on.

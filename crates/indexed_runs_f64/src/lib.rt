@@ -121,7 +121,7 @@ fn take_few(src: &[f64], starts: &[i64], dst: &mut [f64], limit: i64, from: usiz
 }
 
 // A cell for each start: of the source where the start says, clamped; of the destination in order. `width` to a turn, behind those
-// that are over.
+// that are over. That the limit is not below 0 is asked for the compiler's sake, which then asks once whether a start is outside.
 fn take_turns(
     src: &[f64],
     starts: &[i64],
@@ -134,6 +134,9 @@ fn take_turns(
     requires { ⌜ (over + width * turns ≡ length (now dst)) × Ones (now starts) limit (length (now dst)) (length (now src)) ⌝ }
     ensures { λ r. ⌜ (now (dst .exit) ≡ inOrder (cellAt nan (ruleF64 R.Replace) (now (src .entry)) (oneAt (now (starts .entry)) limit) pos) (length (now (dst .entry))) (now (dst .entry))) × (r ≡ howMany (length (now (dst .entry))) (movesAt (now (starts .entry)) pos (natAbs limit))) ⌝ }
 {
+    if limit < 0 {
+        return 0;
+    }
     let mut slid = take_few(src, starts, dst, limit, 0, over);
     let mut i = over;
     let mut left = turns;
@@ -528,23 +531,26 @@ fn put_few(
     slid
 }
 
-// A cell for each start, by the rule: of the source in order; of the destination where the start says, clamped. `width` to a turn,
-// behind those that are over.
+// The cells from `from` on, by the rule: of the source in order; of the destination where the start says, clamped. `width` to a turn.
+// That the limit is not below 0 is asked for the compiler's sake, which then asks once whether a start is outside.
 fn put_turns(
     rule: RuleF64,
     src: &[f64],
     starts: &[i64],
     dst: &mut [f64],
     limit: i64,
-    over: usize,
+    from: usize,
     turns: usize,
     width: usize,
 ) -> u64
-    requires { ⌜ (over + width * turns ≡ length (now src)) × Ones (now starts) limit (length (now src)) (length (now dst)) ⌝ }
-    ensures { λ r. ⌜ (now (dst .exit) ≡ inOrder (cellAt nan (ruleF64 rule) (now (src .entry)) pos (oneAt (now (starts .entry)) limit)) (length (now (src .entry))) (now (dst .entry))) × (r ≡ howMany (length (now (src .entry))) (movesAt (now (starts .entry)) pos (natAbs limit))) ⌝ }
+    requires { ⌜ (from + width * turns ≡ length (now src)) × Ones (now starts) limit (length (now src)) (length (now dst)) ⌝ }
+    ensures { λ r. ⌜ (now (dst .exit) ≡ inOrder (λ k. cellAt nan (ruleF64 rule) (now (src .entry)) pos (oneAt (now (starts .entry)) limit) (k + from)) (length (now (src .entry)) - from) (now (dst .entry))) × (r ≡ howMany (length (now (src .entry)) - from) (λ k. movesAt (now (starts .entry)) pos (natAbs limit) (k + from))) ⌝ }
 {
-    let mut slid = put_few(rule, src, starts, dst, limit, 0, over);
-    let mut i = over;
+    if limit < 0 {
+        return 0;
+    }
+    let mut slid: u64 = 0;
+    let mut i = from;
     let mut left = turns;
     while 0 < left {
         let e = i + width;
@@ -557,6 +563,38 @@ fn put_turns(
 }
 
 // The same, by a loop of each rule's own: the rule is asked once, outside the loop. Four go to a turn, and of a Replace two.
+fn put_rest(
+    rule: RuleF64,
+    src: &[f64],
+    starts: &[i64],
+    dst: &mut [f64],
+    limit: i64,
+    from: usize,
+    fours: usize,
+    twos: usize,
+) -> u64
+    requires { ⌜ (from + 4 * fours ≡ length (now src)) × (from + 2 * twos ≡ length (now src)) × Ones (now starts) limit (length (now src)) (length (now dst)) ⌝ }
+    ensures { λ r. ⌜ (now (dst .exit) ≡ inOrder (λ k. cellAt nan (ruleF64 rule) (now (src .entry)) pos (oneAt (now (starts .entry)) limit) (k + from)) (length (now (src .entry)) - from) (now (dst .entry))) × (r ≡ howMany (length (now (src .entry)) - from) (λ k. movesAt (now (starts .entry)) pos (natAbs limit) (k + from))) ⌝ }
+{
+    match rule {
+        RuleF64::Add => put_turns(RuleF64::Add, src, starts, dst, limit, from, fours, 4),
+        RuleF64::Lowest => put_turns(RuleF64::Lowest, src, starts, dst, limit, from, fours, 4),
+        RuleF64::Highest => put_turns(RuleF64::Highest, src, starts, dst, limit, from, fours, 4),
+        RuleF64::Replace => put_turns(RuleF64::Replace, src, starts, dst, limit, from, twos, 2),
+        RuleF64::Ceiling(ceiling) => put_turns(
+            RuleF64::Ceiling(ceiling),
+            src,
+            starts,
+            dst,
+            limit,
+            from,
+            fours,
+            4,
+        ),
+    }
+}
+
+// A cell for each start, by the rule: up to three that are over, and the others in turns.
 pub fn put_ones(rule: RuleF64, src: &[f64], starts: &[i64], dst: &mut [f64], limit: i64) -> u64
     requires { ⌜ Ones (now starts) limit (length (now src)) (length (now dst)) ⌝ }
     ensures { λ r. ⌜ (now (dst .exit) ≡ inOrder (cellAt nan (ruleF64 rule) (now (src .entry)) pos (oneAt (now (starts .entry)) limit)) (length (now (src .entry))) (now (dst .entry))) × (r ≡ howMany (length (now (src .entry))) (movesAt (now (starts .entry)) pos (natAbs limit))) ⌝ }
@@ -565,22 +603,9 @@ pub fn put_ones(rule: RuleF64, src: &[f64], starts: &[i64], dst: &mut [f64], lim
     let over = n % 4;
     let fours = n / 4;
     let twos = 2 * fours;
-    match rule {
-        RuleF64::Add => put_turns(RuleF64::Add, src, starts, dst, limit, over, fours, 4),
-        RuleF64::Lowest => put_turns(RuleF64::Lowest, src, starts, dst, limit, over, fours, 4),
-        RuleF64::Highest => put_turns(RuleF64::Highest, src, starts, dst, limit, over, fours, 4),
-        RuleF64::Replace => put_turns(RuleF64::Replace, src, starts, dst, limit, over, twos, 2),
-        RuleF64::Ceiling(ceiling) => put_turns(
-            RuleF64::Ceiling(ceiling),
-            src,
-            starts,
-            dst,
-            limit,
-            over,
-            fours,
-            4,
-        ),
-    }
+    let few = put_few(rule, src, starts, dst, limit, 0, over);
+    let rest = put_rest(rule, src, starts, dst, limit, over, fours, twos);
+    few + rest
 }
 
 // n cells by the rule, whose every step is 1: on the parts of the source and the starts that they are, and the destination from the base on.

@@ -1,6 +1,6 @@
 -- How many windows of a prepared scatter slid: its batches have the flags of the scatter's batch coordinates. Assumes nothing.
 use mathlib.Core.Path.{_≡_, refl, sym, ap, ap₂, _∙_}
-use mathlib.Core.Bool.{Bool, true, not}
+use mathlib.Core.Bool.{Bool, true}
 use mathlib.Core.List.{List}
 use Prim.Native.Nat.{ℕ, zero, suc, _-_, _<_}
 use native.Mathlib.Omega.{arith}
@@ -8,7 +8,6 @@ use lib.ListN.{length, getD, take}
 use lib.IntN.{ℤ, pos}
 use mir.Syntax.{w64}
 use mir.Val.{SFits}
-use Rattle.integer.specs.Defs.{eqZ}
 use Rattle.integer.specs.Z.{back}
 use Rattle.indexing.specs.Coordinates.{product, unravel, elementAt}
 use Rattle.indexing.specs.Start.{startIndex}
@@ -26,7 +25,7 @@ use Rattle.runs.proofs.Place.{read}
 use Rattle.windows.specs.Windows.{placeAt}
 use Rattle.indexed_runs.specs.IndexedRuns.{componentMoved, startMoved, startsMoved}
 use Rattle.calls.proofs.Covers.{no-zero}
-use Rattle.calls.proofs.Sums.{clamp-limit}
+use Rattle.calls.proofs.Sums.{moved-limit}
 use Rattle.driven.proofs.Counted.{slid-none, slid-zero, slid-some}
 use Rattle.scatter_checks.specs.Refusals.{refusalOf}
 use Rattle.scatter_move.specs.Batches.{batchesMoved}
@@ -37,10 +36,6 @@ use Rattle.scatter_move.proofs.Numbers.{limit-at}
 use Rattle.scatter_move.proofs.Moving.{at-valid, total-batches, total-cells, component-place}
 
 -- the clamp to a limit moves what the clamp by extent and window moves
-moved-limit : (x : ℤ) (extent window : ℕ) → moved x (extent - window) 0 ≡ moved x extent window
-unfolding moved
-moved-limit x extent window = ap (λ (z : ℤ). not (eqZ z x)) (clamp-limit x extent window)
-
 -- ---- updates have cells where there are batches and their windows have cells
 module _ (s : Scatter) (v : ValidScatter s) where
   pub no-updates : product (windowShape s) ≡ 0 → product (s .updates .extents) ≡ 0

@@ -1,13 +1,13 @@
-use mathlib.Core.Path.{_≡_, refl, sym, ap, ap₂, subst, _∙_}
-use mathlib.Core.Bool.{not}
+use mathlib.Core.Path.{_≡_, sym, ap, ap₂, subst, _∙_}
 use Prim.Native.Nat.{ℕ, min}
 use native.Mathlib.Omega.{arith}
 use lib.IntN.{ℤ, pos, natAbs}
 use lib.Signed.{_≤ℤ_}
+use borrow.Author.Needs.{needs}
 use mir.Syntax.{w64}
 use mir.Val.{SFits}
 use Rattle.integer.specs.Z.{up, dn, only, known, back, zfacts}
-use Rattle.integer.specs.Defs.{minℤ, eqZ}
+use Rattle.integer.specs.Defs.{minℤ}
 use Rattle.integer.specs.Laws.{minℤ-by}
 use Rattle.indexing.specs.Start.{clamp}
 use Rattle.indexing.specs.Slid.{moved}
@@ -21,9 +21,8 @@ up-min a limit h = minℤ-by (pos a) limit (λ m. up m ≡ min a (up limit)) (λ
 dn-min : (a : ℕ) (limit : ℤ) → pos 0 ≤ℤ limit → dn (minℤ (pos a) limit) ≡ 0
 dn-min a limit h = minℤ-by (pos a) limit (λ m. dn m ≡ 0) (λ l. omega (arith, zfacts)) (λ l. omega (arith, zfacts, only limit, h))
 
-moved-is : (x : ℤ) (limit : ℕ) → not (eqZ (clamp x limit 0) x) ≡ moved x limit 0
-unfolding moved
-moved-is x limit = refl
+is-outside-requires : tie.Need-is-outside-requires
+is-outside-requires c κs = search needs
 
 returns : tie.Need-returns
 returns c =
@@ -39,7 +38,7 @@ returns c =
     let dns : dn (m .at-most .result) ≡ 0 = ap dn e ∙ dn-min (up x) limit (a .pre) in
     let is : m .at-most .result ≡ clamp x (natAbs limit) 0 = clamped-by _ x limit (a .pre) ups dns in
     let fr : SFits w64 (m .at-most .result) = record { sfits = omega (arith, zfacts, ups, dns, known (a .fits .x), known (a .fits .limit), only x) } in
-    (back fr ∙ is, c .differ .ensures ∙ ap₂ (λ (u v : ℤ). not (eqZ u v)) (back fr ∙ is) (back (a .fits .x)) ∙ moved-is x (natAbs limit))
+    (back fr ∙ is, c .is-outside .ensures ∙ ap₂ (λ (u v : ℤ). moved u (natAbs v) 0) (back (a .fits .x)) (back (a .fits .limit)))
 
 pub clamped-spec : {M : Type 1} → statement M
-clamped-spec = tie.close (tie.spec (λ c κs. tt) (λ c κs. tt) (λ c κs. tt) returns)
+clamped-spec = tie.close (tie.spec (λ c κs. tt) (λ c κs. tt) is-outside-requires returns)

@@ -1,125 +1,65 @@
 -- Written by tests/twins from crates/indexed_runs/proofs/put_ones/Proof.antt.
-use mathlib.Core.Path.{refl}
+use mathlib.Core.Path.{_≡_, refl}
+use Prim.Native.Nat.{_+_, _%_}
 use native.Mathlib.Omega.{arith}
 use borrow.Author.Needs.{needs}
 use lib.Ieee.{nan}
+use lib.ListN.{length}
+use lib.IntN.{pos, natAbs}
+use Rattle.indexing.specs.Counting.{many-on, many-below}
+use Rattle.indexing.specs.Slid.{howMany}
+use Rattle.indexing.specs.Loops.{inOrder}
 use Rattle.rules.specs.Rules.{ruleF64}
-use Rattle.rules.specs.declared.RuleF64.the-variants as R
-use Rattle.indexed_runs.proofs.Ones.{ones-left, put-ones-end}
-use Rattle.indexed_runs.proofs.Counts.{ones-count}
+use Rattle.runs.specs.Runs.{cellAt}
+use Rattle.runs.proofs.Turns.{none}
+use Rattle.runs.proofs.Place.{read}
+use Rattle.indexed_runs.specs.IndexedRuns.{oneAt, movesAt}
+use Rattle.indexed_runs.proofs.Ones.{ones-left, turns-on, put-ones-end}
+use Rattle.indexed_runs.proofs.Counts.{many-first, ones-count}
 use Rattle.indexed_runs_f64.proofs.put_ones.Statement.{statement}
 use Rattle.indexed_runs_f64.proofs.put_ones.Tie as tie
 
 mul-twos : tie.Need-mul-twos
 mul-twos c = let a : tie.Start = search in omega (arith, a .good .1 .0 .1)
 
-enum-told : tie.Need-enum-told
-enum-told c = search needs
+put-few-requires : tie.Need-put-few-requires
+put-few-requires c κs = let a : tie.Start = search in (omega arith, omega arith, ones-left _ _ _ _ _ _ (a .fits .limit) (a .pre) refl refl)
 
-put-turns-requires : tie.Need-put-turns-requires
-put-turns-requires c κs = let a : tie.Start = search in (omega arith, ones-left _ _ _ _ _ _ (a .fits .limit) (a .pre) refl refl)
-
-enum-told-2 : tie.Need-enum-told-2
-enum-told-2 c = search needs
-
-put-turns-requires-2 : tie.Need-put-turns-requires-2
-put-turns-requires-2 c κs = let a : tie.Start = search in (omega arith, ones-left _ _ _ _ _ _ (a .fits .limit) (a .pre) refl refl)
-
-enum-told-3 : tie.Need-enum-told-3
-enum-told-3 c = search needs
-
-put-turns-requires-3 : tie.Need-put-turns-requires-3
-put-turns-requires-3 c κs = let a : tie.Start = search in (omega arith, ones-left _ _ _ _ _ _ (a .fits .limit) (a .pre) refl refl)
-
-enum-told-4 : tie.Need-enum-told-4
-enum-told-4 c = search needs
-
-put-turns-requires-4 : tie.Need-put-turns-requires-4
-put-turns-requires-4 c κs = let a : tie.Start = search in (omega arith, ones-left _ _ _ _ _ _ (a .fits .limit) (a .pre) refl refl)
-
-enum-known-rule : tie.Need-enum-known-rule
-enum-known-rule c = search needs
-
-put-turns-requires-5 : tie.Need-put-turns-requires-5
-put-turns-requires-5 c κs = let a : tie.Start = search in (omega arith, ones-left _ _ _ _ _ _ (a .fits .limit) (a .pre) refl refl)
+put-rest-requires : tie.Need-put-rest-requires
+put-rest-requires c κs =
+    let f : tie.After-put-few = search in
+    let a : tie.Start = search in (omega arith, omega arith, ones-left _ _ _ _ _ _ (a .fits .limit) (a .pre) refl (f .put-few .kept .1 .1 .1 .0))
 
 same-length : tie.Need-same-length
 same-length c = search needs
 
+-- those that are over, and the rest
+few-then-rest : (c : tie.After-put-rest)
+    → let a : tie.Start = search in
+    let f : tie.After-put-few = search in
+    (c .put-rest .last .1 .1 .1 .0 ≡ inOrder (cellAt nan (ruleF64 (a .args .rule)) (a .args .src .now) pos (oneAt (a .args .starts .now) (read (a .args .limit)))) (length (a .args .src .now)) (a .args .dst .now))
+    × (f .put-few .result + c .put-rest .result ≡ howMany (length (a .args .src .now)) (movesAt (a .args .starts .now) pos (natAbs (read (a .args .limit)))))
+few-then-rest c =
+    let f : tie.After-put-few = search in
+    let a : tie.Start = search in
+    let over = length (a .args .src .now) % 4 in
+    let turn = cellAt nan (ruleF64 (a .args .rule)) (a .args .src .now) pos (oneAt (a .args .starts .now) (read (a .args .limit))) in
+    let flag = movesAt (a .args .starts .now) pos (natAbs (read (a .args .limit))) in (
+      turns-on turn over (length (a .args .src .now)) (a .args .dst .now) _ _ (omega arith) (turns-on turn 0 over (a .args .dst .now) (a .args .dst .now) _ (omega arith) (none turn 0 (a .args .dst .now) refl) (f .put-few .ensures .0)) (c .put-rest .ensures .0),
+      many-on over (length (a .args .src .now)) flag _ _ (omega arith) (many-first over flag _ (f .put-few .ensures .1)) (c .put-rest .ensures .1),
+    )
+
+add-result : tie.Need-add-result
+add-result c =
+    let r : tie.After-put-rest = search in
+    let a : tie.Start = search in
+    omega (arith, few-then-rest r .1, many-below (length (a .args .src .now)) (movesAt (a .args .starts .now) pos (natAbs (read (a .args .limit)))), a .good .1 .0 .1)
+
 returns : tie.Need-returns
 returns c =
-    let e : tie.After-enum-told = search in
-    let p : tie.After-put-turns = search in
+    let r : tie.After-put-rest = search in
     let a : tie.Start = search in
-    rw (e .enum-told .given .1)
-    (put-ones-end nan (ruleF64 R.Add) (a .args .src .now) (a .args .starts .now) (a .args .limit) _ _ (a .args .dst .now) _ (a .fits .limit) refl (p .put-turns .ensures .0), ones-count (a .args .starts .now) (a .args .limit) _ _ _ (a .fits .limit) refl (p .put-turns .ensures .1))
-
-same-length-2 : tie.Need-same-length-2
-same-length-2 c = search needs
-
-returns-2 : tie.Need-returns-2
-returns-2 c =
-    let e : tie.After-enum-told2 = search in
-    let p : tie.After-put-turns2 = search in
-    let a : tie.Start = search in
-    rw (e .enum-told2 .given .1)
-    (put-ones-end nan (ruleF64 R.Lowest) (a .args .src .now) (a .args .starts .now) (a .args .limit) _ _ (a .args .dst .now) _ (a .fits .limit) refl (p .put-turns2 .ensures .0), ones-count (a .args .starts .now) (a .args .limit) _ _ _ (a .fits .limit) refl (p .put-turns2 .ensures .1))
-
-same-length-3 : tie.Need-same-length-3
-same-length-3 c = search needs
-
-returns-3 : tie.Need-returns-3
-returns-3 c =
-    let e : tie.After-enum-told3 = search in
-    let p : tie.After-put-turns3 = search in
-    let a : tie.Start = search in
-    rw (e .enum-told3 .given .1)
-    (put-ones-end nan (ruleF64 R.Highest) (a .args .src .now) (a .args .starts .now) (a .args .limit) _ _ (a .args .dst .now) _ (a .fits .limit) refl (p .put-turns3 .ensures .0), ones-count (a .args .starts .now) (a .args .limit) _ _ _ (a .fits .limit) refl (p .put-turns3 .ensures .1))
-
-same-length-4 : tie.Need-same-length-4
-same-length-4 c = search needs
-
-returns-4 : tie.Need-returns-4
-returns-4 c =
-    let e : tie.After-enum-told4 = search in
-    let p : tie.After-put-turns4 = search in
-    let a : tie.Start = search in
-    rw (e .enum-told4 .given .1)
-    (put-ones-end nan (ruleF64 R.Replace) (a .args .src .now) (a .args .starts .now) (a .args .limit) _ _ (a .args .dst .now) _ (a .fits .limit) refl (p .put-turns4 .ensures .0), ones-count (a .args .starts .now) (a .args .limit) _ _ _ (a .fits .limit) refl (p .put-turns4 .ensures .1))
-
-same-length-5 : tie.Need-same-length-5
-same-length-5 c = search needs
-
-returns-5 : tie.Need-returns-5
-returns-5 c =
-    let e : tie.After-rule = search in
-    let p : tie.After-put-turns5 = search in
-    let a : tie.Start = search in
-    rw (e .rule .given .1)
-    (put-ones-end nan (ruleF64 (R.Ceiling (e .rule .given .0 .0))) (a .args .src .now) (a .args .starts .now) (a .args .limit) _ _ (a .args .dst .now) _ (a .fits .limit) refl (p .put-turns5 .ensures .0), ones-count (a .args .starts .now) (a .args .limit) _ _ _ (a .fits .limit) refl (p .put-turns5 .ensures .1))
+    (put-ones-end nan (ruleF64 (a .args .rule)) (a .args .src .now) (a .args .starts .now) (a .args .limit) _ _ (a .args .dst .now) _ (a .fits .limit) refl (few-then-rest r .0), ones-count (a .args .starts .now) (a .args .limit) _ _ _ (a .fits .limit) refl (few-then-rest r .1))
 
 pub put-ones-spec : {M : Type 1} → statement M
-put-ones-spec =
-    tie.close
-    (tie.spec
-    mul-twos
-    enum-told
-    put-turns-requires
-    enum-told-2
-    put-turns-requires-2
-    enum-told-3
-    put-turns-requires-3
-    enum-told-4
-    put-turns-requires-4
-    enum-known-rule
-    put-turns-requires-5
-    same-length
-    returns
-    same-length-2
-    returns-2
-    same-length-3
-    returns-3
-    same-length-4
-    returns-4
-    same-length-5
-    returns-5)
+put-ones-spec = tie.close (tie.spec mul-twos put-few-requires put-rest-requires add-result same-length returns)

@@ -7,6 +7,7 @@ use lib.Ieee.{Float, nan}
 use lib.ListN.{length}
 use lib.IntN.{pos, natAbs}
 use mir.Syntax.{w64}
+use Rattle.integer.specs.Z.{only, known, zfacts}
 use mir.Val.{toZ}
 use Rattle.indexing.specs.Loops.{inOrder}
 use Rattle.indexing.specs.Slid.{howMany}
@@ -40,6 +41,11 @@ module _ (d : tie.In-loop Inv-loop μ-loop) where
 
   fits : d .before .loop .i + start .args .width ≤ length (start .args .starts .now)
   fits = omega (arith, turn)
+
+returns : tie.Need-returns Inv-loop μ-loop
+returns c =
+    let a : tie.Start Inv-loop μ-loop = search in
+    absurd (omega (arith, zfacts, a .pre .1 .low, known (a .fits .limit), only (a .args .limit), c .if1 .taken))
 
 take-few-requires : tie.Need-take-few-requires Inv-loop μ-loop
 take-few-requires c κs =
@@ -93,8 +99,8 @@ same-length c =
     let f : tie.After-take-few Inv-loop μ-loop = search in
     c .before .loop .inv .1 ∙ f .take-few .kept .1 .1 .0
 
-returns : tie.Need-returns Inv-loop μ-loop
-returns c =
+returns-2 : tie.Need-returns-2 Inv-loop μ-loop
+returns-2 c =
     let f : tie.After-take-few Inv-loop μ-loop = search in
     let h = c .before in
     let a : tie.Start Inv-loop μ-loop = search in (
@@ -109,6 +115,7 @@ take-turns-spec =
     (tie.spec
     Inv-loop
     μ-loop
+    returns
     take-few-requires
     loop-holds
     add-e
@@ -118,4 +125,4 @@ take-turns-spec =
     loop-less
     loop-again
     same-length
-    returns)
+    returns-2)
