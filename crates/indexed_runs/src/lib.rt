@@ -122,9 +122,9 @@ pub fn clamped(x: i64, limit: i64) -> StartPlace
     requires { ⌜ pos 0 ≤ℤ limit ⌝ }
     ensures { λ r. ⌜ (r .at ≡ clamp x (natAbs limit) 0) × (r .moved ≡ moved x (natAbs limit) 0) ⌝ }
 {
-    let y = not_below_zero(x);
-    let at = at_most(y, limit);
     let moved = is_outside(x, limit);
+    let y = at_most(x, limit);
+    let at = not_below_zero(y);
     StartPlace { at, moved }
 }
 

@@ -15,11 +15,8 @@ use Rattle.indexed_runs.proofs.Ones.{clamped-by}
 use Rattle.indexed_runs.proofs.clamped.Statement.{statement}
 use Rattle.indexed_runs.proofs.clamped.Tie as tie
 
-up-min : (a : ℕ) (limit : ℤ) → pos 0 ≤ℤ limit → up (minℤ (pos a) limit) ≡ min a (up limit)
-up-min a limit h = minℤ-by (pos a) limit (λ m. up m ≡ min a (up limit)) (λ l. omega (arith, zfacts, only limit, l, h)) (λ l. omega (arith, zfacts, only limit, l, h))
-
-dn-min : (a : ℕ) (limit : ℤ) → pos 0 ≤ℤ limit → dn (minℤ (pos a) limit) ≡ 0
-dn-min a limit h = minℤ-by (pos a) limit (λ m. dn m ≡ 0) (λ l. omega (arith, zfacts)) (λ l. omega (arith, zfacts, only limit, h))
+up-min : (x limit : ℤ) → pos 0 ≤ℤ limit → up (minℤ x limit) ≡ min (up x) (up limit)
+up-min x limit h = minℤ-by x limit (λ m. up m ≡ min (up x) (up limit)) (λ l. omega (arith, zfacts, only x, only limit, l, h)) (λ l. omega (arith, zfacts, only x, only limit, l, h))
 
 is-outside-requires : tie.Need-is-outside-requires
 is-outside-requires c κs = search needs
@@ -27,18 +24,16 @@ is-outside-requires c κs = search needs
 returns : tie.Need-returns
 returns c =
     let m = c .before in
-    let q = m .before in
-    let a = q .before in
+    let o = m .before in
+    let a = o .before in
     let x = a .args .x in
     let limit = a .args .limit in
-    let y : q .not-below-zero .result ≡ pos (up x) = q .not-below-zero .ensures ∙ ap (λ (z : ℤ). pos (up z)) (back (a .fits .x)) in
-    let fy : SFits w64 (q .not-below-zero .result) = subst (SFits w64) (sym y) (record { sfits = omega (arith, zfacts, known (a .fits .x), only x) }) in
-    let e : m .at-most .result ≡ minℤ (pos (up x)) limit = m .at-most .ensures ∙ ap₂ minℤ (back fy ∙ y) (back (a .fits .limit)) in
-    let ups : up (m .at-most .result) ≡ min (up x) (up limit) = ap up e ∙ up-min (up x) limit (a .pre) in
-    let dns : dn (m .at-most .result) ≡ 0 = ap dn e ∙ dn-min (up x) limit (a .pre) in
-    let is : m .at-most .result ≡ clamp x (natAbs limit) 0 = clamped-by _ x limit (a .pre) ups dns in
-    let fr : SFits w64 (m .at-most .result) = record { sfits = omega (arith, zfacts, ups, dns, known (a .fits .x), known (a .fits .limit), only x) } in
-    (back fr ∙ is, c .is-outside .ensures ∙ ap₂ (λ (u v : ℤ). moved u (natAbs v) 0) (back (a .fits .x)) (back (a .fits .limit)))
+    let e : m .at-most .result ≡ minℤ x limit = m .at-most .ensures ∙ ap₂ minℤ (back (a .fits .x)) (back (a .fits .limit)) in
+    let fy : SFits w64 (m .at-most .result) = subst (SFits w64) (sym e) (minℤ-by x limit (λ z. SFits w64 z) (λ _. a .fits .x) (λ _. a .fits .limit)) in
+    let z : c .not-below-zero .result ≡ pos (min (up x) (up limit)) = c .not-below-zero .ensures ∙ ap (λ (v : ℤ). pos (up v)) (back fy ∙ e) ∙ ap pos (up-min x limit (a .pre)) in
+    let is : c .not-below-zero .result ≡ clamp x (natAbs limit) 0 = clamped-by _ x limit (a .pre) (ap up z) (ap dn z) in
+    let fr : SFits w64 (c .not-below-zero .result) = subst (SFits w64) (sym z) (record { sfits = omega (arith, zfacts, known (a .fits .x), known (a .fits .limit), only x) }) in
+    (back fr ∙ is, o .is-outside .ensures ∙ ap₂ (λ (u v : ℤ). moved u (natAbs v) 0) (back (a .fits .x)) (back (a .fits .limit)))
 
 pub clamped-spec : {M : Type 1} → statement M
-clamped-spec = tie.close (tie.spec (λ c κs. tt) (λ c κs. tt) is-outside-requires returns)
+clamped-spec = tie.close (tie.spec is-outside-requires (λ c κs. tt) (λ c κs. tt) returns)
