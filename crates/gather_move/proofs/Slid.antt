@@ -1,7 +1,7 @@
 -- The batch coordinates of an accepted gather, and how many of them slid. Assumes nothing.
 use mathlib.Core.Path.{_≡_, refl, sym, ap, ap₂, subst, _∙_}
 use mathlib.Core.Logic.{inl, inr}
-use mathlib.Core.Bool.{Bool, true, false, cond, not}
+use mathlib.Core.Bool.{Bool, true, false, cond}
 use mathlib.Core.List.{List, [], _∷_}
 use Prim.Native.Nat.{ℕ, zero, suc, _+_, _*_, _-_, _<_, _≤_, _^_}
 use native.Mathlib.Nat.{mul-le-mul-left, mul-comm}
@@ -16,7 +16,7 @@ use Rattle.integer.specs.declared.CheckedU.the-variants as U
 use Rattle.indexing.specs.Coordinates.{rank, product, unravel, dot, ints, elementAt, placeOf, pick, tabulate, has}
 use Rattle.indexing.specs.Start.{indexCoordinate, startIndex, without}
 use Rattle.indexing.specs.Gather.{Gather, cells, batchDims, gatherStart}
-use Rattle.indexing.specs.Slid.{moved, oneOf, howMany, slides, slidOf, batchExtents, slidGather}
+use Rattle.indexing.specs.Slid.{moved, slides, slidOf, batchExtents, slidGather}
 use Rattle.indexing.specs.Counting.{one-same, many-same}
 use Rattle.indexing.specs.Odometer.{AllPos, offsetAt}
 use Rattle.indexing.specs.Axes.{getD-same, spread-none, others-not}
@@ -45,7 +45,7 @@ use Rattle.gather_windows.specs.Gathering.{BatchAxis, Batched}
 use Rattle.gather_windows.proofs.Batches.{batch-most}
 use Rattle.gather_move.specs.Prepared.{gatherNumbers, startBase}
 use Rattle.gather_move.specs.declared.GatherNumbers.{GatherNumbers}
-use Rattle.gather_move.proofs.Numbers.{rank-few, map-few, extents-are, batch-steps, offset-at, limit-at}
+use Rattle.gather_move.proofs.Numbers.{rank-few, extents-are, batch-steps, offset-at, limit-at}
 
 -- ---- an accepted product fits a u64
 total-small : (acc : ℕ) (ds : List ℕ) (n : ℕ) → acc < 2 ^ 64 → totalFrom acc ds ≡ U.Fits n → n < 2 ^ 64

@@ -1,12 +1,12 @@
 -- How many windows slid, in small cases, by computation. Assumes nothing.
 use mathlib.Core.Path.{_≡_, refl}
-use mathlib.Core.List.{List, [], _∷_}
+use mathlib.Core.List.{[], _∷_}
 use Prim.Native.Nat.{ℕ}
 use lib.IntN.{ℤ, pos, negsuc}
-use Rattle.indexing.specs.Coordinates.{View, product, unravel, dotℤ, placeOf, tabulate, pick, spread, has, othersFrom}
+use Rattle.indexing.specs.Coordinates.{product, unravel, dotℤ, placeOf, tabulate, pick, spread, has, othersFrom}
 use Rattle.indexing.specs.Start.{indexCoordinate, startIndex, clamp}
 use Rattle.indexing.specs.Gather.{Gather, cells, batchDims, gatherStart}
-use Rattle.indexing.specs.Scatter.{Scatter, scatterDims, windowDims, batchShape, windowShape, windows}
+use Rattle.indexing.specs.Scatter.{scatterDims, windowDims, batchShape, windowShape, windows}
 use Rattle.indexing.specs.Slid.{moved, oneOf, howMany, slides, batchExtents, slidGather, slidScatter}
 use Rattle.indexing.specs.Answers.{harbourWindows, harbourUpdates}
 

@@ -7,7 +7,7 @@ use lib.ListN.{length, getD}
 use lib.IntN.{ℤ}
 use Rattle.integer.specs.Defs.{eqZ}
 use Rattle.indexing.specs.Coordinates.{rank, product, unravel, tabulate, has}
-use Rattle.indexing.specs.Start.{clamp, startIndex, startOn}
+use Rattle.indexing.specs.Start.{clamp, startIndex}
 use Rattle.indexing.specs.Gather.{Gather, cells, gatherStart}
 use Rattle.indexing.specs.Scatter.{Scatter, batchShape, windows}
 

@@ -1,5 +1,5 @@
 -- How many batches have a start that the clamp moves: those below the places of their last axis, added up. Over any flag of a batch's place, and any rank. Assumes nothing.
-use mathlib.Core.Path.{_≡_, refl, sym, ap, ap₂, _∙_}
+use mathlib.Core.Path.{_≡_, sym, ap, ap₂, _∙_}
 use mathlib.Core.Bool.{Bool, cond}
 use mathlib.Core.List.{List}
 use Prim.Native.Nat.{ℕ, suc, _+_, _*_, _<_, _≤_}
@@ -12,7 +12,7 @@ use mir.Val.{SFits}
 use Rattle.integer.specs.Z.{back}
 use Rattle.indexing.specs.Coordinates.{product}
 use Rattle.indexing.specs.Odometer.{AllPos}
-use Rattle.indexing.specs.Slid.{oneOf, howMany}
+use Rattle.indexing.specs.Slid.{howMany}
 use Rattle.indexing.specs.Counting.{one-none, many-false, many-same, many-part, many-below}
 use Rattle.runs.specs.Runs.{line}
 use Rattle.runs.proofs.Place.{read, machine, Step, line-zero}
