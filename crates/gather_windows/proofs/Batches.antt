@@ -1,6 +1,6 @@
 -- How many batch coordinates of a gather have a start that is moved, counted level by level. Over any rank. Assumes nothing.
 use mathlib.Core.Path.{_≡_, refl, sym, ap, ap₂, _∙_}
-use mathlib.Core.Bool.{Bool, true, false, cond}
+use mathlib.Core.Bool.{Bool, true, false, cond, _&&_}
 use mathlib.Core.Logic.{inl, inr}
 use mathlib.Core.List.{List, [], _∷_}
 use Prim.Native.Nat.{ℕ, zero, suc, _+_, _*_, _-_, _<_, _≤_, _^_, min}
@@ -25,7 +25,7 @@ use Rattle.runs.proofs.Place.{read, line-zero}
 use Rattle.windows.specs.Windows.{placeAt, Units}
 use Rattle.windows.proofs.Last.{product-top, positive-top, place-top, units-product, units-place, place-first, only-zero}
 use Rattle.indexed_runs.specs.IndexedRuns.{startMoved, startsMoved}
-use Rattle.indexed_runs.proofs.Counts.{starts-end}
+use Rattle.indexed_runs.proofs.Counts.{none-counts, starts-end}
 use Rattle.gather_windows.specs.Gathering.{StillAxis, Still, BatchAxis, Batched, WindowAxes, BatchLevel}
 use Rattle.gather_windows.proofs.Stills.{unit-still, zero-still}
 
@@ -87,9 +87,9 @@ module _ (starts offsets : List ℤ) (limits : List ℕ) (count : ℕ) (batches 
   abbrev pub flag : ℤ → ℕ → ℕ → Bool
   flag t rank b = startMoved starts offsets limits (placeAt t batches ts rank b) count
 
-  -- at the places of the last axis before j that have a batch coordinate of their own
-  abbrev pub so-far : ℤ → ℕ → ℕ → ℕ → Type 0
-  so-far t top j c = c ≡ howMany (product (take top batches) * min j (getD batches top 0)) (flag t (suc top))
+  -- at the places of the last axis before j that have a batch coordinate of their own, where they count
+  abbrev pub so-far : Bool → ℤ → ℕ → ℕ → ℕ → Type 0
+  so-far counts t top j c = c ≡ cond counts (howMany (product (take top batches) * min j (getD batches top 0)) (flag t (suc top))) 0
 
 module _ (starts offsets : List ℤ) (limits : List ℕ) (count : ℕ) (shape batches : List ℕ) (ts : List ℤ) where
   abbrev mark : ℤ → ℕ → ℕ → Bool
@@ -153,41 +153,49 @@ module _ (starts offsets : List ℤ) (limits : List ℕ) (count : ℕ) (shape ba
           };
         }
 
-    abbrev sofar : ℕ → ℕ → Type 0
-    sofar = so-far starts offsets limits count batches ts t top
+    abbrev sofar : Bool → ℕ → ℕ → Type 0
+    sofar counts = so-far starts offsets limits count batches ts counts t top
 
-    pub none-yet : sofar 0 0
-    none-yet = let e : min 0 own ≡ 0 = omega arith in many-none (m * min 0 own) (mark t (suc top)) (ap (λ (k : ℕ). m * k) e ∙ mul-zero m)
+    -- those below place j
+    abbrev part : ℕ → ℕ
+    part j = startsMoved starts offsets limits count m (placeAt (line t (getD ts top (pos 0)) j) batches ts top)
 
-    pub one-on : (j c d o : ℕ) → sofar j c → d ≡ startsMoved starts offsets limits count m (placeAt (line t (getD ts top (pos 0)) j) batches ts top) → o ≡ cond (ltb j own) d 0 → sofar (j + 1) (c + o)
-    one-on j c d o ec ed eo = go (ltb j own) refl
+    pub none-yet : (counts : Bool) → sofar counts 0 0
+    none-yet counts =
+        let e : min 0 own ≡ 0 = omega arith in
+        none-counts counts _ (many-none (m * min 0 own) (mark t (suc top)) (ap (λ (k : ℕ). m * k) e ∙ mul-zero m))
+
+    pub one-on : (counts : Bool) (j c o : ℕ) → sofar counts j c → o ≡ cond (counts && ltb j own) (part j) 0 → sofar counts (j + 1) (c + o)
+    one-on false j c o ec eo = omega (arith, ec, eo)
+    one-on true j c o ec eo = go (ltb j own) refl
       where
-        go : (u : Bool) → ltb j own ≡ u → sofar (j + 1) (c + o)
+        go : (u : Bool) → ltb j own ≡ u → sofar true (j + 1) (c + o)
         go true e =
             let h : j < own = ltb-true j own e in
             let a : min j own ≡ j = omega arith in
             let b : min (j + 1) own ≡ j + 1 = omega arith in
             let q : o ≡ howMany m (λ k. mark t (suc top) (k + m * j)) =
-            eo ∙ ap (λ (x : Bool). cond x d 0) e ∙ ed
+            eo ∙ ap (λ (x : Bool). cond x (part j) 0) e
             ∙ many-same m (λ k. startMoved starts offsets limits (placeAt (line t (getD ts top (pos 0)) j) batches ts top k) count) (λ k. mark t (suc top) (k + m * j))
             (λ k g. ap (λ (v : ℤ). startMoved starts offsets limits v count) (sym (place-top batches top room t ts (omega arith) pos-below k j g h))) in
             many-part m j (mark t (suc top)) c o (ec ∙ ap (λ (k : ℕ). howMany (m * k) (mark t (suc top))) a) q ∙ ap (λ (k : ℕ). howMany (m * k) (mark t (suc top))) (sym b)
         go false e =
             let h = ltb-false j own e in
             let a : min j own ≡ min (j + 1) own = omega arith in
-            let z : o ≡ 0 = eo ∙ ap (λ (x : Bool). cond x d 0) e in
+            let z : o ≡ 0 = eo ∙ ap (λ (x : Bool). cond x (part j) 0) e in
             let y : c + o ≡ c = omega arith in
             y ∙ ec ∙ ap (λ (k : ℕ). howMany (m * k) (mark t (suc top))) a
 
-    pub so-far-fits : (j c : ℕ) → sofar j c → c < 2 ^ 64
-    so-far-fits j c e =
+    pub so-far-fits : (counts : Bool) (j c : ℕ) → sofar counts j c → c < 2 ^ 64
+    so-far-fits false j c e = omega (arith, e)
+    so-far-fits true j c e =
         omega (arith, e, many-below (m * min j own) (mark t (suc top)), mul-le-mul-left {m = min j own} {n = own} m (omega arith), whole, l .batched .fits p)
 
-    pub all-counted : (j c : ℕ) → j ≡ getD shape top 0 → sofar j c → c ≡ startsMoved starts offsets limits count (product (take (suc top) batches)) (placeAt t batches ts (suc top))
-    all-counted j c g e =
+    pub all-counted : (counts : Bool) (j c : ℕ) → j ≡ getD shape top 0 → sofar counts j c → c ≡ cond counts (startsMoved starts offsets limits count (product (take (suc top) batches)) (placeAt t batches ts (suc top))) 0
+    all-counted counts j c g e =
         let k = own-most in
         let a : min j own ≡ own = omega arith in
-        e ∙ ap (λ (i : ℕ). howMany (m * i) (mark t (suc top))) a ∙ ap (λ (n : ℕ). howMany n (mark t (suc top))) (sym whole)
+        e ∙ ap (λ (i : ℕ). cond counts (howMany (m * i) (mark t (suc top))) 0) a ∙ ap (λ (n : ℕ). cond counts (howMany n (mark t (suc top))) 0) (sym whole)
 
 -- ---- the whole: 0 where there are no cells
 module _ (starts offsets : List ℤ) (limits : List ℕ) (count : ℕ) (t : ℤ) (shape batches : List ℕ) (ts : List ℤ) (rank : ℕ) where

@@ -2,7 +2,7 @@
 // own. What each leaves is the plain loop over every linear index, first axis fastest; it hands back how many batch coordinates have a
 // start that the clamp moves.
 ghost use mathlib.Core.Path.{_≡_};
-ghost use mathlib.Core.Bool.{cond};
+ghost use mathlib.Core.Bool.{cond, _&&_};
 ghost use lib.Dec.{ltb};
 ghost use Prim.Native.Nat.{_≤_};
 ghost use lib.IntN.{pos};
@@ -35,8 +35,9 @@ pub fn window_axes(batches: &[u64; RAW_FUSED_RANK_LIMIT], rank: usize) -> usize
     i
 }
 
-// One run: windows of one cell, whose start is read at each.
+// One run: windows of one cell, whose start is read at each. Counts or does not.
 pub fn gather_run(
+    counts: bool,
     src: &[i32],
     starts: &[i64],
     dst: &mut [i32],
@@ -53,7 +54,7 @@ pub fn gather_run(
     limits: &[u64; RAW_FUSED_RANK_LIMIT],
 ) -> u64
     requires { ⌜ Taking (now starts) (now offsets) (now strides) (now limits) count s t d ss ts ds n (length (now src)) (length (now dst)) ⌝ }
-    ensures { λ r. ⌜ (now (dst .exit) ≡ inOrder (cellAt (pos 0) (ruleI32 R.Replace) (now (src .entry)) (movedAt (now (starts .entry)) (now (offsets .entry)) (now (strides .entry)) (now (limits .entry)) count (line s ss) (line t ts)) (line d ds)) n (now (dst .entry))) × (r ≡ startsMoved (now (starts .entry)) (now (offsets .entry)) (now (limits .entry)) count n (line t ts)) ⌝ }
+    ensures { λ r. ⌜ (now (dst .exit) ≡ inOrder (cellAt (pos 0) (ruleI32 R.Replace) (now (src .entry)) (movedAt (now (starts .entry)) (now (offsets .entry)) (now (strides .entry)) (now (limits .entry)) count (line s ss) (line t ts)) (line d ds)) n (now (dst .entry))) × (r ≡ cond counts (startsMoved (now (starts .entry)) (now (offsets .entry)) (now (limits .entry)) count n (line t ts)) 0) ⌝ }
 {
     if n == 0 {
         return 0;
@@ -61,7 +62,7 @@ pub fn gather_run(
     if count == 1 {
         if ss == 0 {
             let at = t + offsets[0];
-            return indexed_runs::take_run(
+            let slid = indexed_runs::take_run(
                 src,
                 starts,
                 dst,
@@ -74,9 +75,11 @@ pub fn gather_run(
                 d,
                 ds,
             );
+            return layout::count_if(counts, slid);
         }
     }
     indexed_runs::take_cells(
+        counts,
         src,
         starts,
         dst,
@@ -94,17 +97,21 @@ pub fn gather_run(
     )
 }
 
-// What is counted at place j of an axis: a place that has a batch coordinate of its own counts.
-pub fn counted_at(j: u64, batches: u64, count: u64) -> u64
-    ensures { λ r. ⌜ r ≡ cond (ltb j batches) count 0 ⌝ }
+// Whether place j of an axis counts: where all of it counts, a place that has a batch coordinate of its own.
+pub fn counts_at(counts: bool, j: u64, batches: u64) -> bool
+    ensures { λ r. ⌜ r ≡ (counts && ltb j batches) ⌝ }
 {
-    if j < batches { count } else { 0 }
+    if counts {
+        return j < batches;
+    }
+    false
 }
 
 // The cells of the first `rank` axes. There are some, the axes before `low` have one place each, and those before `wide` one batch
 // coordinate: where only such axes are left, the start is read once, and what is left is a window. Each batch coordinate is counted
-// once: along a window axis, which has one, what is read again is not counted again.
+// once: along a window axis, which has one, the first place counts, and where a start is read again it is by loops that do not count.
 pub fn gather_axes(
+    counts: bool,
     src: &[i32],
     starts: &[i64],
     dst: &mut [i32],
@@ -125,14 +132,15 @@ pub fn gather_axes(
     d: i64,
 ) -> u64
     requires { ⌜ GatherLevel (now starts) (now offsets) (now strides) (now limits) count s t d (now extents) (now ss) (now ts) (now ds) low wide rank (length (now src)) (length (now dst)) × BatchLevel (now extents) (now batches) (now ts) low wide rank ⌝ }
-    ensures { λ r. ⌜ (now (dst .exit) ≡ gatheredBy (pos 0) (ruleI32 R.Replace) (now (src .entry)) (now (starts .entry)) (now (offsets .entry)) (now (strides .entry)) (now (limits .entry)) count s t d (now (extents .entry)) (now (ss .entry)) (now (ts .entry)) (now (ds .entry)) rank (now (dst .entry))) × (r ≡ startsMoved (now (starts .entry)) (now (offsets .entry)) (now (limits .entry)) count (product (take rank (now (batches .entry)))) (placeAt t (now (batches .entry)) (now (ts .entry)) rank)) ⌝ }
+    ensures { λ r. ⌜ (now (dst .exit) ≡ gatheredBy (pos 0) (ruleI32 R.Replace) (now (src .entry)) (now (starts .entry)) (now (offsets .entry)) (now (strides .entry)) (now (limits .entry)) count s t d (now (extents .entry)) (now (ss .entry)) (now (ts .entry)) (now (ds .entry)) rank (now (dst .entry))) × (r ≡ cond counts (startsMoved (now (starts .entry)) (now (offsets .entry)) (now (limits .entry)) count (product (take rank (now (batches .entry)))) (placeAt t (now (batches .entry)) (now (ts .entry)) rank)) 0) ⌝ }
 {
     if rank <= wide {
         let m = indexed_runs::started(starts, s, t, count, offsets, strides, limits);
         let a = m.at;
         let moved = m.moved;
         windows::axes(Rule::Replace, src, dst, extents, ss, ds, low, rank, a, d);
-        return layout::count_if(moved, 1);
+        let one = layout::count_if(moved, 1);
+        return layout::count_if(counts, one);
     }
     let top = rank - 1;
     let n = extents[top];
@@ -142,6 +150,7 @@ pub fn gather_axes(
     let z = ds[top];
     if top == low {
         return gather_run(
+            counts,
             src,
             starts,
             dst,
@@ -165,7 +174,9 @@ pub fn gather_axes(
         let p = s + x * k;
         let q = t + y * k;
         let r = d + z * k;
+        let here = counts_at(counts, j, counted);
         let below = gather_axes(
+            here,
             src,
             starts,
             dst,
@@ -185,8 +196,7 @@ pub fn gather_axes(
             q,
             r,
         );
-        let more = counted_at(j, counted, below);
-        slid += more;
+        slid += below;
         j += 1;
     }
     slid
@@ -216,6 +226,7 @@ pub fn gather_window(
 {
     if rank == 0 {
         return gather_run(
+            true,
             src,
             starts,
             dst,
@@ -238,6 +249,7 @@ pub fn gather_window(
     let low = windows::run_axis(extents, rank);
     let wide = window_axes(batches, rank);
     gather_axes(
+        true,
         src,
         starts,
         dst,

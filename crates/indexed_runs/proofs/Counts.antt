@@ -1,6 +1,6 @@
 -- How many starts are moved, as the machine counts them. Assumes nothing.
-use mathlib.Core.Path.{_≡_, sym, ap, ap₂, _∙_}
-use mathlib.Core.Bool.{Bool, cond}
+use mathlib.Core.Path.{_≡_, refl, sym, ap, ap₂, _∙_}
+use mathlib.Core.Bool.{Bool, true, false, cond, _&&_}
 use mathlib.Core.List.{List}
 use Prim.Native.Nat.{ℕ, _+_, _-_, _≤_}
 use native.Mathlib.Omega.{arith}
@@ -11,7 +11,7 @@ use mir.Val.{SFits}
 use Rattle.integer.specs.Z.{back}
 use Rattle.indexing.specs.Coordinates.{elementAt}
 use Rattle.indexing.specs.Slid.{moved, howMany}
-use Rattle.indexing.specs.Counting.{many-none, many-more, many-below, bit-below, many-on, many-same}
+use Rattle.indexing.specs.Counting.{many-none, many-more, many-below, bit-below, many-on, many-same, many-false}
 use Rattle.runs.specs.Runs.{line}
 use Rattle.runs.proofs.Place.{read, machine, Step}
 use Rattle.indexed_runs.specs.IndexedRuns.{startMoved, startsMoved, movesAt}
@@ -22,6 +22,22 @@ one-below i p c o b ec eo = omega (arith, many-below i p, bit-below b, ec, eo)
 
 pub few-below : (a b : ℕ) (p q : ℕ → Bool) (c d : ℕ) → a ≤ b → c ≡ howMany a p → d ≡ howMany (b - a) q → c + d ≤ b
 few-below a b p q c d h ec ed = omega (arith, many-below a p, many-below (b - a) q, ec, ed)
+
+-- ---- all are counted, or none
+pub one-counts : (a b : Bool) (o p : ℕ) → o ≡ cond b 1 0 → p ≡ cond a o 0 → p ≡ cond (a && b) 1 0
+one-counts true b o p eo ep = ep ∙ eo
+one-counts false b o p eo ep = ep
+
+pub all-or-none : (a : Bool) (n : ℕ) (p : ℕ → Bool) → howMany n (λ k. a && p k) ≡ cond a (howMany n p) 0
+all-or-none true n p = refl
+all-or-none false n p = sym (many-false n (λ k. false) (λ k _. refl))
+
+pub none-counts : (a : Bool) (n : ℕ) → 0 ≡ n → 0 ≡ cond a n 0
+none-counts true n e = e
+none-counts false n e = refl
+
+pub so-counted : (a b : Bool) (m n c : ℕ) → a ≡ b → m ≡ n → c ≡ cond b m 0 → c ≡ cond a n 0
+so-counted a b m n c e f h = h ∙ ap₂ (λ (t : Bool) (k : ℕ). cond t k 0) (sym e) f
 
 -- ---- one more of those from a on, and those from 0 on
 pub many-turn : (a i : ℕ) (p : ℕ → Bool) (c o : ℕ) → a ≤ i → c ≡ howMany (i - a) (λ k. p (k + a)) → o ≡ cond (p i) 1 0 → c + o ≡ howMany (i + 1 - a) (λ k. p (k + a))

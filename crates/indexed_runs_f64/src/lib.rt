@@ -16,8 +16,9 @@ ghost use Rattle.indexed_runs.specs.IndexedRuns.{startsMoved, movesAt, movedAt,
 use layout::RAW_FUSED_RANK_LIMIT;
 use rules::RuleF64;
 
-// n cells: the source's place from s by ss, moved by the start read at t by ts; the destination's from d by ds.
-pub fn take_cells(
+// n cells: the source's place from s by ss, moved by the start read at t by ts; the destination's from d by ds. Counts or does not.
+fn take_cells_by(
+    counts: bool,
     src: &[f64],
     starts: &[i64],
     dst: &mut [f64],
@@ -34,7 +35,7 @@ pub fn take_cells(
     limits: &[u64; RAW_FUSED_RANK_LIMIT],
 ) -> u64
     requires { ⌜ Taking (now starts) (now offsets) (now strides) (now limits) count s t d ss ts ds n (length (now src)) (length (now dst)) ⌝ }
-    ensures { λ r. ⌜ (now (dst .exit) ≡ inOrder (cellAt nan (ruleF64 R.Replace) (now (src .entry)) (movedAt (now (starts .entry)) (now (offsets .entry)) (now (strides .entry)) (now (limits .entry)) count (line s ss) (line t ts)) (line d ds)) n (now (dst .entry))) × (r ≡ startsMoved (now (starts .entry)) (now (offsets .entry)) (now (limits .entry)) count n (line t ts)) ⌝ }
+    ensures { λ r. ⌜ (now (dst .exit) ≡ inOrder (cellAt nan (ruleF64 R.Replace) (now (src .entry)) (movedAt (now (starts .entry)) (now (offsets .entry)) (now (strides .entry)) (now (limits .entry)) count (line s ss) (line t ts)) (line d ds)) n (now (dst .entry))) × (r ≡ cond counts (startsMoved (now (starts .entry)) (now (offsets .entry)) (now (limits .entry)) count n (line t ts)) 0) ⌝ }
 {
     let mut slid: u64 = 0;
     let mut i: usize = 0;
@@ -49,10 +50,186 @@ pub fn take_cells(
         let b = (d + ds * k) as usize;
         dst[b] = src[a];
         let one = layout::count_if(y, 1);
-        slid += one;
+        let more = layout::count_if(counts, one);
+        slid += more;
         i += 1;
     }
     slid
+}
+
+// The same, by a loop that counts or one that does not: that is asked once, outside the loop.
+fn take_some(
+    counts: bool,
+    src: &[f64],
+    starts: &[i64],
+    dst: &mut [f64],
+    n: usize,
+    s: i64,
+    t: i64,
+    d: i64,
+    ss: i64,
+    ts: i64,
+    ds: i64,
+    count: usize,
+    offsets: &[i64; RAW_FUSED_RANK_LIMIT],
+    strides: &[i64; RAW_FUSED_RANK_LIMIT],
+    limits: &[u64; RAW_FUSED_RANK_LIMIT],
+) -> u64
+    requires { ⌜ Taking (now starts) (now offsets) (now strides) (now limits) count s t d ss ts ds n (length (now src)) (length (now dst)) ⌝ }
+    ensures { λ r. ⌜ (now (dst .exit) ≡ inOrder (cellAt nan (ruleF64 R.Replace) (now (src .entry)) (movedAt (now (starts .entry)) (now (offsets .entry)) (now (strides .entry)) (now (limits .entry)) count (line s ss) (line t ts)) (line d ds)) n (now (dst .entry))) × (r ≡ cond counts (startsMoved (now (starts .entry)) (now (offsets .entry)) (now (limits .entry)) count n (line t ts)) 0) ⌝ }
+{
+    if counts {
+        return take_cells_by(
+            true,
+            src,
+            starts,
+            dst,
+            n,
+            s,
+            t,
+            d,
+            ss,
+            ts,
+            ds,
+            count,
+            offsets,
+            strides,
+            limits,
+        );
+    }
+    take_cells_by(
+        false,
+        src,
+        starts,
+        dst,
+        n,
+        s,
+        t,
+        d,
+        ss,
+        ts,
+        ds,
+        count,
+        offsets,
+        strides,
+        limits,
+    )
+}
+
+// The same where starts have two components, as a plane's have: loops of their own, in which the compiler writes both out.
+fn take_pairs(
+    counts: bool,
+    src: &[f64],
+    starts: &[i64],
+    dst: &mut [f64],
+    n: usize,
+    s: i64,
+    t: i64,
+    d: i64,
+    ss: i64,
+    ts: i64,
+    ds: i64,
+    offsets: &[i64; RAW_FUSED_RANK_LIMIT],
+    strides: &[i64; RAW_FUSED_RANK_LIMIT],
+    limits: &[u64; RAW_FUSED_RANK_LIMIT],
+) -> u64
+    requires { ⌜ Taking (now starts) (now offsets) (now strides) (now limits) 2 s t d ss ts ds n (length (now src)) (length (now dst)) ⌝ }
+    ensures { λ r. ⌜ (now (dst .exit) ≡ inOrder (cellAt nan (ruleF64 R.Replace) (now (src .entry)) (movedAt (now (starts .entry)) (now (offsets .entry)) (now (strides .entry)) (now (limits .entry)) 2 (line s ss) (line t ts)) (line d ds)) n (now (dst .entry))) × (r ≡ cond counts (startsMoved (now (starts .entry)) (now (offsets .entry)) (now (limits .entry)) 2 n (line t ts)) 0) ⌝ }
+{
+    if counts {
+        return take_cells_by(
+            true,
+            src,
+            starts,
+            dst,
+            n,
+            s,
+            t,
+            d,
+            ss,
+            ts,
+            ds,
+            2,
+            offsets,
+            strides,
+            limits,
+        );
+    }
+    take_cells_by(
+        false,
+        src,
+        starts,
+        dst,
+        n,
+        s,
+        t,
+        d,
+        ss,
+        ts,
+        ds,
+        2,
+        offsets,
+        strides,
+        limits,
+    )
+}
+
+// n cells, where starts have any number of components.
+pub fn take_cells(
+    counts: bool,
+    src: &[f64],
+    starts: &[i64],
+    dst: &mut [f64],
+    n: usize,
+    s: i64,
+    t: i64,
+    d: i64,
+    ss: i64,
+    ts: i64,
+    ds: i64,
+    count: usize,
+    offsets: &[i64; RAW_FUSED_RANK_LIMIT],
+    strides: &[i64; RAW_FUSED_RANK_LIMIT],
+    limits: &[u64; RAW_FUSED_RANK_LIMIT],
+) -> u64
+    requires { ⌜ Taking (now starts) (now offsets) (now strides) (now limits) count s t d ss ts ds n (length (now src)) (length (now dst)) ⌝ }
+    ensures { λ r. ⌜ (now (dst .exit) ≡ inOrder (cellAt nan (ruleF64 R.Replace) (now (src .entry)) (movedAt (now (starts .entry)) (now (offsets .entry)) (now (strides .entry)) (now (limits .entry)) count (line s ss) (line t ts)) (line d ds)) n (now (dst .entry))) × (r ≡ cond counts (startsMoved (now (starts .entry)) (now (offsets .entry)) (now (limits .entry)) count n (line t ts)) 0) ⌝ }
+{
+    if count == 2 {
+        return take_pairs(
+            counts,
+            src,
+            starts,
+            dst,
+            n,
+            s,
+            t,
+            d,
+            ss,
+            ts,
+            ds,
+            offsets,
+            strides,
+            limits,
+        );
+    }
+    take_some(
+        counts,
+        src,
+        starts,
+        dst,
+        n,
+        s,
+        t,
+        d,
+        ss,
+        ts,
+        ds,
+        count,
+        offsets,
+        strides,
+        limits,
+    )
 }
 
 // n cells: the source's place by the start read at t by ts, clamped, times the stride; the destination's from d by ds.
@@ -260,7 +437,7 @@ fn put_cells_by(
 }
 
 // The same, by a loop of each rule's own: the rule is asked once, outside the loop.
-pub fn put_cells(
+fn put_some(
     rule: RuleF64,
     src: &[f64],
     starts: &[i64],
@@ -361,6 +538,164 @@ pub fn put_cells(
             limits,
         ),
     }
+}
+
+// The same where starts have two components, as a plane's have: loops of their own, in which the compiler writes both out.
+fn put_pairs(
+    rule: RuleF64,
+    src: &[f64],
+    starts: &[i64],
+    dst: &mut [f64],
+    n: usize,
+    s: i64,
+    t: i64,
+    d: i64,
+    ss: i64,
+    ts: i64,
+    offsets: &[i64; RAW_FUSED_RANK_LIMIT],
+    strides: &[i64; RAW_FUSED_RANK_LIMIT],
+    limits: &[u64; RAW_FUSED_RANK_LIMIT],
+) -> u64
+    requires { ⌜ Putting (now starts) (now offsets) (now strides) (now limits) 2 s t d ss ts n (length (now src)) (length (now dst)) ⌝ }
+    ensures { λ r. ⌜ (now (dst .exit) ≡ inOrder (cellAt nan (ruleF64 rule) (now (src .entry)) (line s ss) (movedAt (now (starts .entry)) (now (offsets .entry)) (now (strides .entry)) (now (limits .entry)) 2 (λ _. d) (line t ts))) n (now (dst .entry))) × (r ≡ startsMoved (now (starts .entry)) (now (offsets .entry)) (now (limits .entry)) 2 n (line t ts)) ⌝ }
+{
+    match rule {
+        RuleF64::Add => put_cells_by(
+            RuleF64::Add,
+            src,
+            starts,
+            dst,
+            n,
+            s,
+            t,
+            d,
+            ss,
+            ts,
+            2,
+            offsets,
+            strides,
+            limits,
+        ),
+        RuleF64::Lowest => put_cells_by(
+            RuleF64::Lowest,
+            src,
+            starts,
+            dst,
+            n,
+            s,
+            t,
+            d,
+            ss,
+            ts,
+            2,
+            offsets,
+            strides,
+            limits,
+        ),
+        RuleF64::Highest => put_cells_by(
+            RuleF64::Highest,
+            src,
+            starts,
+            dst,
+            n,
+            s,
+            t,
+            d,
+            ss,
+            ts,
+            2,
+            offsets,
+            strides,
+            limits,
+        ),
+        RuleF64::Replace => put_cells_by(
+            RuleF64::Replace,
+            src,
+            starts,
+            dst,
+            n,
+            s,
+            t,
+            d,
+            ss,
+            ts,
+            2,
+            offsets,
+            strides,
+            limits,
+        ),
+        RuleF64::Ceiling(ceiling) => put_cells_by(
+            RuleF64::Ceiling(ceiling),
+            src,
+            starts,
+            dst,
+            n,
+            s,
+            t,
+            d,
+            ss,
+            ts,
+            2,
+            offsets,
+            strides,
+            limits,
+        ),
+    }
+}
+
+// n cells by the rule, where starts have components.
+pub fn put_cells(
+    rule: RuleF64,
+    src: &[f64],
+    starts: &[i64],
+    dst: &mut [f64],
+    n: usize,
+    s: i64,
+    t: i64,
+    d: i64,
+    ss: i64,
+    ts: i64,
+    count: usize,
+    offsets: &[i64; RAW_FUSED_RANK_LIMIT],
+    strides: &[i64; RAW_FUSED_RANK_LIMIT],
+    limits: &[u64; RAW_FUSED_RANK_LIMIT],
+) -> u64
+    requires { ⌜ (0 < count) × Putting (now starts) (now offsets) (now strides) (now limits) count s t d ss ts n (length (now src)) (length (now dst)) ⌝ }
+    ensures { λ r. ⌜ (now (dst .exit) ≡ inOrder (cellAt nan (ruleF64 rule) (now (src .entry)) (line s ss) (movedAt (now (starts .entry)) (now (offsets .entry)) (now (strides .entry)) (now (limits .entry)) count (λ _. d) (line t ts))) n (now (dst .entry))) × (r ≡ startsMoved (now (starts .entry)) (now (offsets .entry)) (now (limits .entry)) count n (line t ts)) ⌝ }
+{
+    if count == 2 {
+        return put_pairs(
+            rule,
+            src,
+            starts,
+            dst,
+            n,
+            s,
+            t,
+            d,
+            ss,
+            ts,
+            offsets,
+            strides,
+            limits,
+        );
+    }
+    put_some(
+        rule,
+        src,
+        starts,
+        dst,
+        n,
+        s,
+        t,
+        d,
+        ss,
+        ts,
+        count,
+        offsets,
+        strides,
+        limits,
+    )
 }
 
 // n cells by the rule: the source's place from s by ss; the destination's by the start read at t by ts, clamped, times the stride.
