@@ -76,6 +76,14 @@ fn windows() -> Vec<(&'static str, Job)> {
             "1×1, 1000000 starts",
             Job::windows(&square, &[1, 1], 1_000_000),
         ),
+        (
+            "1×1×1, 1000000 starts",
+            Job::windows(&[100, 100, 100], &[1, 1, 1], 1_000_000),
+        ),
+        (
+            "64 of rank one, 4096 starts, batch axis first",
+            Job::windows(&[1_000_000], &[64], 4096).batch_first(),
+        ),
         ("16×1, 65536 starts", Job::windows(&square, &[16, 1], 65536)),
         ("1×16, 65536 starts", Job::windows(&square, &[1, 16], 65536)),
         (

@@ -35,7 +35,7 @@ pub fn window_axes(batches: &[u64; RAW_FUSED_RANK_LIMIT], rank: usize) -> usize
     i
 }
 
-// One run: windows of one cell, whose start is read at each. Counts or does not.
+// One run: windows of one cell, whose start is read at each. 0 where it does not count.
 pub fn gather_run(
     counts: bool,
     src: &[i32],
@@ -62,7 +62,8 @@ pub fn gather_run(
     if count == 1 {
         if ss == 0 {
             let at = t + offsets[0];
-            let slid = indexed_runs::take_run(
+            return indexed_runs::take_run(
+                counts,
                 src,
                 starts,
                 dst,
@@ -75,7 +76,6 @@ pub fn gather_run(
                 d,
                 ds,
             );
-            return layout::count_if(counts, slid);
         }
     }
     indexed_runs::take_cells(

@@ -18,7 +18,7 @@ ghost use Rattle.gather_windows.specs.Gathering.{gatheredBy, Gathering, Batched
 use layout::RAW_FUSED_RANK_LIMIT;
 use rules::RuleF64;
 
-// One run: windows of one cell, whose start is read at each. Counts or does not.
+// One run: windows of one cell, whose start is read at each. 0 where it does not count.
 pub fn gather_run(
     counts: bool,
     src: &[f64],
@@ -45,7 +45,8 @@ pub fn gather_run(
     if count == 1 {
         if ss == 0 {
             let at = t + offsets[0];
-            let slid = indexed_runs_f64::take_run(
+            return indexed_runs_f64::take_run(
+                counts,
                 src,
                 starts,
                 dst,
@@ -58,7 +59,6 @@ pub fn gather_run(
                 d,
                 ds,
             );
-            return layout::count_if(counts, slid);
         }
     }
     indexed_runs_f64::take_cells(

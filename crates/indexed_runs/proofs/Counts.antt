@@ -84,5 +84,5 @@ module _ (starts : List ℤ) (t ts : ℤ) (i n c : ℕ) (ft : SFits w64 t) (fts 
 pub ones-count : (starts : List ℤ) (limit : ℤ) (i n c : ℕ) → SFits w64 limit → i ≡ n → c ≡ howMany i (movesAt starts pos (natAbs (read limit))) → c ≡ howMany n (movesAt starts pos (natAbs limit))
 ones-count starts limit i n c fl e h = h ∙ ap₂ (λ (v : ℤ) (m : ℕ). howMany m (movesAt starts pos (natAbs v))) (back fl) e
 
-pub few-count : (starts : List ℤ) (limit : ℤ) (a i n c : ℕ) → SFits w64 limit → i ≡ n → c ≡ howMany (i - a) (λ k. movesAt starts pos (natAbs (read limit)) (k + a)) → c ≡ howMany (n - a) (λ k. movesAt starts pos (natAbs limit) (k + a))
-few-count starts limit a i n c fl e h = h ∙ ap₂ (λ (v : ℤ) (m : ℕ). howMany (m - a) (λ k. movesAt starts pos (natAbs v) (k + a))) (back fl) e
+pub few-count : (counts : Bool) (starts : List ℤ) (limit : ℤ) (a i n c : ℕ) → SFits w64 limit → i ≡ n → c ≡ howMany (i - a) (λ k. counts && movesAt starts pos (natAbs (read limit)) (k + a)) → c ≡ howMany (n - a) (λ k. counts && movesAt starts pos (natAbs limit) (k + a))
+few-count counts starts limit a i n c fl e h = h ∙ ap₂ (λ (v : ℤ) (m : ℕ). howMany (m - a) (λ k. counts && movesAt starts pos (natAbs v) (k + a))) (back fl) e

@@ -1,8 +1,8 @@
 // Written by tests/twins from crates/indexed_runs/src/lib.rt.
 // Runs whose places on one side are given by starts, each clamped: windows of one cell, whose start changes with each cell. Each hands
-// back how many of its starts the clamp moved.
+// back how many of its starts the clamp moved; a take that is told not to count, 0.
 ghost use mathlib.Core.Path.{_≡_};
-ghost use mathlib.Core.Bool.{cond};
+ghost use mathlib.Core.Bool.{cond, _&&_};
 ghost use Prim.Native.Nat.{_+_, _*_, _-_, _<_, _≤_};
 ghost use lib.Ieee.{nan};
 ghost use lib.IntN.{pos, natAbs};
@@ -16,7 +16,7 @@ ghost use Rattle.indexed_runs.specs.IndexedRuns.{startsMoved, movesAt, movedAt,
 use layout::RAW_FUSED_RANK_LIMIT;
 use rules::RuleF64;
 
-// n cells: the source's place from s by ss, moved by the start read at t by ts; the destination's from d by ds. Counts or does not.
+// n cells: the source's place from s by ss, moved by the start read at t by ts; the destination's from d by ds.
 fn take_cells_by(
     counts: bool,
     src: &[f64],
@@ -233,7 +233,8 @@ pub fn take_cells(
 }
 
 // n cells: the source's place by the start read at t by ts, clamped, times the stride; the destination's from d by ds.
-pub fn take_strided(
+fn take_strided_by(
+    counts: bool,
     src: &[f64],
     starts: &[i64],
     dst: &mut [f64],
@@ -247,7 +248,7 @@ pub fn take_strided(
     ds: i64,
 ) -> u64
     requires { ⌜ Clamped (now starts) t ts base stride d ds limit n (length (now src)) (length (now dst)) ⌝ }
-    ensures { λ r. ⌜ (now (dst .exit) ≡ inOrder (cellAt nan (ruleF64 R.Replace) (now (src .entry)) (clampedAt (now (starts .entry)) (line t ts) base stride limit) (line d ds)) n (now (dst .entry))) × (r ≡ howMany n (movesAt (now (starts .entry)) (line t ts) limit)) ⌝ }
+    ensures { λ r. ⌜ (now (dst .exit) ≡ inOrder (cellAt nan (ruleF64 R.Replace) (now (src .entry)) (clampedAt (now (starts .entry)) (line t ts) base stride limit) (line d ds)) n (now (dst .entry))) × (r ≡ cond counts (howMany n (movesAt (now (starts .entry)) (line t ts) limit)) 0) ⌝ }
 {
     let mut slid: u64 = 0;
     let mut i: usize = 0;
@@ -262,108 +263,16 @@ pub fn take_strided(
         let b = (d + ds * k) as usize;
         dst[b] = src[a];
         let one = layout::count_if(m, 1);
-        slid += one;
+        let more = layout::count_if(counts, one);
+        slid += more;
         i += 1;
     }
     slid
 }
 
-// Cell i: of the source where start i says, clamped; of the destination in order. 1 where the start is moved.
-fn take_one(src: &[f64], starts: &[i64], dst: &mut [f64], limit: i64, i: usize) -> u64
-    requires { ⌜ (i < length (now dst)) × Ones (now starts) limit (length (now dst)) (length (now src)) ⌝ }
-    ensures { λ r. ⌜ (now (dst .exit) ≡ cellAt nan (ruleF64 R.Replace) (now (src .entry)) (oneAt (now (starts .entry)) limit) pos i (now (dst .entry))) × (r ≡ cond (movesAt (now (starts .entry)) pos (natAbs limit) i) 1 0) ⌝ }
-{
-    let x = starts[i];
-    let y = indexed_runs::clamped(x, limit);
-    let at = y.at;
-    let m = y.moved;
-    let a = at as usize;
-    dst[i] = src[a];
-    layout::count_if(m, 1)
-}
-
-// The cells from `from` up to `to`.
-fn take_few(src: &[f64], starts: &[i64], dst: &mut [f64], limit: i64, from: usize, to: usize) -> u64
-    requires { ⌜ (from ≤ to) × (to ≤ length (now dst)) × Ones (now starts) limit (length (now dst)) (length (now src)) ⌝ }
-    ensures { λ r. ⌜ (now (dst .exit) ≡ inOrder (λ k. cellAt nan (ruleF64 R.Replace) (now (src .entry)) (oneAt (now (starts .entry)) limit) pos (k + from)) (to - from) (now (dst .entry))) × (r ≡ howMany (to - from) (λ k. movesAt (now (starts .entry)) pos (natAbs limit) (k + from))) ⌝ }
-{
-    let mut slid: u64 = 0;
-    let mut i = from;
-    while i < to {
-        let one = take_one(src, starts, dst, limit, i);
-        slid += one;
-        i += 1;
-    }
-    slid
-}
-
-// A cell for each start: of the source where the start says, clamped; of the destination in order. `width` to a turn, behind those
-// that are over. That the limit is not below 0 is asked for the compiler's sake, which then asks once whether a start is outside.
-fn take_turns(
-    src: &[f64],
-    starts: &[i64],
-    dst: &mut [f64],
-    limit: i64,
-    over: usize,
-    turns: usize,
-    width: usize,
-) -> u64
-    requires { ⌜ (over + width * turns ≡ length (now dst)) × Ones (now starts) limit (length (now dst)) (length (now src)) ⌝ }
-    ensures { λ r. ⌜ (now (dst .exit) ≡ inOrder (cellAt nan (ruleF64 R.Replace) (now (src .entry)) (oneAt (now (starts .entry)) limit) pos) (length (now (dst .entry))) (now (dst .entry))) × (r ≡ howMany (length (now (dst .entry))) (movesAt (now (starts .entry)) pos (natAbs limit))) ⌝ }
-{
-    if limit < 0 {
-        return 0;
-    }
-    let mut slid = take_few(src, starts, dst, limit, 0, over);
-    let mut i = over;
-    let mut left = turns;
-    while 0 < left {
-        let e = i + width;
-        let few = take_few(src, starts, dst, limit, i, e);
-        slid += few;
-        i = e;
-        left -= 1;
-    }
-    slid
-}
-
-// The same, four to a turn.
-pub fn take_ones(src: &[f64], starts: &[i64], dst: &mut [f64], limit: i64) -> u64
-    requires { ⌜ Ones (now starts) limit (length (now dst)) (length (now src)) ⌝ }
-    ensures { λ r. ⌜ (now (dst .exit) ≡ inOrder (cellAt nan (ruleF64 R.Replace) (now (src .entry)) (oneAt (now (starts .entry)) limit) pos) (length (now (dst .entry))) (now (dst .entry))) × (r ≡ howMany (length (now (dst .entry))) (movesAt (now (starts .entry)) pos (natAbs limit))) ⌝ }
-{
-    let n = dst.len();
-    let over = n % 4;
-    let fours = n / 4;
-    take_turns(src, starts, dst, limit, over, fours, 4)
-}
-
-// n cells whose every step is 1: on the parts of the starts and the destination that they are, and the source from the base on.
-pub fn take_row(
-    src: &[f64],
-    starts: &[i64],
-    dst: &mut [f64],
-    n: usize,
-    t: i64,
-    base: i64,
-    limit: u64,
-    d: i64,
-) -> u64
-    requires { ⌜ (0 < n) × Clamped (now starts) t (pos 1) base (pos 1) d (pos 1) limit n (length (now src)) (length (now dst)) ⌝ }
-    ensures { λ r. ⌜ (now (dst .exit) ≡ inOrder (cellAt nan (ruleF64 R.Replace) (now (src .entry)) (clampedAt (now (starts .entry)) (line t (pos 1)) base (pos 1) limit) (line d (pos 1))) n (now (dst .entry))) × (r ≡ howMany n (movesAt (now (starts .entry)) (line t (pos 1)) limit)) ⌝ }
-{
-    let l = limit as i64;
-    let a = t as usize;
-    let b = d as usize;
-    let c = base as usize;
-    let e = a + n;
-    let f = b + n;
-    let m = src.len();
-    take_ones(&src[c..m], &starts[a..e], &mut dst[b..f], l)
-}
-
-// n cells: by take_row where every step is 1, else by take_strided.
-pub fn take_run(
+// The same, by a loop that counts or one that does not: that is asked once, outside the loop.
+pub fn take_strided(
+    counts: bool,
     src: &[f64],
     starts: &[i64],
     dst: &mut [f64],
@@ -377,7 +286,152 @@ pub fn take_run(
     ds: i64,
 ) -> u64
     requires { ⌜ Clamped (now starts) t ts base stride d ds limit n (length (now src)) (length (now dst)) ⌝ }
-    ensures { λ r. ⌜ (now (dst .exit) ≡ inOrder (cellAt nan (ruleF64 R.Replace) (now (src .entry)) (clampedAt (now (starts .entry)) (line t ts) base stride limit) (line d ds)) n (now (dst .entry))) × (r ≡ howMany n (movesAt (now (starts .entry)) (line t ts) limit)) ⌝ }
+    ensures { λ r. ⌜ (now (dst .exit) ≡ inOrder (cellAt nan (ruleF64 R.Replace) (now (src .entry)) (clampedAt (now (starts .entry)) (line t ts) base stride limit) (line d ds)) n (now (dst .entry))) × (r ≡ cond counts (howMany n (movesAt (now (starts .entry)) (line t ts) limit)) 0) ⌝ }
+{
+    if counts {
+        return take_strided_by(true, src, starts, dst, n, t, ts, base, stride, limit, d, ds);
+    }
+    take_strided_by(
+        false,
+        src,
+        starts,
+        dst,
+        n,
+        t,
+        ts,
+        base,
+        stride,
+        limit,
+        d,
+        ds,
+    )
+}
+
+// Cell i: of the source where start i says, clamped; of the destination in order. 1 where it counts and the start is moved.
+fn take_one(counts: bool, src: &[f64], starts: &[i64], dst: &mut [f64], limit: i64, i: usize) -> u64
+    requires { ⌜ (i < length (now dst)) × Ones (now starts) limit (length (now dst)) (length (now src)) ⌝ }
+    ensures { λ r. ⌜ (now (dst .exit) ≡ cellAt nan (ruleF64 R.Replace) (now (src .entry)) (oneAt (now (starts .entry)) limit) pos i (now (dst .entry))) × (r ≡ cond (counts && movesAt (now (starts .entry)) pos (natAbs limit) i) 1 0) ⌝ }
+{
+    let x = starts[i];
+    let y = indexed_runs::clamped(x, limit);
+    let at = y.at;
+    let m = y.moved;
+    let a = at as usize;
+    dst[i] = src[a];
+    let one = layout::count_if(m, 1);
+    layout::count_if(counts, one)
+}
+
+// The cells from `from` up to `to`.
+fn take_few(
+    counts: bool,
+    src: &[f64],
+    starts: &[i64],
+    dst: &mut [f64],
+    limit: i64,
+    from: usize,
+    to: usize,
+) -> u64
+    requires { ⌜ (from ≤ to) × (to ≤ length (now dst)) × Ones (now starts) limit (length (now dst)) (length (now src)) ⌝ }
+    ensures { λ r. ⌜ (now (dst .exit) ≡ inOrder (λ k. cellAt nan (ruleF64 R.Replace) (now (src .entry)) (oneAt (now (starts .entry)) limit) pos (k + from)) (to - from) (now (dst .entry))) × (r ≡ howMany (to - from) (λ k. counts && movesAt (now (starts .entry)) pos (natAbs limit) (k + from))) ⌝ }
+{
+    let mut slid: u64 = 0;
+    let mut i = from;
+    while i < to {
+        let one = take_one(counts, src, starts, dst, limit, i);
+        slid += one;
+        i += 1;
+    }
+    slid
+}
+
+// A cell for each start: of the source where the start says, clamped; of the destination in order. `width` to a turn, behind those
+// that are over. That the limit is not below 0 is asked for the compiler's sake, which then asks once whether a start is outside.
+fn take_turns(
+    counts: bool,
+    src: &[f64],
+    starts: &[i64],
+    dst: &mut [f64],
+    limit: i64,
+    over: usize,
+    turns: usize,
+    width: usize,
+) -> u64
+    requires { ⌜ (over + width * turns ≡ length (now dst)) × Ones (now starts) limit (length (now dst)) (length (now src)) ⌝ }
+    ensures { λ r. ⌜ (now (dst .exit) ≡ inOrder (cellAt nan (ruleF64 R.Replace) (now (src .entry)) (oneAt (now (starts .entry)) limit) pos) (length (now (dst .entry))) (now (dst .entry))) × (r ≡ cond counts (howMany (length (now (dst .entry))) (movesAt (now (starts .entry)) pos (natAbs limit))) 0) ⌝ }
+{
+    if limit < 0 {
+        return 0;
+    }
+    let mut slid = take_few(counts, src, starts, dst, limit, 0, over);
+    let mut i = over;
+    let mut left = turns;
+    while 0 < left {
+        let e = i + width;
+        let few = take_few(counts, src, starts, dst, limit, i, e);
+        slid += few;
+        i = e;
+        left -= 1;
+    }
+    slid
+}
+
+// The same, four to a turn, by loops that count or loops that do not.
+pub fn take_ones(counts: bool, src: &[f64], starts: &[i64], dst: &mut [f64], limit: i64) -> u64
+    requires { ⌜ Ones (now starts) limit (length (now dst)) (length (now src)) ⌝ }
+    ensures { λ r. ⌜ (now (dst .exit) ≡ inOrder (cellAt nan (ruleF64 R.Replace) (now (src .entry)) (oneAt (now (starts .entry)) limit) pos) (length (now (dst .entry))) (now (dst .entry))) × (r ≡ cond counts (howMany (length (now (dst .entry))) (movesAt (now (starts .entry)) pos (natAbs limit))) 0) ⌝ }
+{
+    let n = dst.len();
+    let over = n % 4;
+    let fours = n / 4;
+    if counts {
+        return take_turns(true, src, starts, dst, limit, over, fours, 4);
+    }
+    take_turns(false, src, starts, dst, limit, over, fours, 4)
+}
+
+// n cells whose every step is 1: on the parts of the starts and the destination that they are, and the source from the base on.
+pub fn take_row(
+    counts: bool,
+    src: &[f64],
+    starts: &[i64],
+    dst: &mut [f64],
+    n: usize,
+    t: i64,
+    base: i64,
+    limit: u64,
+    d: i64,
+) -> u64
+    requires { ⌜ (0 < n) × Clamped (now starts) t (pos 1) base (pos 1) d (pos 1) limit n (length (now src)) (length (now dst)) ⌝ }
+    ensures { λ r. ⌜ (now (dst .exit) ≡ inOrder (cellAt nan (ruleF64 R.Replace) (now (src .entry)) (clampedAt (now (starts .entry)) (line t (pos 1)) base (pos 1) limit) (line d (pos 1))) n (now (dst .entry))) × (r ≡ cond counts (howMany n (movesAt (now (starts .entry)) (line t (pos 1)) limit)) 0) ⌝ }
+{
+    let l = limit as i64;
+    let a = t as usize;
+    let b = d as usize;
+    let c = base as usize;
+    let e = a + n;
+    let f = b + n;
+    let m = src.len();
+    take_ones(counts, &src[c..m], &starts[a..e], &mut dst[b..f], l)
+}
+
+// n cells: by take_row where every step is 1, else by take_strided.
+pub fn take_run(
+    counts: bool,
+    src: &[f64],
+    starts: &[i64],
+    dst: &mut [f64],
+    n: usize,
+    t: i64,
+    ts: i64,
+    base: i64,
+    stride: i64,
+    limit: u64,
+    d: i64,
+    ds: i64,
+) -> u64
+    requires { ⌜ Clamped (now starts) t ts base stride d ds limit n (length (now src)) (length (now dst)) ⌝ }
+    ensures { λ r. ⌜ (now (dst .exit) ≡ inOrder (cellAt nan (ruleF64 R.Replace) (now (src .entry)) (clampedAt (now (starts .entry)) (line t ts) base stride limit) (line d ds)) n (now (dst .entry))) × (r ≡ cond counts (howMany n (movesAt (now (starts .entry)) (line t ts) limit)) 0) ⌝ }
 {
     if n == 0 {
         return 0;
@@ -385,11 +439,24 @@ pub fn take_run(
     if ts == 1 {
         if stride == 1 {
             if ds == 1 {
-                return take_row(src, starts, dst, n, t, base, limit, d);
+                return take_row(counts, src, starts, dst, n, t, base, limit, d);
             }
         }
     }
-    take_strided(src, starts, dst, n, t, ts, base, stride, limit, d, ds)
+    take_strided(
+        counts,
+        src,
+        starts,
+        dst,
+        n,
+        t,
+        ts,
+        base,
+        stride,
+        limit,
+        d,
+        ds,
+    )
 }
 
 // n cells by the rule, where starts have components: the source's place from s by ss; the destination's is d, moved by the start read

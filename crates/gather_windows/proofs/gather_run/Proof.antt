@@ -41,12 +41,11 @@ same-length c = search needs
 
 returns-2 : tie.Need-returns-2
 returns-2 c =
-    let k : tie.After-count-if = search in
     let t : tie.After-take-run = search in
     let s : tie.After-take-run-arg2 = search in
     let b : tie.After-at = search in
     let a : tie.Start = search in
-    (single-end _ _ _ _ _ _ _ _ _ _ _ _ _ _ (a .pre) (b .before .before .before .if1 .left) (b .before .before .if2 .taken) (a .fits .ss) (b .before .if3 .taken) (omega (arith, a .good .1 .1 .0 .1)) (a .fits .s) (a .fits .t) (a .fits .d) (a .fits .ts) (a .fits .ds) (sfits-of (b .at .given)) (pos 0) (ruleI32 R.Replace) (a .args .src .now) (a .args .dst .now) _ (sfits-of (s .take-run-arg2 .given)) (t .take-run .ensures .0), so-counted (a .args .counts) (a .args .counts) _ _ _ refl (single-count _ _ _ _ _ _ _ _ _ _ _ _ _ _ (a .pre) (b .before .before .before .if1 .left) (b .before .before .if2 .taken) (a .fits .ss) (b .before .if3 .taken) (omega (arith, a .good .1 .1 .0 .1)) (a .fits .s) (a .fits .t) (a .fits .d) (a .fits .ts) (a .fits .ds) (sfits-of (b .at .given)) _ (t .take-run .ensures .1)) (k .count-if .ensures))
+    (single-end _ _ _ _ _ _ _ _ _ _ _ _ _ _ (a .pre) (b .before .before .before .if1 .left) (b .before .before .if2 .taken) (a .fits .ss) (b .before .if3 .taken) (omega (arith, a .good .1 .1 .0 .1)) (a .fits .s) (a .fits .t) (a .fits .d) (a .fits .ts) (a .fits .ds) (sfits-of (b .at .given)) (pos 0) (ruleI32 R.Replace) (a .args .src .now) (a .args .dst .now) _ (sfits-of (s .take-run-arg2 .given)) (t .take-run .ensures .0), so-counted (a .args .counts) (a .args .counts) _ _ _ refl (single-count _ _ _ _ _ _ _ _ _ _ _ _ _ _ (a .pre) (b .before .before .before .if1 .left) (b .before .before .if2 .taken) (a .fits .ss) (b .before .if3 .taken) (omega (arith, a .good .1 .1 .0 .1)) (a .fits .s) (a .fits .t) (a .fits .d) (a .fits .ts) (a .fits .ds) (sfits-of (b .at .given)) _ refl) (t .take-run .ensures .1))
 
 take-cells-requires : tie.Need-take-cells-requires
 take-cells-requires c κs =
@@ -72,7 +71,6 @@ gather-run-spec =
     element-copy-out-take-run
     element-copy-out-take-run-2
     take-run-requires
-    (λ c κs. tt)
     same-length
     returns-2
     take-cells-requires

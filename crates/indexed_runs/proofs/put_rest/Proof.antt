@@ -1,3 +1,4 @@
+use mathlib.Core.Bool.{true}
 use mathlib.Core.Path.{refl}
 use borrow.Author.Needs.{needs}
 use lib.ListN.{length}
@@ -42,7 +43,7 @@ returns c =
     let p : tie.After-put-turns = search in
     let a : tie.Start = search in
     rw (e .enum-told .given .1)
-    (put-few-end (pos 0) (ruleI32 R.Add) (a .args .src .now) (a .args .starts .now) (a .args .limit) (a .args .from) (length (a .args .src .now)) (length (a .args .src .now)) (a .args .dst .now) _ (a .fits .limit) refl (p .put-turns .ensures .0), few-count (a .args .starts .now) (a .args .limit) (a .args .from) (length (a .args .src .now)) (length (a .args .src .now)) _ (a .fits .limit) refl (p .put-turns .ensures .1))
+    (put-few-end (pos 0) (ruleI32 R.Add) (a .args .src .now) (a .args .starts .now) (a .args .limit) (a .args .from) (length (a .args .src .now)) (length (a .args .src .now)) (a .args .dst .now) _ (a .fits .limit) refl (p .put-turns .ensures .0), few-count true (a .args .starts .now) (a .args .limit) (a .args .from) (length (a .args .src .now)) (length (a .args .src .now)) _ (a .fits .limit) refl (p .put-turns .ensures .1))
 
 same-length-2 : tie.Need-same-length-2
 same-length-2 c = search needs
@@ -53,7 +54,7 @@ returns-2 c =
     let p : tie.After-put-turns2 = search in
     let a : tie.Start = search in
     rw (e .enum-told2 .given .1)
-    (put-few-end (pos 0) (ruleI32 R.Lowest) (a .args .src .now) (a .args .starts .now) (a .args .limit) (a .args .from) (length (a .args .src .now)) (length (a .args .src .now)) (a .args .dst .now) _ (a .fits .limit) refl (p .put-turns2 .ensures .0), few-count (a .args .starts .now) (a .args .limit) (a .args .from) (length (a .args .src .now)) (length (a .args .src .now)) _ (a .fits .limit) refl (p .put-turns2 .ensures .1))
+    (put-few-end (pos 0) (ruleI32 R.Lowest) (a .args .src .now) (a .args .starts .now) (a .args .limit) (a .args .from) (length (a .args .src .now)) (length (a .args .src .now)) (a .args .dst .now) _ (a .fits .limit) refl (p .put-turns2 .ensures .0), few-count true (a .args .starts .now) (a .args .limit) (a .args .from) (length (a .args .src .now)) (length (a .args .src .now)) _ (a .fits .limit) refl (p .put-turns2 .ensures .1))
 
 same-length-3 : tie.Need-same-length-3
 same-length-3 c = search needs
@@ -64,7 +65,7 @@ returns-3 c =
     let p : tie.After-put-turns3 = search in
     let a : tie.Start = search in
     rw (e .enum-told3 .given .1)
-    (put-few-end (pos 0) (ruleI32 R.Highest) (a .args .src .now) (a .args .starts .now) (a .args .limit) (a .args .from) (length (a .args .src .now)) (length (a .args .src .now)) (a .args .dst .now) _ (a .fits .limit) refl (p .put-turns3 .ensures .0), few-count (a .args .starts .now) (a .args .limit) (a .args .from) (length (a .args .src .now)) (length (a .args .src .now)) _ (a .fits .limit) refl (p .put-turns3 .ensures .1))
+    (put-few-end (pos 0) (ruleI32 R.Highest) (a .args .src .now) (a .args .starts .now) (a .args .limit) (a .args .from) (length (a .args .src .now)) (length (a .args .src .now)) (a .args .dst .now) _ (a .fits .limit) refl (p .put-turns3 .ensures .0), few-count true (a .args .starts .now) (a .args .limit) (a .args .from) (length (a .args .src .now)) (length (a .args .src .now)) _ (a .fits .limit) refl (p .put-turns3 .ensures .1))
 
 same-length-4 : tie.Need-same-length-4
 same-length-4 c = search needs
@@ -75,7 +76,7 @@ returns-4 c =
     let p : tie.After-put-turns4 = search in
     let a : tie.Start = search in
     rw (e .enum-told4 .given .1)
-    (put-few-end (pos 0) (ruleI32 R.Replace) (a .args .src .now) (a .args .starts .now) (a .args .limit) (a .args .from) (length (a .args .src .now)) (length (a .args .src .now)) (a .args .dst .now) _ (a .fits .limit) refl (p .put-turns4 .ensures .0), few-count (a .args .starts .now) (a .args .limit) (a .args .from) (length (a .args .src .now)) (length (a .args .src .now)) _ (a .fits .limit) refl (p .put-turns4 .ensures .1))
+    (put-few-end (pos 0) (ruleI32 R.Replace) (a .args .src .now) (a .args .starts .now) (a .args .limit) (a .args .from) (length (a .args .src .now)) (length (a .args .src .now)) (a .args .dst .now) _ (a .fits .limit) refl (p .put-turns4 .ensures .0), few-count true (a .args .starts .now) (a .args .limit) (a .args .from) (length (a .args .src .now)) (length (a .args .src .now)) _ (a .fits .limit) refl (p .put-turns4 .ensures .1))
 
 pub put-rest-spec : {M : Type 1} → statement M
 put-rest-spec =

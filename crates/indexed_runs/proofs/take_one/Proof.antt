@@ -1,5 +1,5 @@
 use mathlib.Core.Path.{_≡_, refl, ap, _∙_}
-use mathlib.Core.Bool.{Bool, cond}
+use mathlib.Core.Bool.{Bool, cond, _&&_}
 use native.Mathlib.Omega.{arith}
 use borrow.Author.Needs.{needs, sfits-of}
 use lib.ListN.{length}
@@ -10,6 +10,7 @@ use Rattle.rules.specs.declared.Rule.the-variants as R
 use Rattle.runs.proofs.Place.{read, Index}
 use Rattle.indexed_runs.specs.IndexedRuns.{oneAt}
 use Rattle.indexed_runs.proofs.Ones.{ones-index, ones-is, ones-moved, one-turn}
+use Rattle.indexed_runs.proofs.Counts.{one-counts}
 use Rattle.indexed_runs.proofs.take_one.Statement.{statement}
 use Rattle.indexed_runs.proofs.take_one.Tie as tie
 
@@ -19,10 +20,10 @@ module _ (c : tie.After-clamped) where
   at-start = search
 
   place : Index (c .clamped .result .at) (length (at-start .args .src .now))
-  place = let a = at-start in ones-index _ _ _ _ (a .pre .1) (a .fits .limit) (omega (arith, a .good .0 .1)) _ (a .pre .0) (sfits-of (c .before .x .given)) _ (c .clamped .ensures .0)
+  place = let a = at-start in ones-index _ _ _ _ (a .pre .1) (a .fits .limit) (omega (arith, a .good .1 .0 .1)) _ (a .pre .0) (sfits-of (c .before .x .given)) _ (c .clamped .ensures .0)
 
   by-start : pos (natAbs (read (c .clamped .result .at))) ≡ oneAt (at-start .args .starts .now) (at-start .args .limit) (at-start .args .i)
-  by-start = let a = at-start in ones-is _ _ _ _ (a .pre .1) (a .fits .limit) (omega (arith, a .good .0 .1)) _ (a .pre .0) (sfits-of (c .before .x .given)) _ (c .clamped .ensures .0)
+  by-start = let a = at-start in ones-is _ _ _ _ (a .pre .1) (a .fits .limit) (omega (arith, a .good .1 .0 .1)) _ (a .pre .0) (sfits-of (c .before .x .given)) _ (c .clamped .ensures .0)
 
 mul-x : tie.Need-mul-x
 mul-x c = search needs
@@ -41,13 +42,13 @@ cast-a c =
 mul-dst : tie.Need-mul-dst
 mul-dst c =
     let l : tie.After-clamped = search in
-    omega (arith, place l .below, at-start l .good .0 .1)
+    omega (arith, place l .below, at-start l .good .1 .0 .1)
 
 shared-slice-copy-out-dst : tie.Need-shared-slice-copy-out-dst
 shared-slice-copy-out-dst c = let l : tie.After-clamped = search in place l .below
 
-mul-t16 : tie.Need-mul-t16
-mul-t16 c = search needs
+mul-t18 : tie.Need-mul-t18
+mul-t18 c = search needs
 
 slice-set-from-dst : tie.Need-slice-set-from-dst
 slice-set-from-dst c = search needs
@@ -59,8 +60,8 @@ returns : tie.Need-returns
 returns c =
     let q : tie.After-clamped = search in
     let a = at-start q in (
-      one-turn (pos 0) (ruleI32 R.Replace) (a .args .src .now) (oneAt (a .args .starts .now) (a .args .limit)) pos (a .args .dst .now) (a .args .i) (natAbs (read (q .clamped .result .at))) (a .args .i) _ (by-start q) refl (back (sfits-of (c .before .dst .given))),
-      c .count-if .ensures ∙ ap (λ (b : Bool). cond b 1 0) (ones-moved (a .args .starts .now) (a .args .limit) (a .args .i) (a .fits .limit) (sfits-of (q .before .x .given)) _ (q .clamped .ensures .1)),
+      one-turn (pos 0) (ruleI32 R.Replace) (a .args .src .now) (oneAt (a .args .starts .now) (a .args .limit)) pos (a .args .dst .now) (a .args .i) (natAbs (read (q .clamped .result .at))) (a .args .i) _ (by-start q) refl (back (sfits-of (c .before .before .dst .given))),
+      one-counts (a .args .counts) _ _ _ (c .before .count-if .ensures) (c .count-if2 .ensures) ∙ ap (λ (b : Bool). cond (a .args .counts && b) 1 0) (ones-moved (a .args .starts .now) (a .args .limit) (a .args .i) (a .fits .limit) (sfits-of (q .before .x .given)) _ (q .clamped .ensures .1)),
     )
 
 pub take-one-spec : {M : Type 1} → statement M
@@ -73,8 +74,9 @@ take-one-spec =
     cast-a
     mul-dst
     shared-slice-copy-out-dst
-    mul-t16
+    mul-t18
     slice-set-from-dst
+    (λ c κs. tt)
     (λ c κs. tt)
     same-length
     returns)

@@ -1,4 +1,5 @@
 -- Written by tests/twins from crates/indexed_runs/proofs/put_few/Proof.antt.
+use mathlib.Core.Bool.{true}
 use mathlib.Core.Path.{_≡_, refl, _∙_}
 use Prim.Native.Nat.{_+_, _-_, _≤_}
 use native.Mathlib.Omega.{arith}
@@ -70,7 +71,7 @@ returns : tie.Need-returns Inv-loop μ-loop
 returns c =
     let h = c .before in
     let a : tie.Start Inv-loop μ-loop = search in
-    (put-few-end nan (ruleF64 (a .args .rule)) (a .args .src .now) (a .args .starts .now) (a .args .limit) (a .args .from) (h .loop .i) (a .args .to) (a .args .dst .now) (h .loop .dst) (a .fits .limit) (omega (arith, h .loop .inv .1, c .loop-test .left)) (h .loop .inv .3), few-count (a .args .starts .now) (a .args .limit) (a .args .from) (h .loop .i) (a .args .to) (h .loop .slid) (a .fits .limit) (omega (arith, h .loop .inv .1, c .loop-test .left)) (h .loop .inv .4))
+    (put-few-end nan (ruleF64 (a .args .rule)) (a .args .src .now) (a .args .starts .now) (a .args .limit) (a .args .from) (h .loop .i) (a .args .to) (a .args .dst .now) (h .loop .dst) (a .fits .limit) (omega (arith, h .loop .inv .1, c .loop-test .left)) (h .loop .inv .3), few-count true (a .args .starts .now) (a .args .limit) (a .args .from) (h .loop .i) (a .args .to) (h .loop .slid) (a .fits .limit) (omega (arith, h .loop .inv .1, c .loop-test .left)) (h .loop .inv .4))
 
 pub put-few-spec : {M : Type 1} → statement M
 put-few-spec =

@@ -1,4 +1,5 @@
 -- Written by tests/twins from crates/indexed_runs/proofs/put_rest/Proof.antt.
+use mathlib.Core.Bool.{true}
 use mathlib.Core.Path.{refl}
 use borrow.Author.Needs.{needs}
 use lib.Ieee.{nan}
@@ -49,7 +50,7 @@ returns c =
     let p : tie.After-put-turns = search in
     let a : tie.Start = search in
     rw (e .enum-told .given .1)
-    (put-few-end nan (ruleF64 R.Add) (a .args .src .now) (a .args .starts .now) (a .args .limit) (a .args .from) (length (a .args .src .now)) (length (a .args .src .now)) (a .args .dst .now) _ (a .fits .limit) refl (p .put-turns .ensures .0), few-count (a .args .starts .now) (a .args .limit) (a .args .from) (length (a .args .src .now)) (length (a .args .src .now)) _ (a .fits .limit) refl (p .put-turns .ensures .1))
+    (put-few-end nan (ruleF64 R.Add) (a .args .src .now) (a .args .starts .now) (a .args .limit) (a .args .from) (length (a .args .src .now)) (length (a .args .src .now)) (a .args .dst .now) _ (a .fits .limit) refl (p .put-turns .ensures .0), few-count true (a .args .starts .now) (a .args .limit) (a .args .from) (length (a .args .src .now)) (length (a .args .src .now)) _ (a .fits .limit) refl (p .put-turns .ensures .1))
 
 same-length-2 : tie.Need-same-length-2
 same-length-2 c = search needs
@@ -60,7 +61,7 @@ returns-2 c =
     let p : tie.After-put-turns2 = search in
     let a : tie.Start = search in
     rw (e .enum-told2 .given .1)
-    (put-few-end nan (ruleF64 R.Lowest) (a .args .src .now) (a .args .starts .now) (a .args .limit) (a .args .from) (length (a .args .src .now)) (length (a .args .src .now)) (a .args .dst .now) _ (a .fits .limit) refl (p .put-turns2 .ensures .0), few-count (a .args .starts .now) (a .args .limit) (a .args .from) (length (a .args .src .now)) (length (a .args .src .now)) _ (a .fits .limit) refl (p .put-turns2 .ensures .1))
+    (put-few-end nan (ruleF64 R.Lowest) (a .args .src .now) (a .args .starts .now) (a .args .limit) (a .args .from) (length (a .args .src .now)) (length (a .args .src .now)) (a .args .dst .now) _ (a .fits .limit) refl (p .put-turns2 .ensures .0), few-count true (a .args .starts .now) (a .args .limit) (a .args .from) (length (a .args .src .now)) (length (a .args .src .now)) _ (a .fits .limit) refl (p .put-turns2 .ensures .1))
 
 same-length-3 : tie.Need-same-length-3
 same-length-3 c = search needs
@@ -71,7 +72,7 @@ returns-3 c =
     let p : tie.After-put-turns3 = search in
     let a : tie.Start = search in
     rw (e .enum-told3 .given .1)
-    (put-few-end nan (ruleF64 R.Highest) (a .args .src .now) (a .args .starts .now) (a .args .limit) (a .args .from) (length (a .args .src .now)) (length (a .args .src .now)) (a .args .dst .now) _ (a .fits .limit) refl (p .put-turns3 .ensures .0), few-count (a .args .starts .now) (a .args .limit) (a .args .from) (length (a .args .src .now)) (length (a .args .src .now)) _ (a .fits .limit) refl (p .put-turns3 .ensures .1))
+    (put-few-end nan (ruleF64 R.Highest) (a .args .src .now) (a .args .starts .now) (a .args .limit) (a .args .from) (length (a .args .src .now)) (length (a .args .src .now)) (a .args .dst .now) _ (a .fits .limit) refl (p .put-turns3 .ensures .0), few-count true (a .args .starts .now) (a .args .limit) (a .args .from) (length (a .args .src .now)) (length (a .args .src .now)) _ (a .fits .limit) refl (p .put-turns3 .ensures .1))
 
 same-length-4 : tie.Need-same-length-4
 same-length-4 c = search needs
@@ -82,7 +83,7 @@ returns-4 c =
     let p : tie.After-put-turns4 = search in
     let a : tie.Start = search in
     rw (e .enum-told4 .given .1)
-    (put-few-end nan (ruleF64 R.Replace) (a .args .src .now) (a .args .starts .now) (a .args .limit) (a .args .from) (length (a .args .src .now)) (length (a .args .src .now)) (a .args .dst .now) _ (a .fits .limit) refl (p .put-turns4 .ensures .0), few-count (a .args .starts .now) (a .args .limit) (a .args .from) (length (a .args .src .now)) (length (a .args .src .now)) _ (a .fits .limit) refl (p .put-turns4 .ensures .1))
+    (put-few-end nan (ruleF64 R.Replace) (a .args .src .now) (a .args .starts .now) (a .args .limit) (a .args .from) (length (a .args .src .now)) (length (a .args .src .now)) (a .args .dst .now) _ (a .fits .limit) refl (p .put-turns4 .ensures .0), few-count true (a .args .starts .now) (a .args .limit) (a .args .from) (length (a .args .src .now)) (length (a .args .src .now)) _ (a .fits .limit) refl (p .put-turns4 .ensures .1))
 
 same-length-5 : tie.Need-same-length-5
 same-length-5 c = search needs
@@ -93,7 +94,7 @@ returns-5 c =
     let p : tie.After-put-turns5 = search in
     let a : tie.Start = search in
     rw (e .rule .given .1)
-    (put-few-end nan (ruleF64 (R.Ceiling (e .rule .given .0 .0))) (a .args .src .now) (a .args .starts .now) (a .args .limit) (a .args .from) (length (a .args .src .now)) (length (a .args .src .now)) (a .args .dst .now) _ (a .fits .limit) refl (p .put-turns5 .ensures .0), few-count (a .args .starts .now) (a .args .limit) (a .args .from) (length (a .args .src .now)) (length (a .args .src .now)) _ (a .fits .limit) refl (p .put-turns5 .ensures .1))
+    (put-few-end nan (ruleF64 (R.Ceiling (e .rule .given .0 .0))) (a .args .src .now) (a .args .starts .now) (a .args .limit) (a .args .from) (length (a .args .src .now)) (length (a .args .src .now)) (a .args .dst .now) _ (a .fits .limit) refl (p .put-turns5 .ensures .0), few-count true (a .args .starts .now) (a .args .limit) (a .args .from) (length (a .args .src .now)) (length (a .args .src .now)) _ (a .fits .limit) refl (p .put-turns5 .ensures .1))
 
 pub put-rest-spec : {M : Type 1} → statement M
 put-rest-spec =

@@ -1,4 +1,5 @@
 -- Written by tests/twins from crates/indexed_runs/proofs/put_turns/Proof.antt.
+use mathlib.Core.Bool.{true}
 use mathlib.Core.Path.{_≡_, refl, _∙_}
 use Prim.Native.Nat.{_+_, _*_, _-_, _≤_}
 use native.Mathlib.Omega.{arith}
@@ -95,7 +96,7 @@ returns-2 c =
     let a : tie.Start Inv-loop μ-loop = search in
     let e = none-left (h .loop .i) (a .args .width) (h .loop .left) (length (a .args .src .now)) (h .loop .inv .1) (omega (arith, c .loop-test .left)) in (
       put-few-end nan (ruleF64 (a .args .rule)) (a .args .src .now) (a .args .starts .now) (a .args .limit) (a .args .from) (h .loop .i) (length (a .args .src .now)) (a .args .dst .now) (h .loop .dst) (a .fits .limit) e (h .loop .inv .3),
-      few-count (a .args .starts .now) (a .args .limit) (a .args .from) (h .loop .i) (length (a .args .src .now)) (h .loop .slid) (a .fits .limit) e (h .loop .inv .4),
+      few-count true (a .args .starts .now) (a .args .limit) (a .args .from) (h .loop .i) (length (a .args .src .now)) (h .loop .slid) (a .fits .limit) e (h .loop .inv .4),
     )
 
 pub put-turns-spec : {M : Type 1} → statement M
