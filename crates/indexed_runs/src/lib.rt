@@ -94,66 +94,8 @@ fn take_cells_by(
     slid
 }
 
-// The same, by a loop that counts or one that does not: that is asked once, outside the loop.
-fn take_some(
-    counts: bool,
-    src: &[i32],
-    starts: &[i64],
-    dst: &mut [i32],
-    n: usize,
-    s: i64,
-    t: i64,
-    d: i64,
-    ss: i64,
-    ts: i64,
-    ds: i64,
-    count: usize,
-    offsets: &[i64; RAW_FUSED_RANK_LIMIT],
-    strides: &[i64; RAW_FUSED_RANK_LIMIT],
-    limits: &[u64; RAW_FUSED_RANK_LIMIT],
-) -> u64
-    requires { ⌜ Taking (now starts) (now offsets) (now strides) (now limits) count s t d ss ts ds n (length (now src)) (length (now dst)) ⌝ }
-    ensures { λ r. ⌜ (now (dst .exit) ≡ inOrder (cellAt (pos 0) (ruleI32 R.Replace) (now (src .entry)) (movedAt (now (starts .entry)) (now (offsets .entry)) (now (strides .entry)) (now (limits .entry)) count (line s ss) (line t ts)) (line d ds)) n (now (dst .entry))) × (r ≡ cond counts (startsMoved (now (starts .entry)) (now (offsets .entry)) (now (limits .entry)) count n (line t ts)) 0) ⌝ }
-{
-    if counts {
-        return take_cells_by(
-            true,
-            src,
-            starts,
-            dst,
-            n,
-            s,
-            t,
-            d,
-            ss,
-            ts,
-            ds,
-            count,
-            offsets,
-            strides,
-            limits,
-        );
-    }
-    take_cells_by(
-        false,
-        src,
-        starts,
-        dst,
-        n,
-        s,
-        t,
-        d,
-        ss,
-        ts,
-        ds,
-        count,
-        offsets,
-        strides,
-        limits,
-    )
-}
-
-// The same where starts have two components, as a plane's have: loops of their own, in which the compiler writes both out.
+// The same where starts have two components, as a plane's have: loops of their own, in which the compiler writes both out. One counts,
+// and one does not.
 fn take_pairs(
     counts: bool,
     src: &[i32],
@@ -211,7 +153,8 @@ fn take_pairs(
     )
 }
 
-// n cells, where starts have any number of components.
+// n cells, where starts have any number of components, by a loop that counts or one that does not: what is asked is asked once, outside
+// the loops.
 pub fn take_cells(
     counts: bool,
     src: &[i32],
@@ -250,8 +193,27 @@ pub fn take_cells(
             limits,
         );
     }
-    take_some(
-        counts,
+    if counts {
+        return take_cells_by(
+            true,
+            src,
+            starts,
+            dst,
+            n,
+            s,
+            t,
+            d,
+            ss,
+            ts,
+            ds,
+            count,
+            offsets,
+            strides,
+            limits,
+        );
+    }
+    take_cells_by(
+        false,
         src,
         starts,
         dst,
@@ -576,95 +538,7 @@ fn put_cells_by(
     slid
 }
 
-// The same, by a loop of each rule's own: the rule is asked once, outside the loop.
-fn put_some(
-    rule: Rule,
-    src: &[i32],
-    starts: &[i64],
-    dst: &mut [i32],
-    n: usize,
-    s: i64,
-    t: i64,
-    d: i64,
-    ss: i64,
-    ts: i64,
-    count: usize,
-    offsets: &[i64; RAW_FUSED_RANK_LIMIT],
-    strides: &[i64; RAW_FUSED_RANK_LIMIT],
-    limits: &[u64; RAW_FUSED_RANK_LIMIT],
-) -> u64
-    requires { ⌜ (0 < count) × Putting (now starts) (now offsets) (now strides) (now limits) count s t d ss ts n (length (now src)) (length (now dst)) ⌝ }
-    ensures { λ r. ⌜ (now (dst .exit) ≡ inOrder (cellAt (pos 0) (ruleI32 rule) (now (src .entry)) (line s ss) (movedAt (now (starts .entry)) (now (offsets .entry)) (now (strides .entry)) (now (limits .entry)) count (λ _. d) (line t ts))) n (now (dst .entry))) × (r ≡ startsMoved (now (starts .entry)) (now (offsets .entry)) (now (limits .entry)) count n (line t ts)) ⌝ }
-{
-    match rule {
-        Rule::Add => put_cells_by(
-            Rule::Add,
-            src,
-            starts,
-            dst,
-            n,
-            s,
-            t,
-            d,
-            ss,
-            ts,
-            count,
-            offsets,
-            strides,
-            limits,
-        ),
-        Rule::Lowest => put_cells_by(
-            Rule::Lowest,
-            src,
-            starts,
-            dst,
-            n,
-            s,
-            t,
-            d,
-            ss,
-            ts,
-            count,
-            offsets,
-            strides,
-            limits,
-        ),
-        Rule::Highest => put_cells_by(
-            Rule::Highest,
-            src,
-            starts,
-            dst,
-            n,
-            s,
-            t,
-            d,
-            ss,
-            ts,
-            count,
-            offsets,
-            strides,
-            limits,
-        ),
-        Rule::Replace => put_cells_by(
-            Rule::Replace,
-            src,
-            starts,
-            dst,
-            n,
-            s,
-            t,
-            d,
-            ss,
-            ts,
-            count,
-            offsets,
-            strides,
-            limits,
-        ),
-    }
-}
-
-// The same where starts have two components, as a plane's have: loops of their own, in which the compiler writes both out.
+// The same where starts have two components, as a plane's have, by a loop of each rule's own, in which the compiler writes both out.
 fn put_pairs(
     rule: Rule,
     src: &[i32],
@@ -751,7 +625,7 @@ fn put_pairs(
     }
 }
 
-// n cells by the rule, where starts have components.
+// n cells by the rule, where starts have components, by a loop of each rule's own: the rule is asked once, outside the loop.
 pub fn put_cells(
     rule: Rule,
     src: &[i32],
@@ -788,22 +662,72 @@ pub fn put_cells(
             limits,
         );
     }
-    put_some(
-        rule,
-        src,
-        starts,
-        dst,
-        n,
-        s,
-        t,
-        d,
-        ss,
-        ts,
-        count,
-        offsets,
-        strides,
-        limits,
-    )
+    match rule {
+        Rule::Add => put_cells_by(
+            Rule::Add,
+            src,
+            starts,
+            dst,
+            n,
+            s,
+            t,
+            d,
+            ss,
+            ts,
+            count,
+            offsets,
+            strides,
+            limits,
+        ),
+        Rule::Lowest => put_cells_by(
+            Rule::Lowest,
+            src,
+            starts,
+            dst,
+            n,
+            s,
+            t,
+            d,
+            ss,
+            ts,
+            count,
+            offsets,
+            strides,
+            limits,
+        ),
+        Rule::Highest => put_cells_by(
+            Rule::Highest,
+            src,
+            starts,
+            dst,
+            n,
+            s,
+            t,
+            d,
+            ss,
+            ts,
+            count,
+            offsets,
+            strides,
+            limits,
+        ),
+        Rule::Replace => put_cells_by(
+            Rule::Replace,
+            src,
+            starts,
+            dst,
+            n,
+            s,
+            t,
+            d,
+            ss,
+            ts,
+            count,
+            offsets,
+            strides,
+            limits,
+        ),
+    }
 }
 
 // n cells by the rule: the source's place from s by ss; the destination's by the start read at t by ts, clamped, times the stride.
