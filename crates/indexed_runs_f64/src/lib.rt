@@ -233,7 +233,7 @@ fn take_strided_by(
 }
 
 // The same, by a loop that counts or one that does not: that is asked once, outside the loop.
-pub fn take_strided(
+fn take_strided(
     counts: bool,
     src: &[f64],
     starts: &[i64],
@@ -339,7 +339,7 @@ fn take_turns(
 }
 
 // The same, four to a turn, by loops that count or loops that do not.
-pub fn take_ones(counts: bool, src: &[f64], starts: &[i64], dst: &mut [f64], limit: i64) -> u64
+fn take_ones(counts: bool, src: &[f64], starts: &[i64], dst: &mut [f64], limit: i64) -> u64
     requires { ⌜ Ones (now starts) limit (length (now dst)) (length (now src)) ⌝ }
     ensures { λ r. ⌜ (now (dst .exit) ≡ inOrder (cellAt nan (ruleF64 R.Replace) (now (src .entry)) (oneAt (now (starts .entry)) limit) pos) (length (now (dst .entry))) (now (dst .entry))) × (r ≡ cond counts (howMany (length (now (dst .entry))) (movesAt (now (starts .entry)) pos (natAbs limit))) 0) ⌝ }
 {
@@ -353,7 +353,7 @@ pub fn take_ones(counts: bool, src: &[f64], starts: &[i64], dst: &mut [f64], lim
 }
 
 // n cells whose every step is 1: on the parts of the starts and the destination that they are, and the source from the base on.
-pub fn take_row(
+fn take_row(
     counts: bool,
     src: &[f64],
     starts: &[i64],
@@ -728,7 +728,7 @@ fn put_strided_by(
 }
 
 // The same, by a loop of each rule's own: the rule is asked once, outside the loop.
-pub fn put_strided(
+fn put_strided(
     rule: RuleF64,
     src: &[f64],
     starts: &[i64],
@@ -921,7 +921,7 @@ fn put_rest(
 }
 
 // A cell for each start, by the rule: up to three that are over, and the others in turns.
-pub fn put_ones(rule: RuleF64, src: &[f64], starts: &[i64], dst: &mut [f64], limit: i64) -> u64
+fn put_ones(rule: RuleF64, src: &[f64], starts: &[i64], dst: &mut [f64], limit: i64) -> u64
     requires { ⌜ Ones (now starts) limit (length (now src)) (length (now dst)) ⌝ }
     ensures { λ r. ⌜ (now (dst .exit) ≡ inOrder (cellAt nan (ruleF64 rule) (now (src .entry)) pos (oneAt (now (starts .entry)) limit)) (length (now (src .entry))) (now (dst .entry))) × (r ≡ howMany (length (now (src .entry))) (movesAt (now (starts .entry)) pos (natAbs limit))) ⌝ }
 {
@@ -935,7 +935,7 @@ pub fn put_ones(rule: RuleF64, src: &[f64], starts: &[i64], dst: &mut [f64], lim
 }
 
 // n cells by the rule, whose every step is 1: on the parts of the source and the starts that they are, and the destination from the base on.
-pub fn put_row(
+fn put_row(
     rule: RuleF64,
     src: &[f64],
     starts: &[i64],

@@ -32,7 +32,7 @@ pub fn one_cell(extents: &[u64; RAW_FUSED_RANK_LIMIT], rank: usize) -> bool
 }
 
 // One run of windows of one cell: the start of each is read. Where starts have no components all updates are put on one element.
-pub fn scatter_run(
+fn scatter_run(
     rule: Rule,
     src: &[i32],
     starts: &[i64],
@@ -94,7 +94,7 @@ pub fn scatter_run(
 }
 
 // The batches of the first `rank` axes, whose windows have one cell. There are some, and the axes before `low` have one place each.
-pub fn scatter_cells(
+fn scatter_cells(
     rule: Rule,
     src: &[i32],
     starts: &[i64],

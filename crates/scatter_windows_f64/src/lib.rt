@@ -16,7 +16,7 @@ use layout::RAW_FUSED_RANK_LIMIT;
 use rules::RuleF64;
 
 // One run of windows of one cell: the start of each is read. Where starts have no components all updates are put on one element.
-pub fn scatter_run(
+fn scatter_run(
     rule: RuleF64,
     src: &[f64],
     starts: &[i64],
@@ -78,7 +78,7 @@ pub fn scatter_run(
 }
 
 // The batches of the first `rank` axes, whose windows have one cell. There are some, and the axes before `low` have one place each.
-pub fn scatter_cells(
+fn scatter_cells(
     rule: RuleF64,
     src: &[f64],
     starts: &[i64],
