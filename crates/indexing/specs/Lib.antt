@@ -5,6 +5,7 @@ pub mod Coordinates
 pub mod Start
 pub mod Gather
 pub mod Scatter
+pub mod Operand
 pub mod Slid
 -- what it gives in the papers' own cases
 pub mod Answers
@@ -14,6 +15,7 @@ pub mod Sums
 pub mod Cells
 pub mod Demand3
 pub mod Loops
+pub mod OperandCells
 -- counts
 pub mod Counting
 pub mod Moved

@@ -24,7 +24,7 @@ unfolding inOrder
 inOrder-same turn turn′ zero x e = refl
 inOrder-same turn turn′ (suc n) x e = ap (turn n) (inOrder-same turn turn′ n x e) ∙ e n (inOrder turn′ n x)
 
-copy-loop : {A : Type 0} (d : A) (n : ℕ) (write read : ℕ → ℤ) (from into : List A)
+pub copy-loop : {A : Type 0} (d : A) (n : ℕ) (write read : ℕ → ℤ) (from into : List A)
     → copyEach d (tabulate n (λ k. (write k, read k))) from into ≡ inOrder (λ k into. store into (write k) (elementAt d from (read k))) n into
 unfolding copyEach tabulate
 copy-loop d zero write read from into = unfold inOrder in refl
