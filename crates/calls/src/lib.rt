@@ -13,7 +13,8 @@ use layout::Answer;
 use layout::Layout;
 use layout::Reach;
 
-fn same_extents(a: &[u64], b: &[u64]) -> bool
+// Whether two lists of extents are the same.
+pub fn same_extents(a: &[u64], b: &[u64]) -> bool
     ensures { λ r. ⌜ Decides r (now (a .entry)) (now (b .entry)) ⌝ }
 {
     if a.len() != b.len() {

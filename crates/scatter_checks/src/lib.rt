@@ -27,7 +27,8 @@ pub struct Examined {
     pub window: CompiledReplay,
 }
 
-fn unexamined(answer: Answer) -> Examined
+// What is refused before the axes are looked at.
+pub fn unexamined(answer: Answer) -> Examined
     ensures { λ r. ⌜ r .answer ≡ answer ⌝ }
 {
     let none = replay::refused_replay();
@@ -330,7 +331,7 @@ fn examine_axes(
 }
 
 // The rest of a scatter whose sizes are not refused, given what is answered in the place of 4.
-fn examine_from(
+pub fn examine_from(
     index_extents: &[u64],
     index_strides: &[i64],
     updates_extents: &[u64],
