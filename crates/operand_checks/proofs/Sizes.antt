@@ -36,6 +36,8 @@ extents-same de oe e = go (sameBy eqb de oe) refl e
 
 -- lengths, ranks, equal extents, spans; and the sizes of the scatter without its operand
 pub record Sized (oe : List ℕ) (os : List ℤ) (ie : List ℕ) (is : List ℤ) (ue : List ℕ) (us : List ℤ) (de : List ℕ) (ds : List ℤ) : Type 0 where
+  pub lengths : isDone (strideLength (length oe) (length os)) ≡ true
+  pub ranks : isDone (rankAtMost (length oe)) ≡ true
   pub operand : length os ≡ length oe
   pub dest : length ds ≡ length de
   pub few : length oe ≤ rankLimit
@@ -97,6 +99,8 @@ module _ (oe : List ℕ) (os : List ℤ) (ie : List ℕ) (is : List ℤ) (ue : L
       let p = or-done (spanFits (spanned de ds)) (spanFits (spanned oe os)) (n .1) in
       let q : de ≡ oe = extents-same de oe (n .0) in
       record {
+        lengths = a .0;
+        ranks = f .0;
         operand = same-length (length oe) (length os) (a .0);
         dest = same-length (length de) (length ds) (d .0);
         few = few-axes (length oe) (f .0);

@@ -15,6 +15,7 @@ use Rattle.layout.specs.declared.Reach.{Reach}
 use Rattle.layout.specs.Answers.{isDone, orElse}
 use Rattle.layout.specs.Layouts.{rankLimit, padded}
 use Rattle.layout.specs.Reach.{bufferBounds}
+use Rattle.layout.proofs.First.{done-is}
 use Rattle.axis_lists.specs.Held.{heldSteps}
 use Rattle.axis_lists.specs.declared.Steps.{Steps}
 use Rattle.replay.specs.Replays.{rowsOf}
@@ -27,10 +28,10 @@ use Rattle.calls.proofs.Same.{same-view-is, view-same}
 use Rattle.scatter_checks.specs.Refusals.{batchWalk, windowWalk, specRefusal, refusalOf, compileRefusal}
 use Rattle.scatter_checks.specs.Examine.{Found}
 use Rattle.scatter_plan.proofs.Accepted.{Accepted, accepted, offsets-are, map-is}
-use Rattle.scatter_move.specs.Prepared.{stepsAt, scatterNumbers, startBase, Prepares}
+use Rattle.scatter_move.specs.Prepared.{stepsAt, scatterNumbers, startBase, Ready, Prepares}
 use Rattle.scatter_move.specs.declared.ScatterNumbers.{ScatterNumbers}
 use Rattle.scatter_move.specs.declared.PreparedScatter.{PreparedScatter}
-use Rattle.scatter_lists.specs.Lists.{onViews, placed, listsAnswer}
+use Rattle.scatter_lists.specs.Lists.{onViews, placed, listsAnswer, preparedAt}
 
 -- ---- the numbers by what was found
 module _ (s : Scatter) (batch window : CompiledReplay) (q : Found s batch window) where
@@ -80,7 +81,7 @@ module _ (s : Scatter) (a b c : ℤ) where
   abbrev h : Scatter
   h = placed s a b c
 
-  same-placed : sameViews (h .indices) (h .updates) (h .result) (s .indices) (s .updates) (s .result) ≡ true
+  pub same-placed : sameViews (h .indices) (h .updates) (h .result) (s .indices) (s .updates) (s .result) ≡ true
   same-placed =
       and-both (sameView (h .indices) (s .indices)) _ (view-same (h .indices) (s .indices) refl refl)
       (and-both (sameView (h .updates) (s .updates)) _ (view-same (h .updates) (s .updates) refl refl) (view-same (h .result) (s .result) refl refl))
@@ -99,6 +100,26 @@ module _ (s : Scatter) (a b c : ℤ) where
   batch-placed : batchWalk s .axes ≡ batchWalk h .axes
   unfolding batchWalk batchShape scatterDims updateBatchSteps
   batch-placed = refl
+
+  -- what is prepared for views that pass the test of 9 is ready
+  pub ready-at : isDone (refusalOf A.Done s) ≡ true → (sn un dn : ℕ) (reach : Reach) → reach ≡ reachIn (h .result) dn → isDone (boundsRefusal (h .indices) (h .updates) (h .result) sn un dn) ≡ true → Ready (preparedAt s a b c reach) h sn un dn
+  ready-at q sn un dn reach er d =
+      record {
+        accepted = done-placed q;
+        bounds = d;
+        reach = er;
+        numbers = numbers-placed;
+        batch-axes = batch-placed;
+        index = refl;
+        updates = refl;
+        dest = refl;
+      }
+
+  -- what was made of the numbers that were found
+  pub prepared-is : {batch window : CompiledReplay} → Found s batch window → {reach : Reach} {n : ScatterNumbers} {i u d : ℤ} → n ≡ scatterNumbers s → i ≡ startBase h → u ≡ b → d ≡ c
+      → _≡_ {A = PreparedScatter} (record { answer = A.Done; reach = reach; numbers = n; «batch_axes» = batch .axes; index = i; updates = u; dest = d }) (preparedAt s a b c reach)
+  prepared-is q {reach = reach} en ei eu ed =
+      λ j. record { answer = A.Done; reach = reach; numbers = en j; «batch_axes» = q .batch-is j .axes; index = ei j; updates = eu j; dest = ed j }
 
   module _ (sn un dn : ℕ) where
     -- compile refuses
@@ -120,28 +141,27 @@ module _ (s : Scatter) (a b c : ℤ) where
       pub second-refusal : (r : PreparedScatter) → r .answer ≡ nine → isDone nine ≡ false → Prepares r (listsAnswer s h sn un dn) h sn un dn
       second-refusal r e n = record { answered = e ∙ answer-is; ready = λ d. never (sym d ∙ ap isDone (sym answer-is) ∙ n) }
 
-      pub prepared : (batch window : CompiledReplay) → Found s batch window → isDone nine ≡ true → (r : PreparedScatter) → r .answer ≡ nine → r .reach ≡ z → r .numbers ≡ scatterNumbers s → r .«batch_axes» ≡ batch .axes → r .index ≡ startBase h → r .updates ≡ b → r .dest ≡ c → Prepares r (listsAnswer s h sn un dn) h sn un dn
-      prepared batch window q d r e er en eb ei eu ed =
+      pub prepared : (batch window : CompiledReplay) → Found s batch window → isDone nine ≡ true → (r : PreparedScatter) → r ≡ preparedAt s a b c z → Prepares r (listsAnswer s h sn un dn) h sn un dn
+      prepared batch window q d r e =
           record {
-            answered = e ∙ answer-is;
-            ready = λ t. record {
-              accepted = done-placed (q .accepted);
-              bounds = ap isDone (sym bounds-are) ∙ d;
-              reach = er ∙ ez;
-              numbers = en ∙ numbers-placed;
-              batch-axes = eb ∙ ap (λ (x : CompiledReplay). x .axes) (q .batch-is) ∙ batch-placed;
-              index = ei;
-              updates = eu;
-              dest = ed;
-            };
+            answered = ap (λ (x : PreparedScatter). x .answer) e ∙ sym (done-is nine d) ∙ answer-is;
+            ready = λ t. subst (λ (x : PreparedScatter). Ready x h sn un dn) (sym e) (ready-at (q .accepted) sn un dn z ez (ap isDone (sym bounds-are) ∙ d));
           }
+
+-- an answer, and 8 after it, refuse
+pub refuses : (w : Answer) → isDone (orElse w A.PlanLayoutMismatch) ≡ false
+refuses w = go (isDone w) refl
+  where
+    go : (b : Bool) → isDone w ≡ b → isDone (cond b A.PlanLayoutMismatch w) ≡ false
+    go true e = refl
+    go false e = e
 
 -- ---- any views
 module _ (s : Scatter) (x y z : View) (sn un dn : ℕ) where
   abbrev all : Bool
   all = sameViews x y z (s .indices) (s .updates) (s .result)
 
-  views-are : all ≡ true → placed s (x .offset) (y .offset) (z .offset) ≡ onViews s x y z
+  pub views-are : all ≡ true → placed s (x .offset) (y .offset) (z .offset) ≡ onViews s x y z
   views-are e =
       let t = and-true (sameView x (s .indices)) _ e in
       let u = and-true (sameView y (s .updates)) _ (t .1) in
@@ -158,10 +178,3 @@ module _ (s : Scatter) (x y z : View) (sn un dn : ℕ) where
   other-views r {first = first} e d f k m =
       let l : listsAnswer s (onViews s x y z) sn un dn ≡ orElse (compileRefusal s) A.PlanLayoutMismatch = ap (λ (b : Bool). orElse (compileRefusal s) (orElse (planRefusal b) (boundsRefusal x y z sn un dn))) (sym e ∙ d) in
       record { answered = m ∙ k ∙ ap (λ (w : Answer). orElse w A.PlanLayoutMismatch) f ∙ sym l; ready = λ t. never (sym t ∙ ap isDone l ∙ refuses (compileRefusal s)) }
-    where
-      refuses : (w : Answer) → isDone (orElse w A.PlanLayoutMismatch) ≡ false
-      refuses w = go (isDone w) refl
-        where
-          go : (b : Bool) → isDone w ≡ b → isDone (cond b A.PlanLayoutMismatch w) ≡ false
-          go true e = refl
-          go false e = e

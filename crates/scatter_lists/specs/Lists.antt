@@ -6,10 +6,12 @@ use lib.IntN.{ℤ}
 use Rattle.indexing.specs.Coordinates.{View}
 use Rattle.indexing.specs.Scatter.{Scatter}
 use Rattle.layout.specs.declared.Answer.{Answer}
+use Rattle.layout.specs.declared.Answer.the-variants as A
+use Rattle.layout.specs.declared.Reach.{Reach}
 use Rattle.layout.specs.Answers.{orElse}
 use Rattle.calls.specs.Calls.{viewWith, sameViews, planRefusal, boundsRefusal, ScatterCall}
-use Rattle.scatter_checks.specs.Refusals.{compileRefusal}
-use Rattle.scatter_move.specs.Prepared.{Prepares}
+use Rattle.scatter_checks.specs.Refusals.{batchWalk, compileRefusal}
+use Rattle.scatter_move.specs.Prepared.{scatterNumbers, startBase, Prepares}
 use Rattle.scatter_move.specs.declared.PreparedScatter.{PreparedScatter}
 
 -- the scatter of a call: the spec on the call's index, updates and destination
@@ -36,3 +38,8 @@ ListedOn r s x y z sn un dn = Prepares r (listsAnswer s (onViews s x y z) sn un 
 
 abbrev pub ListedAt : PreparedScatter → Scatter → ℤ → ℤ → ℤ → ℕ → ℕ → ℕ → Type 0
 ListedAt r s a b c sn un dn = Prepares r (listsAnswer s (placed s a b c) sn un dn) (placed s a b c) sn un dn
+
+-- what is ready to be moved: the numbers of a scatter that is not refused, and where its views begin
+abbrev pub preparedAt : Scatter → ℤ → ℤ → ℤ → Reach → PreparedScatter
+preparedAt s a b c reach =
+    record { answer = A.Done; reach = reach; numbers = scatterNumbers s; «batch_axes» = batchWalk s .axes; index = startBase (placed s a b c); updates = b; dest = c }

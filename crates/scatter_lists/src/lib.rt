@@ -9,9 +9,10 @@ ghost use Rattle.calls.specs.Calls.{viewWith};
 ghost use Rattle.scatter_checks.specs.Refusals.{scatterFrom};
 ghost use Rattle.scatter_checks.specs.Examine.{Found};
 ghost use Rattle.scatter_move.specs.Prepared.{scatterNumbers};
-ghost use Rattle.scatter_lists.specs.Lists.{ListedOn, ListedAt};
+ghost use Rattle.scatter_lists.specs.Lists.{ListedOn, ListedAt, preparedAt};
 use layout::Answer;
 use layout::RAW_FUSED_RANK_LIMIT;
+use layout::Reach;
 use replay::CompiledReplay;
 use scatter_move::PreparedScatter;
 use scatter_move::ScatterNumbers;
@@ -96,6 +97,55 @@ fn numbers_on(
     }
 }
 
+// What is ready to be moved, where compile found these walks and the views, which begin at the three offsets, pass the test of 9.
+pub fn prepared_from(
+    index_extents: &[u64],
+    index_strides: &[i64],
+    updates_extents: &[u64],
+    updates_strides: &[i64],
+    dest_extents: &[u64],
+    dest_strides: &[i64],
+    update_window_dims: &[u64],
+    inserted_window_dims: &[u64],
+    scatter_dims_to_operand_dims: &[u64],
+    index_vector_dim: u64,
+    from_batch: CompiledReplay,
+    from_cell: CompiledReplay,
+    index_offset: i64,
+    updates_offset: i64,
+    dest_offset: i64,
+    reach: Reach,
+) -> PreparedScatter
+    requires { ⌜ Found (scatterFrom (now «index_extents») (now «index_strides») (now «updates_extents») (now «updates_strides») (now «dest_extents») (now «dest_strides») (now «update_window_dims») (now «inserted_window_dims») (now «scatter_dims_to_operand_dims») «index_vector_dim») «from_batch» «from_cell» ⌝ }
+    ensures { λ r. ⌜ r ≡ preparedAt (scatterFrom (now («index_extents» .entry)) (now («index_strides» .entry)) (now («updates_extents» .entry)) (now («updates_strides» .entry)) (now («dest_extents» .entry)) (now («dest_strides» .entry)) (now («update_window_dims» .entry)) (now («inserted_window_dims» .entry)) (now («scatter_dims_to_operand_dims» .entry)) «index_vector_dim») «index_offset» «updates_offset» «dest_offset» reach ⌝ }
+{
+    let numbers = numbers_on(
+        index_extents,
+        index_strides,
+        updates_extents,
+        updates_strides,
+        dest_extents,
+        dest_strides,
+        update_window_dims,
+        inserted_window_dims,
+        scatter_dims_to_operand_dims,
+        index_vector_dim,
+        from_batch,
+        from_cell,
+    );
+    let base = components::start_base(scatter_dims_to_operand_dims.len(), index_offset);
+    let batch_axes = from_batch.axes;
+    PreparedScatter {
+        answer: Answer::Done,
+        reach,
+        numbers,
+        batch_axes,
+        index: base,
+        updates: updates_offset,
+        dest: dest_offset,
+    }
+}
+
 // A call on views that have the layouts compiled for and begin at the three offsets, given the lengths of their slices.
 pub fn prepare(
     index_extents: &[u64],
@@ -147,7 +197,7 @@ pub fn prepare(
     }
     let from_batch = found.batch;
     let from_cell = found.window;
-    let numbers = numbers_on(
+    prepared_from(
         index_extents,
         index_strides,
         updates_extents,
@@ -160,18 +210,11 @@ pub fn prepare(
         index_vector_dim,
         from_batch,
         from_cell,
-    );
-    let base = components::start_base(scatter_dims_to_operand_dims.len(), index_offset);
-    let batch_axes = from_batch.axes;
-    PreparedScatter {
-        answer,
-        reach: z,
-        numbers,
-        batch_axes,
-        index: base,
-        updates: updates_offset,
-        dest: dest_offset,
-    }
+        index_offset,
+        updates_offset,
+        dest_offset,
+        z,
+    )
 }
 
 // A call on any three views. Those that have other layouts than were compiled for are refused, by compile or by 8.

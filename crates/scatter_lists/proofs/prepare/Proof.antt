@@ -1,13 +1,8 @@
-use mathlib.Core.Path.{refl, sym, ap, _∙_}
-use borrow.Author.Needs.{needs}
+use mathlib.Core.Path.{sym, ap, _∙_}
 use borrow.Author.Tests.{not-true, not-false}
-use lib.ListN.{length}
-use lib.IntN.{ℤ, pos}
-use mir.Syntax.{w64}
-use mir.Val.{SFits}
+use lib.IntN.{ℤ}
 use Rattle.integer.specs.Z.{back}
 use Rattle.layout.specs.Reach.{viewReach}
-use Rattle.components.specs.Components.{unlessNone}
 use Rattle.scatter_checks.specs.Refusals.{scatterFrom}
 use Rattle.scatter_lists.proofs.Lent.{fits, first-refusal, second-refusal, prepared}
 use Rattle.scatter_lists.proofs.prepare.Statement.{statement}
@@ -32,15 +27,14 @@ returns-2 c =
     let s = c .before .before .before .before .before .before .before .before .before .before .before .before .before .before .before .before in
     second-refusal (scatterFrom (s .args .index-extents .now) (s .args .index-strides .now) (s .args .updates-extents .now) (s .args .updates-strides .now) (s .args .dest-extents .now) (s .args .dest-strides .now) (s .args .update-window-dims .now) (s .args .inserted-window-dims .now) (s .args .scatter-dims-to-operand-dims .now) (s .args .index-vector-dim)) (s .args .index-offset) (s .args .updates-offset) (s .args .dest-offset) (s .args .starts-len) (s .args .updates-len) (s .args .dest-len) {x = c .before .before .before .before .before .before .reach-of .result} {y = c .before .before .before .before .before .reach-of2 .result} {z = c .before .before .before .before .reach-of3 .result} (c .before .before .before .before .before .before .before .before .before .examine .ensures .answered) (sym (c .before .before .before .before .before .before .before .before .is-done .ensures) ∙ not-false _ (c .before .before .before .before .before .before .before .if1 .left)) (c .before .before .before .before .before .before .reach-of .ensures ∙ ap (λ (z : ℤ). viewReach (s .args .index-extents .now) (s .args .index-strides .now) z (s .args .starts-len)) (back (s .fits .index-offset))) (c .before .before .before .before .before .reach-of2 .ensures ∙ ap (λ (z : ℤ). viewReach (s .args .updates-extents .now) (s .args .updates-strides .now) z (s .args .updates-len)) (back (s .fits .updates-offset))) (c .before .before .before .before .reach-of3 .ensures ∙ ap (λ (z : ℤ). viewReach (s .args .dest-extents .now) (s .args .dest-strides .now) z (s .args .dest-len)) (back (s .fits .dest-offset))) (c .before .before .before .check-bounds .ensures) _ (c .refused2 .ensures) (sym (c .before .before .is-done2 .ensures) ∙ not-true _ (c .before .if2 .taken))
 
-numbers-on-requires : tie.Need-numbers-on-requires
-numbers-on-requires c κs = c .before .before .before .before .before .before .before .before .before .before .examine .ensures .found (sym (c .before .before .before .before .before .before .before .before .before .is-done .ensures) ∙ not-false _ (c .before .before .before .before .before .before .before .before .if1 .left))
+prepared-from-requires : tie.Need-prepared-from-requires
+prepared-from-requires c κs = c .before .before .before .before .before .before .before .before .before .before .examine .ensures .found (sym (c .before .before .before .before .before .before .before .before .before .is-done .ensures) ∙ not-false _ (c .before .before .before .before .before .before .before .before .if1 .left))
 
 returns-3 : tie.Need-returns-3
 returns-3 c =
-    let d = c .before in
-    let s = d .before .before .before .before .before .before .before .before .before .before .before .before .before .before .before .before .before .before .before in
-    let fb : SFits w64 (d .start-base .result) = search needs in
-    prepared (scatterFrom (s .args .index-extents .now) (s .args .index-strides .now) (s .args .updates-extents .now) (s .args .updates-strides .now) (s .args .dest-extents .now) (s .args .dest-strides .now) (s .args .update-window-dims .now) (s .args .inserted-window-dims .now) (s .args .scatter-dims-to-operand-dims .now) (s .args .index-vector-dim)) (s .args .index-offset) (s .args .updates-offset) (s .args .dest-offset) (s .args .starts-len) (s .args .updates-len) (s .args .dest-len) {x = d .before .before .before .before .before .before .before .before .before .reach-of .result} {y = d .before .before .before .before .before .before .before .before .reach-of2 .result} {z = d .before .before .before .before .before .before .before .reach-of3 .result} (d .before .before .before .before .before .before .before .before .before .before .before .before .examine .ensures .answered) (sym (d .before .before .before .before .before .before .before .before .before .before .before .is-done .ensures) ∙ not-false _ (d .before .before .before .before .before .before .before .before .before .before .if1 .left)) (d .before .before .before .before .before .before .before .before .before .reach-of .ensures ∙ ap (λ (z : ℤ). viewReach (s .args .index-extents .now) (s .args .index-strides .now) z (s .args .starts-len)) (back (s .fits .index-offset))) (d .before .before .before .before .before .before .before .before .reach-of2 .ensures ∙ ap (λ (z : ℤ). viewReach (s .args .updates-extents .now) (s .args .updates-strides .now) z (s .args .updates-len)) (back (s .fits .updates-offset))) (d .before .before .before .before .before .before .before .reach-of3 .ensures ∙ ap (λ (z : ℤ). viewReach (s .args .dest-extents .now) (s .args .dest-strides .now) z (s .args .dest-len)) (back (s .fits .dest-offset))) (d .before .before .before .before .before .before .check-bounds .ensures) _ _ (d .before .before .before .before .before .before .before .before .before .before .before .before .examine .ensures .found (sym (d .before .before .before .before .before .before .before .before .before .before .before .is-done .ensures) ∙ not-false _ (d .before .before .before .before .before .before .before .before .before .before .if1 .left))) (sym (d .before .before .before .before .before .is-done2 .ensures) ∙ not-false _ (d .before .before .before .before .if2 .left)) _ refl refl (d .before .numbers-on .ensures) refl (back fb ∙ d .start-base .ensures ∙ ap (λ (z : ℤ). unlessNone (length (s .args .scatter-dims-to-operand-dims .now)) (pos 0) z) (back (s .fits .index-offset))) (back (s .fits .updates-offset)) (back (s .fits .dest-offset))
+    let s = c .before .before .before .before .before .before .before .before .before .before .before .before .before .before .before .before .before .before in
+    let t = sym (c .before .before .before .before .before .before .before .before .before .before .is-done .ensures) ∙ not-false _ (c .before .before .before .before .before .before .before .before .before .if1 .left) in
+    prepared (scatterFrom (s .args .index-extents .now) (s .args .index-strides .now) (s .args .updates-extents .now) (s .args .updates-strides .now) (s .args .dest-extents .now) (s .args .dest-strides .now) (s .args .update-window-dims .now) (s .args .inserted-window-dims .now) (s .args .scatter-dims-to-operand-dims .now) (s .args .index-vector-dim)) (s .args .index-offset) (s .args .updates-offset) (s .args .dest-offset) (s .args .starts-len) (s .args .updates-len) (s .args .dest-len) {x = c .before .before .before .before .before .before .before .before .reach-of .result} {y = c .before .before .before .before .before .before .before .reach-of2 .result} {z = c .before .before .before .before .before .before .reach-of3 .result} (c .before .before .before .before .before .before .before .before .before .before .before .examine .ensures .answered) t (c .before .before .before .before .before .before .before .before .reach-of .ensures ∙ ap (λ (z : ℤ). viewReach (s .args .index-extents .now) (s .args .index-strides .now) z (s .args .starts-len)) (back (s .fits .index-offset))) (c .before .before .before .before .before .before .before .reach-of2 .ensures ∙ ap (λ (z : ℤ). viewReach (s .args .updates-extents .now) (s .args .updates-strides .now) z (s .args .updates-len)) (back (s .fits .updates-offset))) (c .before .before .before .before .before .before .reach-of3 .ensures ∙ ap (λ (z : ℤ). viewReach (s .args .dest-extents .now) (s .args .dest-strides .now) z (s .args .dest-len)) (back (s .fits .dest-offset))) (c .before .before .before .before .before .check-bounds .ensures) _ _ (c .before .before .before .before .before .before .before .before .before .before .before .examine .ensures .found t) (sym (c .before .before .before .before .is-done2 .ensures) ∙ not-false _ (c .before .before .before .if2 .left)) _ (simp (back (s .fits .index-offset), back (s .fits .updates-offset), back (s .fits .dest-offset)) at (c .prepared-from .ensures))
 
 pub prepare-spec : {M : Type 1} → statement M
 prepare-spec =
@@ -57,6 +51,5 @@ prepare-spec =
     (λ c κs. tt)
     (λ c κs. tt)
     returns-2
-    numbers-on-requires
-    (λ c κs. tt)
+    prepared-from-requires
     returns-3)
