@@ -8,13 +8,14 @@ use native.Mathlib.Omega.{arith}
 use borrow.Author.Tests.{eqb-true, eqb-false}
 use lib.Dec.{eqb}
 use lib.ListN.{length, getD}
-use lib.Seq.{getD-set-same, ext-getD}
+use lib.Seq.{ext-getD}
 use lib.IntN.{ℤ, pos}
 use Rattle.integer.specs.Defs.{eqZ}
 use Rattle.integer.specs.Laws.{eqZ-true, eqZ-false}
-use Rattle.indexing.specs.Coordinates.{elementAt, store}
-use Rattle.indexing.specs.Cuts.{length-store, store-other}
-use Rattle.indexing.specs.Loops.{inOrder}
+use Rattle.indexing.specs.Coordinates.{elementAt, tabulate}
+use Rattle.indexing.specs.Gather.{Read, copyEach}
+use Rattle.indexing.specs.Updates.{noRead, length-copyEach, copy-other, copy-last, length-tabulate, getD-tabulate}
+use Rattle.indexing.specs.Loops.{inOrder, copy-loop}
 use Rattle.fused_axes.specs.Fusing.{copyTurn}
 
 -- one of the first n cells is read at a and written at b
@@ -50,42 +51,45 @@ last-at g (suc n) i = go (eqZ (g n) (pos i)) refl (last-at g n i)
         inl (record { cell = r .cell; below = omega (arith, r .below); at = r .at; later = λ m h k q. r .later m h (below-last g n i m (eqZ-false (g n) (pos i) e) k q) q })
     go false e (inr r) = inr (λ m k q. r m (below-last g n i m (eqZ-false (g n) (pos i) e) k q) q)
 
-module _ {A : Type 0} (z : A) (operand : List A) where
+module _ {A : Type 0} (z : A) (from : List A) where
   -- the first n turns
   abbrev pub turns : (ℕ → ℤ) → (ℕ → ℤ) → ℕ → List A → List A
-  turns f g n x = inOrder (copyTurn z operand f g) n x
+  turns f g n x = inOrder (copyTurn z from f g) n x
 
-  pub length-turns : (f g : ℕ → ℤ) (n : ℕ) (x : List A) → length (turns f g n x) ≡ length x
-  unfolding inOrder
-  length-turns f g zero x = refl
-  length-turns f g (suc n) x = length-store (turns f g n x) (g n) (elementAt z operand (f n)) ∙ length-turns f g n x
+  module _ (f g : ℕ → ℤ) (n : ℕ) where
+    -- the same as a list of reads
+    turned : List Read
+    turned = tabulate n (λ k. (g k, f k))
 
-  -- what no cell is written to stays
-  pub stays : (f g : ℕ → ℤ) (n i : ℕ) (x : List A) → Missed g n i → getD (turns f g n x) i z ≡ getD x i z
-  unfolding inOrder
-  stays f g zero i x h = refl
-  stays f g (suc n) i x h =
-      store-other (turns f g n x) (g n) (pos i) (elementAt z operand (f n)) z (h n (omega arith))
-      ∙ stays f g n i x (λ m k. h m (omega arith))
+    turned-is : (k : ℕ) → k < n → getD turned k noRead ≡ (g k, f k)
+    unfolding turned
+    turned-is k h = getD-tabulate n (λ j. (g j, f j)) k noRead h
 
-  -- and the last cell written to an element decides it
-  pub decides : (f g : ℕ → ℤ) (n i : ℕ) (x : List A) (l : LastAt g n i) → i < length x → getD (turns f g n x) i z ≡ elementAt z operand (f (l .cell))
-  unfolding inOrder
-  decides f g zero i x l h = absurd (omega (arith, l .below))
-  decides f g (suc n) i x l h = go (eqb (l .cell) n) refl (λ r. decides f g n i x r h)
-    where
-      go : (t : Bool) → eqb (l .cell) n ≡ t → ((r : LastAt g n i) → getD (turns f g n x) i z ≡ elementAt z operand (f (r .cell))) → getD (turns f g (suc n) x) i z ≡ elementAt z operand (f (l .cell))
-      go true e ih =
-          let q : l .cell ≡ n = eqb-true (l .cell) n e in
-          let w : g n ≡ pos i = subst (λ (j : ℕ). g j ≡ pos i) q (l .at) in
-          ap (λ (p : ℤ). getD (store (turns f g n x) p (elementAt z operand (f n))) i z) w
-          ∙ getD-set-same (turns f g n x) i (elementAt z operand (f n)) z (subst (λ (m : ℕ). i < m) (sym (length-turns f g n x)) h)
-          ∙ ap (λ (j : ℕ). elementAt z operand (f j)) (sym q)
-      go false e ih =
-          let q : l .cell ≢ n = eqb-false (l .cell) n e in
-          let b : l .cell < n = omega (arith, q, l .below) in
-          store-other (turns f g n x) (g n) (pos i) (elementAt z operand (f n)) z (l .later n b (omega arith))
-          ∙ ih (record { cell = l .cell; below = b; at = l .at; later = λ m p k. l .later m p (omega arith) })
+    turned-below : (k : ℕ) → k < length turned → k < n
+    unfolding turned
+    turned-below k h = subst (λ (m : ℕ). k < m) (length-tabulate n (λ j. (g j, f j))) h
+
+    turns-are : (x : List A) → turns f g n x ≡ copyEach z turned from x
+    unfolding turned
+    turns-are x = sym (copy-loop z n g f from x)
+
+    pub length-turns : (x : List A) → length (turns f g n x) ≡ length x
+    length-turns x = ap length (turns-are x) ∙ length-copyEach z turned from x
+
+    -- what no cell is written to stays
+    stays : (i : ℕ) (x : List A) → Missed g n i → getD (turns f g n x) i z ≡ getD x i z
+    stays i x h =
+        ap (λ (l : List A). getD l i z) (turns-are x)
+        ∙ copy-other z turned from x (pos i) (λ k l e. h k (turned-below k l) (ap (λ (r : Read). r .0) (sym (turned-is k (turned-below k l))) ∙ e))
+
+    -- and the last cell written to an element decides it
+    decides : (i : ℕ) (x : List A) (l : LastAt g n i) → i < length x → getD (turns f g n x) i z ≡ elementAt z from (f (l .cell))
+    unfolding turned
+    decides i x l h =
+        ap (λ (m : List A). getD m i z) (turns-are x)
+        ∙ copy-last z turned from x (l .cell) i (subst (λ (m : ℕ). l .cell < m) (sym (length-tabulate n (λ j. (g j, f j)))) (l .below)) (ap (λ (r : Read). r .0) (turned-is (l .cell) (l .below)) ∙ l .at) h
+        (λ m p k q. l .later m p (turned-below m k) (ap (λ (r : Read). r .0) (sym (turned-is m (turned-below m k))) ∙ q))
+        ∙ ap (λ (r : Read). elementAt z from (r .1)) (turned-is (l .cell) (l .below))
 
   -- TWO COPIES leave the same where each has every cell of the other, and the first writes no two cells to one place
   pub copies-agree : (f g f′ g′ : ℕ → ℤ) (n n′ : ℕ)
@@ -102,7 +106,7 @@ module _ {A : Type 0} (z : A) (operand : List A) where
           let b = back (l .cell) (l .below) in
           let at : g (b .0) ≡ pos i = b .3 ∙ l .at in
           decides f′ g′ n′ i x l h
-          ∙ sym (ap (elementAt z operand) (b .2))
+          ∙ sym (ap (elementAt z from) (b .2))
           ∙ sym (decides f g n i x (record { cell = b .0; below = b .1; at = at; later = λ m p k q. later (b .0) (b .1) at m p k q }) h)
         where
           later : (c : ℕ) → c < n → g c ≡ pos i → (m : ℕ) → c < m → m < n → g m ≡ pos i → ⊥

@@ -125,9 +125,9 @@ merged-count (b ∷ l) a = go (mergedDim a b) (λ c. merged-count l c)
     go U.Overflow ih = omega (arith, ih b)
 
 -- THE COPY over such axes is the same, whatever the layouts
-pub same-copied : {A : Type 0} (z : A) (operand : List A) (o d : ℤ) (l l′ : List FusedAxis) (into : List A) → Same l l′ → axesCopied z operand o d l′ into ≡ axesCopied z operand o d l into
+pub same-copied : {A : Type 0} (z : A) (from : List A) (o d : ℤ) (l l′ : List FusedAxis) (into : List A) → Same l l′ → axesCopied z from o d l′ into ≡ axesCopied z from o d l into
 unfolding offsetAt
-same-copied {A} z operand o d l l′ into h =
-    ap (λ (n : ℕ). inOrder (copyTurn z operand (offsetAt o (dims l′) (srcs l′)) (offsetAt d (dims l′) (dsts l′))) n into) (h .total)
-    ∙ inOrder-same (copyTurn z operand (offsetAt o (dims l′) (srcs l′)) (offsetAt d (dims l′) (dsts l′))) (copyTurn z operand (offsetAt o (dims l) (srcs l)) (offsetAt d (dims l) (dsts l))) (product (dims l)) into
-    (λ k x. ap₂ (λ (a b : ℤ). copyTurn z operand (λ j. o +ℤ a) (λ j. d +ℤ b) k x) (h .reads k) (h .writes k))
+same-copied {A} z from o d l l′ into h =
+    ap (λ (n : ℕ). inOrder (copyTurn z from (offsetAt o (dims l′) (srcs l′)) (offsetAt d (dims l′) (dsts l′))) n into) (h .total)
+    ∙ inOrder-same (copyTurn z from (offsetAt o (dims l′) (srcs l′)) (offsetAt d (dims l′) (dsts l′))) (copyTurn z from (offsetAt o (dims l) (srcs l)) (offsetAt d (dims l) (dsts l))) (product (dims l)) into
+    (λ k x. ap₂ (λ (a b : ℤ). copyTurn z from (λ j. o +ℤ a) (λ j. d +ℤ b) k x) (h .reads k) (h .writes k))

@@ -16,16 +16,16 @@ use Rattle.fused_axes.specs.Fusing as C
 abbrev into : List ℕ
 into = 9 ∷ 9 ∷ 9 ∷ 9 ∷ 9 ∷ []
 
-abbrev operand : List ℕ
-operand = 0 ∷ 1 ∷ 2 ∷ 3 ∷ 4 ∷ 5 ∷ []
+abbrev from : List ℕ
+from = 0 ∷ 1 ∷ 2 ∷ 3 ∷ 4 ∷ 5 ∷ []
 
 -- first axis fastest, (0,2) comes last and stays
-pub in-order : cellsCopied 0 operand (pos 0) (pos 0) (2 ∷ 3 ∷ []) (pos 1 ∷ pos 2 ∷ []) (pos 2 ∷ pos 1 ∷ []) into ≡ 0 ∷ 2 ∷ 4 ∷ 3 ∷ 5 ∷ []
+pub in-order : cellsCopied 0 from (pos 0) (pos 0) (2 ∷ 3 ∷ []) (pos 1 ∷ pos 2 ∷ []) (pos 2 ∷ pos 1 ∷ []) into ≡ 0 ∷ 2 ∷ 4 ∷ 3 ∷ 5 ∷ []
 unfolding product unravel dot offsetAt inOrder
 in-order = refl
 
 -- sorted, (1,0) does
-pub out-of-order : axesCopied 0 operand (pos 0) (pos 0) (fused (2 ∷ 3 ∷ []) (pos 2 ∷ pos 1 ∷ []) (pos 1 ∷ pos 2 ∷ [])) into ≡ 0 ∷ 2 ∷ 1 ∷ 3 ∷ 5 ∷ []
+pub out-of-order : axesCopied 0 from (pos 0) (pos 0) (fused (2 ∷ 3 ∷ []) (pos 2 ∷ pos 1 ∷ []) (pos 1 ∷ pos 2 ∷ [])) into ≡ 0 ∷ 2 ∷ 1 ∷ 3 ∷ 5 ∷ []
 unfolding product unravel dot offsetAt inOrder hasZero axesOf C.longAxes placed sortedFrom checked checkedU goesOn mergedDim mergedFrom merged fused
 out-of-order = refl
 
@@ -34,7 +34,7 @@ pub not-sorted : copyAxes (2 ∷ 3 ∷ []) (pos 2 ∷ pos 1 ∷ []) (pos 1 ∷ p
 unfolding hasZero nested longAxes insert ordered exceeds axesOf C.longAxes checked checkedU goesOn mergedDim mergedFrom merged kept copyAxes
 not-sorted = refl
 
--- a dense operand and into given last axis fastest are one axis
+-- a dense operand and result given last axis fastest are one axis
 pub dense-is-one : copyAxes (2 ∷ 1 ∷ 3 ∷ 4 ∷ []) (pos 12 ∷ pos 7 ∷ pos 4 ∷ pos 1 ∷ []) (pos 12 ∷ pos 0 ∷ pos 4 ∷ pos 1 ∷ []) ≡ theAxis 24 (pos 1) (pos 1) ∷ []
 unfolding hasZero nested longAxes insert ordered exceeds axesOf C.longAxes placed sortedFrom checked checkedU goesOn mergedDim mergedFrom merged fused copyAxes
 dense-is-one = refl

@@ -2,11 +2,9 @@
 use mathlib.Core.Path.{_≡_, refl, sym, ap, _∙_}
 use mathlib.Core.Bool.{Bool, true, false, cond}
 use mathlib.Core.List.{List, [], _∷_}
-use Prim.Native.Nat.{ℕ, zero, suc, _*_, _<_, _≤_, _^_}
-use native.Mathlib.Nat.{zero-mul, mul-zero, mul-assoc, mul-one, one-mul, mul-le-mul-left}
+use Prim.Native.Nat.{ℕ, _*_, _<_, _≤_, _^_}
+use native.Mathlib.Nat.{mul-assoc, mul-one, one-mul, mul-le-mul-left}
 use native.Mathlib.Omega.{arith}
-use borrow.Author.Tests.{ne-eqb}
-use lib.Dec.{eqb}
 use Rattle.integer.specs.Defs.{checkedU}
 use Rattle.integer.specs.Machine.{checkedU-yes, checkedU-no, checkedU-fits, checkedU-below, checkedU-over}
 use Rattle.integer.specs.declared.CheckedU.{CheckedU}
@@ -15,25 +13,9 @@ use Rattle.indexing.specs.Coordinates.{product}
 use Rattle.indexing.specs.Odometer.{AllPos}
 use Rattle.indexing.specs.Fusion.{product-pos}
 use Rattle.layout.specs.Nested.{hasZero}
+use Rattle.layout.specs.Laws.{no-cells, some-cells}
 use Rattle.layout.specs.Spans.{andThenU, totalFrom, totalOf}
 use Rattle.fused_axes.specs.Fusing.{totalLen}
-
-not-zero : (d : ℕ) → eqb (suc d) 0 ≡ false
-not-zero d = ne-eqb (suc d) 0 (λ e. omega arith)
-
--- some extent is 0: there is no cell
-pub no-cells : (ds : List ℕ) → hasZero ds ≡ true → product ds ≡ 0
-unfolding hasZero product
-no-cells [] h = let z : _≡_ {A = ℕ} 0 1 = cc in absurd (omega arith)
-no-cells (zero ∷ ds) h = zero-mul (product ds)
-no-cells (suc d ∷ ds) h = ap (λ (n : ℕ). suc d * n) (no-cells ds (rw (not-zero d) at h)) ∙ mul-zero (suc d)
-
--- none is 0: every axis has a place
-pub all-cells : (ds : List ℕ) → hasZero ds ≡ false → AllPos ds
-unfolding hasZero AllPos
-all-cells [] h = tt
-all-cells (zero ∷ ds) h = let z : _≡_ {A = ℕ} 0 1 = cc in absurd (omega arith)
-all-cells (suc d ∷ ds) h = (omega arith, all-cells ds (rw (not-zero d) at h))
 
 -- left to right, each step in u64: where no extent is 0 no step is greater than the whole
 total-from : (ds : List ℕ) (acc : ℕ) → acc < 2 ^ 64 → AllPos ds → totalFrom acc ds ≡ checkedU (acc * product ds)
@@ -57,4 +39,4 @@ total-len-is ds = go (hasZero ds) refl
   where
     go : (t : Bool) → hasZero ds ≡ t → cond t (U.Fits 0) (totalOf ds) ≡ checkedU (product ds)
     go true h = checkedU-yes 0 (omega arith) ∙ ap checkedU (sym (no-cells ds h))
-    go false h = total-from ds 1 (omega arith) (all-cells ds h) ∙ ap checkedU (one-mul (product ds))
+    go false h = total-from ds 1 (omega arith) (some-cells ds h) ∙ ap checkedU (one-mul (product ds))
