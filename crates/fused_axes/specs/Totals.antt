@@ -1,10 +1,13 @@
--- The element count is the product, where a u64 holds it. For extents of any rank. Assumes nothing.
+-- The element count is the product, where a u64 holds it, and what is known of it where fusion pays and where it does not. For extents of any rank. Assumes nothing.
 use mathlib.Core.Path.{_≡_, refl, sym, ap, _∙_}
-use mathlib.Core.Bool.{Bool, true, false, cond}
+use mathlib.Core.Bool.{Bool, true, false, cond, true≢false}
 use mathlib.Core.List.{List, [], _∷_}
-use Prim.Native.Nat.{ℕ, _*_, _<_, _≤_, _^_}
+use Prim.Native.Nat.{ℕ, zero, suc, _*_, _<_, _≤_, _^_}
 use native.Mathlib.Nat.{mul-assoc, mul-one, one-mul, mul-le-mul-left}
 use native.Mathlib.Omega.{arith}
+use borrow.Author.Tests.{ne-eqb, leb-true}
+use lib.Dec.{leb}
+use lib.ListN.{take}
 use Rattle.integer.specs.Defs.{checkedU}
 use Rattle.integer.specs.Machine.{checkedU-yes, checkedU-no, checkedU-fits, checkedU-below, checkedU-over}
 use Rattle.integer.specs.declared.CheckedU.{CheckedU}
@@ -15,7 +18,7 @@ use Rattle.indexing.specs.Fusion.{product-pos}
 use Rattle.layout.specs.Nested.{hasZero}
 use Rattle.layout.specs.Laws.{no-cells, some-cells}
 use Rattle.layout.specs.Spans.{andThenU, totalFrom, totalOf}
-use Rattle.fused_axes.specs.Fusing.{totalLen}
+use Rattle.fused_axes.specs.Fusing.{totalLen, fusionPays}
 
 -- left to right, each step in u64: where no extent is 0 no step is greater than the whole
 total-from : (ds : List ℕ) (acc : ℕ) → acc < 2 ^ 64 → AllPos ds → totalFrom acc ds ≡ checkedU (acc * product ds)
@@ -40,3 +43,32 @@ total-len-is ds = go (hasZero ds) refl
     go : (t : Bool) → hasZero ds ≡ t → cond t (U.Fits 0) (totalOf ds) ≡ checkedU (product ds)
     go true h = checkedU-yes 0 (omega arith) ∙ ap checkedU (sym (no-cells ds h))
     go false h = total-from ds 1 (omega arith) (some-cells ds h) ∙ ap checkedU (one-mul (product ds))
+
+-- ---- the count that was told
+pub total-told : (ds : List ℕ) (x : CheckedU) (n : ℕ) → x ≡ totalLen ds → x ≡ U.Fits n → product ds ≡ n
+total-told ds x n e o = checkedU-fits (product ds) n (sym (total-len-is ds) ∙ sym e ∙ o)
+
+pub total-many : (ds : List ℕ) (x : CheckedU) → x ≡ totalLen ds → x ≡ U.Overflow → 2 ^ 64 ≤ product ds
+total-many ds x e o = checkedU-over (product ds) (sym (total-len-is ds) ∙ sym e ∙ o)
+
+-- more cells than one: there are axes
+pub many-axes : (rank : ℕ) (ds : List ℕ) → 1 < product (take rank ds) → 0 < rank
+unfolding product
+many-axes zero ds h = absurd (omega arith)
+many-axes (suc rank) ds h = omega arith
+
+-- fusion pays: no more cells than a run counts
+pub pays-few : (rank n : ℕ) (ds : List ℕ) → fusionPays n rank ≡ true → product (take rank ds) ≡ n → n ≤ 2 ^ 63
+unfolding fusionPays product
+pays-few zero n ds e h = omega arith
+pays-few (suc rank) n ds e h = go (leb n 64) (rw (ne-eqb (suc rank) 0 (λ q. omega arith)) at e)
+  where
+    go : (t : Bool) → cond t false (leb n (2 ^ 63)) ≡ true → n ≤ 2 ^ 63
+    go true f = absurd (true≢false (sym f))
+    go false f = leb-true n (2 ^ 63) f
+
+-- it does not: there are axes
+pub pays-not : (rank n : ℕ) → fusionPays n rank ≡ false → 0 < rank
+unfolding fusionPays
+pays-not zero n e = absurd (true≢false e)
+pays-not (suc rank) n e = omega arith

@@ -1,16 +1,14 @@
 // The operand of a scatter copied into its result, cell by cell, first axis fastest: where cells of the result share an element, the
 // last one copied stays.
 ghost use mathlib.Core.Path.{_≡_};
-ghost use Prim.Native.Nat.{_<_};
 ghost use lib.IntN.{pos};
-ghost use lib.ListN.{length, take};
-ghost use Rattle.indexing.specs.Odometer.{AllPos};
+ghost use lib.ListN.{length};
 ghost use Rattle.indexing.specs.Operand.{operandCopied};
 ghost use Rattle.rules.specs.Rules.{ruleI32};
 ghost use Rattle.rules.specs.declared.Rule.the-variants as R;
 ghost use Rattle.windows.specs.Windows.{windowed, Window};
 ghost use Rattle.fused_axes.specs.Fusing.{dims, dsts, srcs};
-ghost use Rattle.operand_copy.specs.Views.{heldView};
+ghost use Rattle.operand_copy.specs.Views.{heldView, Cells};
 use fused_axes::FusedAxes;
 use integer::CheckedU;
 use layout::RAW_FUSED_RANK_LIMIT;
@@ -27,7 +25,7 @@ fn over_axes(
     s: i64,
     d: i64,
 )
-    requires { ⌜ (0 < rank) × AllPos (take rank extents) × Window s d extents ss ds rank (length (now src)) (length (now dst)) ⌝ }
+    requires { ⌜ Cells s d extents ss ds rank (length (now src)) (length (now dst)) ⌝ }
     ensures { λ _. ⌜ now (dst .exit) ≡ windowed (pos 0) (ruleI32 R.Replace) (now (src .entry)) s d extents ss ds rank (now (dst .entry)) ⌝ }
 {
     let low = windows::run_axis(&extents, rank);
@@ -47,7 +45,7 @@ fn over_axes(
 
 // The same over fused axes.
 fn over_fused(src: &[i32], dst: &mut [i32], f: FusedAxes, s: i64, d: i64)
-    requires { ⌜ (0 < f .rank) × AllPos (take (f .rank) (dims (f .axes))) × Window s d (dims (f .axes)) (srcs (f .axes)) (dsts (f .axes)) (f .rank) (length (now src)) (length (now dst)) ⌝ }
+    requires { ⌜ Cells s d (dims (f .axes)) (srcs (f .axes)) (dsts (f .axes)) (f .rank) (length (now src)) (length (now dst)) ⌝ }
     ensures { λ _. ⌜ now (dst .exit) ≡ windowed (pos 0) (ruleI32 R.Replace) (now (src .entry)) s d (dims (f .axes)) (srcs (f .axes)) (dsts (f .axes)) (f .rank) (now (dst .entry)) ⌝ }
 {
     let axes = f.axes;
