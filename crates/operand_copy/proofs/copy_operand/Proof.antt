@@ -11,10 +11,10 @@ use Rattle.operand_copy.proofs.copy_operand.Tie as tie
 -- the count, where it fits
 module _ (k : tie.After-known-told) where
   abbrev start : tie.Start
-  start = k .before .before .before .before
+  start = search
 
   counted : product (take (start .args .rank) (start .args .extents)) ≡ k .before .total .given .0 .0
-  counted = let t = k .before .before .before in total-told _ (t .total-len .result) _ (t .total-len .ensures) (k .before .total .given .1)
+  counted = let t : tie.After-total-len = search in total-told _ (t .total-len .result) _ (t .total-len .ensures) (k .before .total .given .1)
 
 enum-known-total : tie.Need-enum-known-total
 enum-known-total c = search needs
