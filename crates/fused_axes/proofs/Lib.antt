@@ -1,0 +1,4 @@
+pub mod Tests
+pub mod Arrays
+pub mod Turns
+pub mod Counts
