@@ -178,7 +178,7 @@ static void cuts_added_f64(void) {
     check(memcmp(grid, expected, sizeof expected) == 0, "the cuts added in f64 leave 7 0 0 0 5");
 }
 
-/* The window read in i32 by a job, as the last of the thirteen functions. */
+/* The window read in i32 by a job, as the last of the functions that run one. */
 static void window_read_by_i32_job(void) {
     const int32_t operand[] = {10, 20, 30, 40, 50}, expected[] = {40, 50, 10, 20};
     int32_t destination[] = {0, 0, 0, 0};
@@ -352,7 +352,7 @@ static void components_moved(void) {
 }
 
 int main(void) {
-    check(strided_version_3() == STRIDED_VERSION && STRIDED_VERSION == 3, "the archive is of the header's version");
+    check(strided_version_4() == STRIDED_VERSION && STRIDED_VERSION == 4, "the archive is of the header's version");
     window_read();
     window_read_by_job();
     window_read_by_i32_job();
