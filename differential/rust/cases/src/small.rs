@@ -196,6 +196,7 @@ fn gathered(a: &Arranged, turn: usize) -> Call {
         source: counted(operand_len, 1),
         index: near_starts(index_len, turn),
         dest: counted(dest_len, 50),
+        operand: None,
         layouts: [None, None, None],
         rule: Rule::Add,
     }
@@ -220,6 +221,7 @@ fn scattered(a: &Arranged, turn: usize) -> Call {
         index: near_starts(index_len, turn),
         source: counted(update_len, 1),
         dest: counted(dest_len, 100),
+        operand: None,
         layouts: [None, None, None],
         rule: Rule::Add,
     }
@@ -424,6 +426,7 @@ fn walk(axes: &[(u64, i64, i64)]) -> Call {
         index: vec![],
         source: counted(0, 0),
         dest: counted(1, 7),
+        operand: None,
         layouts: [None, None, None],
         rule: Rule::Add,
     }

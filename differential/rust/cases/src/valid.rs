@@ -275,6 +275,7 @@ pub fn gather_of(random: &mut Random, w: Windowed) -> Call {
         source: elements(random, element, operand_len),
         index: starts,
         dest: elements(random, element, dest_len),
+        operand: None,
         layouts: [None, None, None],
         rule: Rule::Add,
     }
@@ -366,6 +367,7 @@ pub fn scatter_of(random: &mut Random, w: Windowed) -> Call {
         index: starts,
         source: elements(random, element, update_len),
         dest: elements(random, element, dest_len),
+        operand: None,
         layouts: [None, None, None],
         rule: Rule::Add,
     }

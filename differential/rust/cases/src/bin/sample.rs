@@ -8,7 +8,7 @@
 
 use cases::answers::{completed, first_seen, load, telling, Answered};
 use lines::{Answer, Call, Spec};
-use model::{mutants, Model};
+use model::{mutants, Kind, Model};
 use std::collections::{BTreeMap, BTreeSet};
 use std::path::Path;
 use std::{fs, io};
@@ -106,7 +106,7 @@ fn features(call: &Call, given: &str) -> Vec<(String, usize)> {
     };
     let element = call.job.element;
     let line = match verdict.refused_by {
-        Some(check) => check.name(spec),
+        Some(check) => check.name(Kind::of(call)),
         None => "done".to_string(),
     };
     let mut features = vec![(format!("{kind} {element} {line}"), 10)];
