@@ -7,6 +7,7 @@ mod edges;
 mod faults;
 pub mod jobs;
 pub mod large;
+mod operands;
 mod random;
 mod rules;
 pub mod small;
@@ -14,6 +15,7 @@ mod starts;
 mod valid;
 
 pub use faults::fault_names;
+pub use operands::WithOperands;
 pub use rules::Ruled;
 
 use faults::Faults;
@@ -22,7 +24,7 @@ use random::Random;
 
 /// The random cases of a seed, in order: most are valid, the others carry one
 /// fault or two, or have layouts at the edges of u64 and i64. Their scatters
-/// add; `Ruled` gives them rules.
+/// are update-only and add; `WithOperands` and `Ruled` give them more.
 pub struct Generator {
     random: Random,
     faults: Faults,
