@@ -11,6 +11,7 @@ mod operands;
 mod random;
 mod rules;
 pub mod small;
+mod small_operands;
 mod starts;
 mod valid;
 
