@@ -169,6 +169,7 @@ mod plan;
 mod rule;
 mod spec;
 mod stored;
+pub mod strided_basic;
 mod view;
 
 pub use done::Done;
