@@ -32,6 +32,7 @@
 //! That the declarations are the header's is tested. This is the only module
 //! with unsafe code.
 
+use core::num::Wrapping;
 use core::slice;
 
 /// The number of a refusal, or 0, then its a and b, 0 where unnamed, and last
@@ -61,6 +62,25 @@ pub(crate) fn words(list: &[usize]) -> &[u64] {
 /// Strides, as the library takes them.
 pub(crate) fn steps(list: &[isize]) -> &[i64] {
     // SAFETY: as in `words`.
+    unsafe { slice::from_raw_parts(list.as_ptr().cast(), list.len()) }
+}
+
+/// Elements without the name that says how they are added.
+pub(crate) fn unwrapped(list: &[Wrapping<i32>]) -> &[i32] {
+    // SAFETY: `Wrapping` is transparent.
+    unsafe { slice::from_raw_parts(list.as_ptr().cast(), list.len()) }
+}
+
+/// The same, to be written.
+pub(crate) fn unwrapped_mut(list: &mut [Wrapping<i32>]) -> &mut [i32] {
+    // SAFETY: as in `unwrapped`, and the list is borrowed for as long.
+    unsafe { slice::from_raw_parts_mut(list.as_mut_ptr().cast(), list.len()) }
+}
+
+/// Starts as elements of their size, for a call that reads none of them.
+pub(crate) fn bits(list: &[i64]) -> &[f64] {
+    // SAFETY: on 64-bit targets both are aligned to their eight bytes, and
+    // every bit pattern is an `f64`.
     unsafe { slice::from_raw_parts(list.as_ptr().cast(), list.len()) }
 }
 

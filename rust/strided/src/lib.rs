@@ -164,16 +164,19 @@ mod error;
 #[allow(unsafe_code)]
 pub mod ffi;
 mod job;
+mod operand_scatter;
 mod plan;
 mod rule;
 mod spec;
 mod stored;
+pub mod strided_basic;
 mod view;
 
 pub use done::Done;
 pub use element::{Element, ElementType};
 pub use error::{Result, StridedError};
 pub use job::{check_job, gather_job, scatter_job, GatherJob, Job, ScatterJob};
+pub use operand_scatter::OperandScatterPlan;
 pub use plan::{GatherPlan, ScatterPlan};
 pub use rule::{Rule, RuleF64};
 pub use spec::{GatherSpec, ScatterSpec};
