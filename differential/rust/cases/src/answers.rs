@@ -139,7 +139,7 @@ pub fn first_seen<'a>(
     cases: impl IntoIterator<Item = &'a (&'a Answered, Answer, Vec<bool>)>,
 ) -> Option<&'a Answered> {
     let seen = |(answered, expected, added): &&(&Answered, Answer, Vec<bool>)| {
-        let Some(call) = answered.call() else {
+        let Some(call) = answered.call().filter(|call| model.may_differ(call)) else {
             return false;
         };
         let judged = std::panic::catch_unwind(|| model.judge(call).answer);

@@ -51,6 +51,11 @@ impl Model {
         self.twist.slip == Some(slip)
     }
 
+    /// Whether its twist can show in such a call.
+    pub fn may_differ(&self, call: &Call) -> bool {
+        self.twist.concerns(Kind::of(call))
+    }
+
     pub fn answer(&self, case: &Case) -> Answer {
         match case {
             Case::Call(call) => self.judge(call).answer,

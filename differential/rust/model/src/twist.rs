@@ -29,6 +29,12 @@ impl Twist {
         self.slip.is_some() || self.change.is_some()
     }
 
+    /// Whether calls of this kind can be answered otherwise: a change in the
+    /// order of one kind leaves the others as they are.
+    pub(crate) fn concerns(&self, kind: Kind) -> bool {
+        self.change.is_none_or(|(of, _, _)| of == kind)
+    }
+
     pub(crate) fn order(&self, kind: Kind) -> Vec<Check> {
         let mut checks = order(kind).to_vec();
         match self.change {
