@@ -13,7 +13,7 @@ use strided::{
 
 const CASES: usize = 4000;
 
-fn compiled(operand: &ViewLayout, job: &ScatterJob) -> Result<OperandScatterPlan> {
+pub fn compiled(operand: &ViewLayout, job: &ScatterJob) -> Result<OperandScatterPlan> {
     OperandScatterPlan::compile(
         &operand.dims,
         &operand.strides,
@@ -252,8 +252,12 @@ fn a_shape_that_is_not_the_operands() {
 fn put_with(operand: &ViewLayout, views: &ScatterJob) -> Result<Done> {
     let plan = compiled(&chart(), &cuts_added())?;
     let mut dest = [7; 5];
-    let slices = (&[10, 20, 30, 40, 50][..], &[0, 0, 9][..], &[3, 4, 5][..]);
-    let answer = put(&plan, (operand, views), slices, &mut dest, Rule::Add);
+    let answer = plan.execute(
+        &mut views.dest.view_mut(&mut dest),
+        &operand.view(&[10, 20, 30, 40, 50]),
+        &views.index.view(&[0, 0, 9]),
+        &views.updates.view(&[3, 4, 5]),
+    );
     match answer {
         Ok(_) => assert_eq!(dest, [17, 20, 30, 40, 55]),
         Err(_) => assert_eq!(dest, [7; 5]),

@@ -1,14 +1,15 @@
 //! The names of strided-rs: views that are tested when they are made, errors
 //! in its shapes, and calls beside those of the crate's root.
 
-use crate::cases::{bits, cells, operand_of, view, Cell, GatherCase, ScatterCase};
+use crate::cases::{bits, cells, operand_of, packed, summed, view, Cell, GatherCase, ScatterCase};
+use crate::operand::compiled;
 use crate::random::Random;
 use core::num::Wrapping;
 use strided::strided_basic::{
     Element, Exec, GatherIndex, GatherPlan, RawStridedMut, RawStridedRef, Result, ScatterPlan,
     StridedError, ViewElement,
 };
-use strided::{OperandScatterPlan, ViewLayout};
+use strided::{GatherJob, ScatterJob, ViewLayout};
 
 const CASES: usize = 3000;
 
@@ -141,6 +142,10 @@ fn plain_bits<T: Named>(cells: &[T]) -> Vec<u64> {
     cells.iter().map(|cell| cell.plain().bits()).collect()
 }
 
+fn plain_sums<T: Named>(cells: &[T]) -> Vec<u64> {
+    cells.iter().map(|cell| cell.plain().summed()).collect()
+}
+
 /// Starts of another type; those that it does not hold are cut off, and
 /// clamped all the same.
 fn as_i32(starts: &[i64]) -> Vec<i32> {
@@ -148,103 +153,92 @@ fn as_i32(starts: &[i64]) -> Vec<i32> {
     starts.iter().map(|&start| least(start) as i32).collect()
 }
 
+fn gather_plan(job: &GatherJob) -> GatherPlan {
+    let plan = GatherPlan::compile(
+        &job.operand.dims,
+        &job.operand.strides,
+        &job.index.dims,
+        &job.index.strides,
+        &job.dest.dims,
+        &job.dest.strides,
+        job.spec.clone(),
+    )
+    .expect("a valid gather");
+    assert_eq!(plan.spec(), &job.spec);
+    assert_eq!(plan.dest_dims(), job.dest.dims);
+    plan
+}
+
 fn gathers<T: Named>(seed: u64) {
     let mut random = Random::new(seed);
     for case in 0..CASES {
-        let GatherCase {
-            job,
-            operand_len,
-            starts,
-            dest_len,
-        } = GatherCase::random(&mut random, <T::Plain as strided::Element>::TYPE);
-        let operand = cells::<T::Plain>(&mut random, operand_len);
-        let mut expected = cells::<T::Plain>(&mut random, dest_len);
+        let call = GatherCase::random(&mut random, <T::Plain as strided::Element>::TYPE);
+        let job = &call.job;
+        let operand = cells::<T::Plain>(&mut random, call.operand_len);
+        let mut expected = cells::<T::Plain>(&mut random, call.dest_len);
         let mut dest = named_cells::<T>(&expected);
-        let plan = job.compile().unwrap();
-        let grid = &mut job.dest.view_mut(&mut expected);
-        plan.execute(grid, &job.operand.view(&operand), &job.index.view(&starts))
-            .unwrap();
-
-        let plan = GatherPlan::compile(
-            &job.operand.dims,
-            &job.operand.strides,
-            &job.index.dims,
-            &job.index.strides,
-            &job.dest.dims,
-            &job.dest.strides,
-            job.spec.clone(),
-        )
-        .unwrap();
-        assert_eq!(
-            (plan.spec(), plan.dest_dims()),
-            (&job.spec, &job.dest.dims[..])
+        let done = job.compile().unwrap().execute(
+            &mut job.dest.view_mut(&mut expected),
+            &job.operand.view(&operand),
+            &job.index.view(&call.starts),
         );
-        let operand = named_cells::<T>(&operand);
-        let starts = as_i32(&starts);
-        plan.execute(
+        assert!(done.is_ok(), "case {case}");
+
+        let (operand, starts) = (named_cells::<T>(&operand), as_i32(&call.starts));
+        let done = gather_plan(job).execute(
             &mut written(&job.dest, &mut dest).unwrap(),
             &read(&job.operand, &operand).unwrap(),
             &read(&job.index, &starts).unwrap(),
             Exec::serial(),
-        )
-        .unwrap();
+        );
+        assert_eq!(done, Ok(()), "case {case}");
         assert_eq!(plain_bits(&dest), bits(&expected), "case {case}");
     }
+}
+
+fn scatter_plan(operand: &ViewLayout, job: &ScatterJob) -> ScatterPlan {
+    ScatterPlan::compile(
+        &operand.dims,
+        &operand.strides,
+        &job.index.dims,
+        &job.index.strides,
+        &job.updates.dims,
+        &job.updates.strides,
+        &job.dest.dims,
+        &job.dest.strides,
+        job.spec.clone(),
+    )
+    .expect("a valid scatter")
 }
 
 fn scatters<T: Named>(seed: u64) {
     let mut random = Random::new(seed);
     for case in 0..CASES {
-        let ScatterCase {
-            job,
-            starts,
-            updates_len,
-            dest_len,
-        } = ScatterCase::random(&mut random, <T::Plain as strided::Element>::TYPE);
+        let call = ScatterCase::random(&mut random, <T::Plain as strided::Element>::TYPE);
+        let job = &call.job;
         let (operand, operand_len) = operand_of(&mut random, &job.dest.dims);
         let chart = cells::<T::Plain>(&mut random, operand_len);
-        let updates = cells::<T::Plain>(&mut random, updates_len);
-        let mut expected = cells::<T::Plain>(&mut random, dest_len);
+        let updates = cells::<T::Plain>(&mut random, call.updates_len);
+        let mut expected = cells::<T::Plain>(&mut random, call.dest_len);
         let mut dest = named_cells::<T>(&expected);
-        let (operand_dims, operand_strides) = (&operand.dims[..], &operand.strides[..]);
-        let (index_dims, index_strides) = (&job.index.dims[..], &job.index.strides[..]);
-        let (update_dims, update_strides) = (&job.updates.dims[..], &job.updates.strides[..]);
-        let (dest_dims, dest_strides) = (&job.dest.dims[..], &job.dest.strides[..]);
-        macro_rules! compiled {
-            ($plan:ident) => {
-                $plan::compile(
-                    operand_dims,
-                    operand_strides,
-                    index_dims,
-                    index_strides,
-                    update_dims,
-                    update_strides,
-                    dest_dims,
-                    dest_strides,
-                    job.spec.clone(),
-                )
-                .unwrap()
-            };
-        }
-        compiled!(OperandScatterPlan)
-            .execute(
-                &mut job.dest.view_mut(&mut expected),
-                &operand.view(&chart),
-                &job.index.view(&starts),
-                &job.updates.view(&updates),
-            )
-            .unwrap();
+        let done = compiled(&operand, job).unwrap().execute(
+            &mut job.dest.view_mut(&mut expected),
+            &operand.view(&chart),
+            &job.index.view(&call.starts),
+            &job.updates.view(&updates),
+        );
+        assert!(done.is_ok(), "case {case}");
+
         let (chart, updates) = (named_cells::<T>(&chart), named_cells::<T>(&updates));
-        compiled!(ScatterPlan)
-            .execute(
-                &mut written(&job.dest, &mut dest).unwrap(),
-                &read(&operand, &chart).unwrap(),
-                &read(&job.index, &starts).unwrap(),
-                &read(&job.updates, &updates).unwrap(),
-                Exec::serial(),
-            )
-            .unwrap();
-        assert_eq!(plain_bits(&dest), bits(&expected), "case {case}");
+        let done = scatter_plan(&operand, job).execute(
+            &mut written(&job.dest, &mut dest).unwrap(),
+            &read(&operand, &chart).unwrap(),
+            &read(&job.index, &call.starts).unwrap(),
+            &read(&job.updates, &updates).unwrap(),
+            Exec::serial(),
+        );
+        assert_eq!(done, Ok(()), "case {case}");
+        assert_eq!(plain_sums(&dest), summed(&expected), "case {case}");
     }
 }
 
@@ -260,6 +254,88 @@ fn scatters_are_those_of_the_root() {
     scatters::<i32>(95);
     scatters::<f64>(96);
     scatters::<Wrapping<i32>>(97);
+}
+
+/// Extents with one that is larger, or with one more.
+fn other_dims(random: &mut Random, dims: &[usize]) -> Vec<usize> {
+    let mut other = dims.to_vec();
+    let place = random.below(dims.len() + 1);
+    match other.get_mut(place) {
+        Some(dim) => *dim += 1,
+        None => other.push(1),
+    }
+    other
+}
+
+#[test]
+fn the_shapes_of_a_gather() {
+    let mut random = Random::new(98);
+    for case in 0..CASES {
+        let GatherJob {
+            operand,
+            index,
+            dest,
+            spec,
+            ..
+        } = GatherCase::random(&mut random, strided::ElementType::I32).job;
+        let given = packed(&other_dims(&mut random, &dest.dims));
+        let refusal = GatherPlan::compile(
+            &operand.dims,
+            &operand.strides,
+            &index.dims,
+            &index.strides,
+            &given.dims,
+            &given.strides,
+            spec,
+        )
+        .unwrap_err();
+        let named = StridedError::ShapeMismatch(given.dims, dest.dims);
+        assert_eq!(refusal, named, "case {case}");
+    }
+}
+
+fn refusal_of(operand: &ViewLayout, job: ScatterJob) -> StridedError {
+    ScatterPlan::compile(
+        &operand.dims,
+        &operand.strides,
+        &job.index.dims,
+        &job.index.strides,
+        &job.updates.dims,
+        &job.updates.strides,
+        &job.dest.dims,
+        &job.dest.strides,
+        job.spec,
+    )
+    .unwrap_err()
+}
+
+/// Of a destination that is not the operand's, also where the updates are
+/// wrong too; and of updates that are not the index's.
+#[test]
+fn the_shapes_of_a_scatter() {
+    let mut random = Random::new(99);
+    let mut found = [0, 0];
+    for case in 0..CASES {
+        let mut job = ScatterCase::random(&mut random, strided::ElementType::I32).job;
+        let (mut operand, _) = operand_of(&mut random, &job.dest.dims);
+        let expected = job.updates.dims.clone();
+        let windows = &job.spec.update_window_dims;
+        let batch = (0..expected.len()).find(|axis| !windows.contains(axis));
+        if let Some(axis) = batch {
+            job.updates.dims[axis] += 1;
+        }
+        let of_dest = batch.is_none() || random.one_in(2);
+        let named = match of_dest {
+            true => {
+                operand = packed(&other_dims(&mut random, &operand.dims));
+                StridedError::ShapeMismatch(job.dest.dims.clone(), operand.dims.clone())
+            }
+            false => StridedError::ShapeMismatch(job.updates.dims.clone(), expected),
+        };
+        found[usize::from(of_dest)] += 1;
+        assert_eq!(refusal_of(&operand, job), named, "case {case}");
+    }
+    assert!(found.iter().all(|&count| count > CASES / 10), "{found:?}");
 }
 
 #[test]
