@@ -82,13 +82,17 @@ pub mod fused {
     // `FusedAxis`, `EMPTY_AXIS`, `fuse_axes`, `total_len`.
     include!(concat!(env!("OUT_DIR"), "/fused.rs"));
 
-    /// The axes of a copy: ordered by the destination's stride, and merged
-    /// where both sides are contiguous. There is at least one.
-    pub(crate) fn axes(dims: &[usize], dest: &[isize], source: &[isize]) -> Vec<FusedAxis> {
-        let mut axes = vec![EMPTY_AXIS; dims.len().max(RAW_FUSED_RANK_LIMIT)];
+    /// The axes of a copy of at most eight, and how many they are: ordered by
+    /// the destination's stride, and merged where both sides are contiguous.
+    /// There is at least one.
+    pub(crate) fn axes(
+        dims: &[usize],
+        dest: &[isize],
+        source: &[isize],
+    ) -> ([FusedAxis; RAW_FUSED_RANK_LIMIT], usize) {
+        let mut axes = [EMPTY_AXIS; RAW_FUSED_RANK_LIMIT];
         let rank = fuse_axes(&mut axes, dims, dest, source);
-        axes.truncate(rank);
-        axes
+        (axes, rank)
     }
 
     /// How many cells a copy has.
@@ -100,7 +104,7 @@ pub mod fused {
 pub mod copy_plan {
     use super::fused::{self, FusedAxis};
     use super::raw_ops::{FusedPairLayout, PairTiles};
-    use super::{Exec, RawStridedMut, RawStridedRef, Result};
+    use super::{Exec, RawStridedMut, RawStridedRef, Result, RAW_FUSED_RANK_LIMIT};
     use std::mem::MaybeUninit;
 
     pub trait OverwriteWriter<T> {
@@ -172,16 +176,16 @@ pub mod copy_plan {
     /// a product that fits, and so nothing is refused.
     #[derive(Clone, Debug)]
     pub struct CopyPlan {
-        axes: Vec<FusedAxis>,
+        axes: [FusedAxis; RAW_FUSED_RANK_LIMIT],
+        rank: usize,
         cells: usize,
     }
 
     impl CopyPlan {
         pub fn compile(dims: &[usize], dest: &[isize], source: &[isize]) -> Result<Self> {
-            Ok(CopyPlan {
-                axes: fused::axes(dims, dest, source),
-                cells: fused::cells(dims)?,
-            })
+            let (axes, rank) = fused::axes(dims, dest, source);
+            let cells = fused::cells(dims)?;
+            Ok(CopyPlan { axes, rank, cells })
         }
 
         pub fn execute<T: Copy>(
@@ -190,7 +194,7 @@ pub mod copy_plan {
             source: &RawStridedRef<'_, T>,
             _exec: Exec<'_>,
         ) -> Result<()> {
-            let [run, outer @ ..] = &self.axes[..] else {
+            let [run, outer @ ..] = &self.axes[..self.rank] else {
                 return Ok(());
             };
             if self.cells == 0 {
