@@ -58,25 +58,10 @@ impl<T: Element, K: Kind> Bench<'_, T, K> {
             }
             Way::Execute => K::execute(black_box(&self.plan), job, &self.source, dest),
             Way::Memcpy => black_box(&mut self.copy[..]).copy_from_slice(black_box(&self.copied)),
-            Way::PlainLoop => {
-                let (from, to) = (self.source.as_ptr(), dest.as_mut_ptr());
-                // SAFETY: both slices were made with room for their layouts,
-                // the operand's behind the updates, and every start is
-                // clamped.
-                unsafe {
-                    if let Some(operand) = &job.operand {
-                        plain::copy(operand, &job.grid, from.add(job.windows.room()), to);
-                    }
-                    if K::ADD {
-                        plain::run::<T, true>(job, from, to, &mut self.bases);
-                    } else {
-                        plain::run::<T, false>(job, from, to, &mut self.bases);
-                    }
-                }
-            }
+            Way::PlainLoop => self.plain_loop(dest),
             Way::Touch => {
                 let (from, to) = (self.source.as_ptr(), dest.as_mut_ptr());
-                // SAFETY: as above.
+                // SAFETY: as for the plain loop.
                 unsafe {
                     if K::ADD {
                         plain::touch::<T, true>(job, from, to);
@@ -84,6 +69,23 @@ impl<T: Element, K: Kind> Bench<'_, T, K> {
                         plain::touch::<T, false>(job, from, to);
                     }
                 }
+            }
+        }
+    }
+
+    fn plain_loop(&mut self, dest: &mut [T]) {
+        let job = black_box(self.job);
+        let (from, to) = (self.source.as_ptr(), dest.as_mut_ptr());
+        // SAFETY: both slices were made with room for their layouts, the
+        // operand's behind the updates, and every start is clamped.
+        unsafe {
+            if let Some(operand) = &job.operand {
+                plain::copy(operand, &job.grid, from.add(job.windows.room()), to);
+            }
+            if K::ADD {
+                plain::run::<T, true>(job, from, to, &mut self.bases);
+            } else {
+                plain::run::<T, false>(job, from, to, &mut self.bases);
             }
         }
     }

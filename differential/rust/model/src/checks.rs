@@ -178,14 +178,7 @@ pub fn order(kind: Kind) -> &'static [Check] {
 
 impl Check {
     pub fn name(self, kind: Kind) -> String {
-        let gather = kind == Kind::Gather;
-        let view = |place: usize| {
-            let names = match gather {
-                true => ["operand", "index", "destination"],
-                false => ["index", "updates", "destination"],
-            };
-            names[place]
-        };
+        let view = |place| view_name(kind, place);
         let name = match self {
             Check::Product(place) => return format!("{}-product", view(place)),
             Check::Span(place) => return format!("{}-span", view(place)),
@@ -209,7 +202,7 @@ impl Check {
             Check::WindowCountInRank => "window-axis-count-above-rank",
             Check::BatchRank => "batch-rank",
             Check::WindowAxes => "window-axes",
-            Check::Shape if gather => "shape",
+            Check::Shape if kind == Kind::Gather => "shape",
             Check::Shape => "batch-extents",
             Check::DestResets => "destination-resets",
             Check::WindowResets => "window-resets",
@@ -223,6 +216,15 @@ impl Check {
         };
         name.to_string()
     }
+}
+
+/// The name of the view at this place of the job's.
+fn view_name(kind: Kind, place: usize) -> &'static str {
+    let names = match kind {
+        Kind::Gather => ["operand", "index", "destination"],
+        Kind::Scatter | Kind::OperandScatter => ["index", "updates", "destination"],
+    };
+    names[place]
 }
 
 fn count(list: &[u64]) -> u64 {
