@@ -3,7 +3,9 @@
 
 use crate::arguments::{change_scatter, change_view, wild_scatter, wild_starts, wild_view};
 use crate::arguments::{CASES as WILD_CASES, MOST_UPDATES};
-use crate::cases::{bits, cells, cuts_added, operand_of, packed, summed, view, Cell, ScatterCase};
+use crate::cases::{
+    bits, cells, cuts_added, nested_of, operand_of, packed, summed, view, Cell, ScatterCase,
+};
 use crate::random::Random;
 use crate::reference::{coordinates, landings, place, plain_scatter, slid_in_scatter};
 use strided::ffi::{self, Answer};
@@ -412,6 +414,37 @@ fn no_updates_and_no_cells() {
     };
     assert_eq!(put_none(&none), Ok(0));
     assert_eq!(put_none(&view(&[0], &[7], 3)), Err(1));
+}
+
+/// The copy alone, over eight axes, some of which lie behind each other in both
+/// layouts, in one, or in none.
+#[test]
+fn copies_of_eight_axes() {
+    let mut random = Random::new(85);
+    for case in 0..CASES / 4 {
+        let dims = random.list(8, |random| random.pick(&[1, 1, 1, 2, 2, 3]));
+        let mut job = cuts_added();
+        let (dest, dest_len) = nested_of(&mut random, &dims);
+        job.dest = dest;
+        job.index = packed(&[0]);
+        job.updates = packed(&[0]);
+        job.spec.inserted_window_dims = (0..8).collect();
+        let (operand, operand_len) = match random.below(3) {
+            0 => operand_of(&mut random, &dims),
+            1 => nested_of(&mut random, &dims),
+            // The destination's own layout: one run of it all.
+            _ => (job.dest.clone(), dest_len),
+        };
+        let chart = cells::<i32>(&mut random, operand_len);
+        let mut dest = cells::<i32>(&mut random, dest_len);
+        let mut expected = dest.clone();
+        plain_copy(&operand, &chart, &job, &mut expected);
+        let plan = compiled(&operand, &job).expect("a valid scatter");
+        let slices = (&chart[..], &[][..], &[][..]);
+        let done = put(&plan, (&operand, &job), slices, &mut dest, Rule::Add);
+        assert_eq!(done.map(Done::slid), Ok(0), "case {case}");
+        assert_eq!(dest, expected, "case {case}: {operand:?} to {:?}", job.dest);
+    }
 }
 
 /// The cuts added to a chart by the library itself, with a number for the rule
