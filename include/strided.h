@@ -4,9 +4,9 @@
    Its answer is four numbers in `answer`: STRIDED_DONE, or one of the refusals below, then a and b, 0 where unnamed, and last
    how many windows slid; the version's function alone has none, and returns its number.
    A refusal changes no element of a destination and no byte of a job. A call that is done changes only the destination's
-   elements that its cells name. An accepted call takes as long as its plan has cells: a gather has at most as many as its
-   destination has elements, but a scatter whose index and updates have strides of 0 can name 2^62 updates in a few
-   elements, and at a nanosecond each such a call would take more than a hundred years.
+   elements that its cells name. An accepted call takes as long as its plan has cells: a gather, and the copy of an operand, has at
+   most as many as its destination has elements, but a scatter whose index and updates have strides of 0 can name 2^62 updates in a
+   few elements, and at a nanosecond each such a call would take more than a hundred years.
 
    What the caller owes:
    - A slice is a pointer to its first element and a count of elements; the count is true, for as long as the call takes.
@@ -37,6 +37,12 @@
    A call by lists names its rule. One that is not listed for the element is refused before everything else, and changes nothing.
    The functions that run a stored job mean Add.
 
+   A scatter may have an operand, in the functions with `operand` in their names: a grid with the destination's extents, and with
+   strides and a view of its own, that is copied cell by cell into the destination before the first update. What an element that a
+   cell of the destination names holds before the updates is then the operand's cell, whatever it held before the call; all other
+   elements keep theirs. For two scatters on one grid the operand is copied once, by the first call; the second goes without it.
+   The functions that run a stored job copy none.
+
    No function takes a plan: a call compiles what it is given, lists or a stored job, and runs it. So the half of 8 that
    refuses a plan which compile did not make has no place here; it is in the calls with a plan, for Rattle programs. */
 #ifndef STRIDED_H
@@ -52,10 +58,10 @@ extern "C" {
 /* The version of these functions, which grows with every change of them, and which the function returns. An archive of another
    version has no function of this name, and a program that includes this header does not link with it (with GCC and Clang; with
    other compilers, if it calls the function). */
-#define STRIDED_VERSION 3
-uint64_t strided_version_3(void);
+#define STRIDED_VERSION 4
+uint64_t strided_version_4(void);
 #if defined(__GNUC__)
-__attribute__((used)) static uint64_t (*const strided_version_wanted)(void) = strided_version_3;
+__attribute__((used)) static uint64_t (*const strided_version_wanted)(void) = strided_version_4;
 #endif
 
 #define STRIDED_RANK_LIMIT 8
@@ -254,6 +260,89 @@ void strided_raw_scatter_f64(
     const int64_t *updates_view_strides, size_t updates_view_strides_count, int64_t updates_offset,
     const uint64_t *dest_view_extents, size_t dest_view_extents_count,
     const int64_t *dest_view_strides, size_t dest_view_strides_count, int64_t dest_offset,
+    const int64_t *starts, size_t starts_count,
+    const double *updates, size_t updates_count,
+    double *dest, size_t dest_count,
+    uint64_t answer[4]);
+
+/* ---- scatters with an operand */
+
+/* Compile's refusal alone. answer[3] is 0. The first that is met: 1, of the operand, the index, the updates and the destination;
+   2, of the same in turn; 3, where the product of the extents of the operand, the index or the updates does not fit; 7, where the
+   destination's extents are not the operand's (a: the destination's rank; b: the operand's); 3, where the destination's span does
+   not fit, then the operand's; 4; and then as in strided_scatter_refusal. */
+void strided_scatter_operand_refusal(
+    const uint64_t *operand_extents, size_t operand_extents_count,
+    const int64_t *operand_strides, size_t operand_strides_count,
+    const uint64_t *index_extents, size_t index_extents_count,
+    const int64_t *index_strides, size_t index_strides_count,
+    const uint64_t *updates_extents, size_t updates_extents_count,
+    const int64_t *updates_strides, size_t updates_strides_count,
+    const uint64_t *dest_extents, size_t dest_extents_count,
+    const int64_t *dest_strides, size_t dest_strides_count,
+    const uint64_t *update_window_dims, size_t update_window_dims_count,
+    const uint64_t *inserted_window_dims, size_t inserted_window_dims_count,
+    const uint64_t *scatter_dims_to_operand_dims, size_t scatter_dims_to_operand_dims_count,
+    uint64_t index_vector_dim,
+    uint64_t answer[4]);
+
+/* Compile by the first four layouts and the lists, then call on the four views: 8 where a view's layout is not the one that was
+   compiled for it, then 9 for the first view (operand 1, index 2, updates 3, destination 4) that reaches outside its slice. Done,
+   each cell of the destination has become the operand's at the same coordinates, bit for bit, and then the updates have gone on by
+   the rule, whose promises hold with the operand's cell as what was held before. Elements that no cell of the destination names
+   stay. answer[3] is how many windows slid: the copy makes no difference to it. The rule and the limit are those of the scatters
+   above; an unlisted rule is refused first, and nothing is copied then. */
+void strided_raw_scatter_operand_i32(
+    uint64_t rule,
+    const uint64_t *operand_extents, size_t operand_extents_count,
+    const int64_t *operand_strides, size_t operand_strides_count,
+    const uint64_t *index_extents, size_t index_extents_count,
+    const int64_t *index_strides, size_t index_strides_count,
+    const uint64_t *updates_extents, size_t updates_extents_count,
+    const int64_t *updates_strides, size_t updates_strides_count,
+    const uint64_t *dest_extents, size_t dest_extents_count,
+    const int64_t *dest_strides, size_t dest_strides_count,
+    const uint64_t *update_window_dims, size_t update_window_dims_count,
+    const uint64_t *inserted_window_dims, size_t inserted_window_dims_count,
+    const uint64_t *scatter_dims_to_operand_dims, size_t scatter_dims_to_operand_dims_count,
+    uint64_t index_vector_dim,
+    const uint64_t *operand_view_extents, size_t operand_view_extents_count,
+    const int64_t *operand_view_strides, size_t operand_view_strides_count, int64_t operand_offset,
+    const uint64_t *index_view_extents, size_t index_view_extents_count,
+    const int64_t *index_view_strides, size_t index_view_strides_count, int64_t index_offset,
+    const uint64_t *updates_view_extents, size_t updates_view_extents_count,
+    const int64_t *updates_view_strides, size_t updates_view_strides_count, int64_t updates_offset,
+    const uint64_t *dest_view_extents, size_t dest_view_extents_count,
+    const int64_t *dest_view_strides, size_t dest_view_strides_count, int64_t dest_offset,
+    const int32_t *operand, size_t operand_count,
+    const int64_t *starts, size_t starts_count,
+    const int32_t *updates, size_t updates_count,
+    int32_t *dest, size_t dest_count,
+    uint64_t answer[4]);
+
+void strided_raw_scatter_operand_f64(
+    uint64_t rule, double limit,
+    const uint64_t *operand_extents, size_t operand_extents_count,
+    const int64_t *operand_strides, size_t operand_strides_count,
+    const uint64_t *index_extents, size_t index_extents_count,
+    const int64_t *index_strides, size_t index_strides_count,
+    const uint64_t *updates_extents, size_t updates_extents_count,
+    const int64_t *updates_strides, size_t updates_strides_count,
+    const uint64_t *dest_extents, size_t dest_extents_count,
+    const int64_t *dest_strides, size_t dest_strides_count,
+    const uint64_t *update_window_dims, size_t update_window_dims_count,
+    const uint64_t *inserted_window_dims, size_t inserted_window_dims_count,
+    const uint64_t *scatter_dims_to_operand_dims, size_t scatter_dims_to_operand_dims_count,
+    uint64_t index_vector_dim,
+    const uint64_t *operand_view_extents, size_t operand_view_extents_count,
+    const int64_t *operand_view_strides, size_t operand_view_strides_count, int64_t operand_offset,
+    const uint64_t *index_view_extents, size_t index_view_extents_count,
+    const int64_t *index_view_strides, size_t index_view_strides_count, int64_t index_offset,
+    const uint64_t *updates_view_extents, size_t updates_view_extents_count,
+    const int64_t *updates_view_strides, size_t updates_view_strides_count, int64_t updates_offset,
+    const uint64_t *dest_view_extents, size_t dest_view_extents_count,
+    const int64_t *dest_view_strides, size_t dest_view_strides_count, int64_t dest_offset,
+    const double *operand, size_t operand_count,
     const int64_t *starts, size_t starts_count,
     const double *updates, size_t updates_count,
     double *dest, size_t dest_count,

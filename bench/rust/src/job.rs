@@ -20,6 +20,18 @@ impl Layout {
             strides.push(next);
             next *= extent as i64;
         }
+        Layout::of(extents, strides)
+    }
+
+    /// Last axis fastest.
+    fn turned(extents: &[u64]) -> Layout {
+        let reversed: Vec<u64> = extents.iter().rev().copied().collect();
+        let mut strides = Layout::new(&reversed, 1).strides;
+        strides.reverse();
+        Layout::of(extents, strides)
+    }
+
+    fn of(extents: &[u64], strides: Vec<i64>) -> Layout {
         Layout {
             extents: extents.to_vec(),
             dims: usizes(extents),
@@ -55,6 +67,8 @@ pub struct Job {
     pub order: Order,
     pub batch: usize,
     pub grid: Layout,
+    /// The operand that a scatter copies to the grid first, if it does.
+    pub operand: Option<Layout>,
     pub index: Layout,
     pub windows: Layout,
     /// A window's extents along the grid's axes.
@@ -81,6 +95,7 @@ impl Job {
             order: Order::BatchLast,
             batch: batch as usize,
             grid: Layout::new(grid, 1),
+            operand: None,
             index: Layout::new(&[rank, batch], 1),
             windows: Layout::new(&[window, &[batch]].concat(), 1),
             slice_sizes: window.to_vec(),
@@ -108,6 +123,7 @@ impl Job {
             order: Order::Scalars,
             batch: batch as usize,
             grid: Layout::new(&[cells], 1),
+            operand: None,
             index: Layout::new(&[batch], 1),
             windows: Layout::new(&[batch], 1),
             slice_sizes: vec![1],
@@ -136,8 +152,25 @@ impl Job {
         self.with_starts()
     }
 
+    /// With an operand in the grid's layout.
+    pub fn on_operand(mut self) -> Job {
+        self.operand = Some(self.grid.clone());
+        self
+    }
+
+    /// With an operand whose last axis is the fastest.
+    pub fn on_turned_operand(mut self) -> Job {
+        self.operand = Some(Layout::turned(&self.grid.extents));
+        self
+    }
+
     pub fn cells(&self) -> usize {
         self.windows.dims.iter().product()
+    }
+
+    /// The cells of the windows, and those of the operand.
+    pub fn all_cells(&self) -> usize {
+        self.cells() + self.operand.as_ref().map_or(0, Layout::room)
     }
 
     /// What one start and one component add to the place in the starts.

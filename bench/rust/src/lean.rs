@@ -1,28 +1,45 @@
 //! Two stand-ins other than the differential run's, so that the Rust is not
-//! charged for theirs: a scatter's copy of the operand that does nothing, and
-//! a layout test without a heap.
+//! charged for theirs: a copy of the operand with raw pointers, which does
+//! nothing where a scatter has no operand of its own, and a layout test
+//! without a heap.
 
 pub mod copy_plan {
     pub use crate::stubs::copy_plan::{replay_fused_raw, OverwriteWriter, ReadModifyWrite};
-    use crate::stubs::{Exec, RawStridedMut, RawStridedRef, Result};
+    use crate::stubs::fused::{self, FusedAxis};
+    use crate::stubs::{Exec, RawStridedMut, RawStridedRef, Result, RAW_FUSED_RANK_LIMIT};
     use std::mem::MaybeUninit;
 
-    /// The library adds to the destination as it stands, and so does the Rust
-    /// here.
     #[derive(Clone, Debug)]
-    pub struct CopyPlan;
+    pub enum CopyPlan {
+        /// Without an operand the library adds to the destination as it
+        /// stands, and so does the Rust here.
+        Nothing,
+        /// Over so many axes that the Rust's `fuse_axes` has merged.
+        Axes([FusedAxis; RAW_FUSED_RANK_LIMIT], usize),
+    }
 
     impl CopyPlan {
-        pub fn compile(_dims: &[usize], _dest: &[isize], _source: &[isize]) -> Result<Self> {
-            Ok(CopyPlan)
+        /// A scatter without an operand lends the destination's own strides.
+        pub fn compile(dims: &[usize], dest: &[isize], source: &[isize]) -> Result<Self> {
+            if std::ptr::eq(dest, source) || fused::cells(dims)? == 0 {
+                return Ok(CopyPlan::Nothing);
+            }
+            let (axes, rank) = fused::axes(dims, dest, source);
+            Ok(CopyPlan::Axes(axes, rank))
         }
 
         pub fn execute<T: Copy>(
             &self,
-            _dest: &mut RawStridedMut<'_, T>,
-            _source: &RawStridedRef<'_, T>,
+            dest: &mut RawStridedMut<'_, T>,
+            source: &RawStridedRef<'_, T>,
             _exec: Exec<'_>,
         ) -> Result<()> {
+            if let CopyPlan::Axes(axes, rank) = self {
+                let from = source.data.as_ptr().wrapping_offset(source.offset);
+                let to = dest.data.as_mut_ptr().wrapping_offset(dest.offset);
+                // SAFETY: both slices were made with room for their layouts.
+                unsafe { copy(&axes[..*rank], from, to) };
+            }
             Ok(())
         }
 
@@ -35,6 +52,30 @@ pub mod copy_plan {
             _then: impl FnOnce(RawStridedMut<'a, T>, Exec<'_>) -> R,
         ) -> Result<R> {
             unreachable!()
+        }
+    }
+
+    /// The last axis outside, the first as a run: in one piece where both
+    /// sides go by 1.
+    ///
+    /// # Safety
+    /// Every cell lies inside its slice.
+    unsafe fn copy<T: Copy>(axes: &[FusedAxis], from: *const T, to: *mut T) {
+        match axes {
+            [] => {}
+            [run] if run.src == 1 && run.dst == 1 => {
+                std::ptr::copy_nonoverlapping(from, to, run.dim);
+            }
+            [run] => {
+                for n in 0..run.dim as isize {
+                    *to.offset(n * run.dst) = *from.offset(n * run.src);
+                }
+            }
+            [inner @ .., outer] => {
+                for n in 0..outer.dim as isize {
+                    copy(inner, from.offset(n * outer.src), to.offset(n * outer.dst));
+                }
+            }
         }
     }
 }

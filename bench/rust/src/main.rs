@@ -31,7 +31,7 @@ pub use stubs::{INLINE_RANK, RAW_FUSED_RANK_LIMIT};
 use element::Element;
 use job::Job;
 use measure::measure;
-use original::{Gather, Kind, Scatter};
+use original::{Gather, Kind, OperandScatter, Scatter};
 use rules::{Lowest, Replace};
 use stored::Stored;
 
@@ -46,6 +46,7 @@ fn main() {
     println!("|---|---|---|---|---|---|---|---|");
     gathers(rounds, &some);
     scatters(rounds, &some);
+    charts(rounds, &some);
     ruled::<Lowest<i32>, Lowest<f64>>("Lowest", rounds, &some);
     ruled::<Replace<i32>, Replace<f64>>("Replace", rounds, &some);
     for (name, job) in small() {
@@ -133,6 +134,36 @@ fn scatters(rounds: usize, some: &str) {
         if name.contains(some) {
             measure::<i32, Scatter>(&name, &job, rounds);
             measure::<f64, Scatter>(&name, &job, rounds);
+        }
+    }
+}
+
+/// Scatters that copy a chart first.
+fn charts(rounds: usize, some: &str) {
+    let windows = || Job::windows(&[1000, 1000], &[64, 64], 256);
+    let one = || Job::windows(&[1000, 1000], &[1, 1], 1);
+    let small = || Job::windows(&[4, 4], &[2, 2], 1);
+    for (name, job) in [
+        ("64×64, 256 starts, on a chart", windows().on_operand()),
+        (
+            "64×64, 256 starts, on a chart turned round",
+            windows().on_turned_operand(),
+        ),
+        ("1×1, 1 start, on a chart of 1000×1000", one().on_operand()),
+        (
+            "1×1, 1 start, on a chart of 1000×1000 turned round",
+            one().on_turned_operand(),
+        ),
+        ("2×2, 1 start, on a chart of 4×4", small().on_operand()),
+        (
+            "2×2, 1 start, on a chart of 4×4 turned round",
+            small().on_turned_operand(),
+        ),
+    ] {
+        let name = format!("scatter {name}");
+        if name.contains(some) {
+            measure::<i32, OperandScatter>(&name, &job, rounds);
+            measure::<f64, OperandScatter>(&name, &job, rounds);
         }
     }
 }

@@ -1,7 +1,7 @@
 //! One row: the ways compared, then timed in turn.
 
 use crate::element::Element;
-use crate::job::Job;
+use crate::job::{Job, Layout};
 use crate::original::Kind;
 use crate::plain;
 use std::hint::black_box;
@@ -38,7 +38,8 @@ struct Bench<'a, T, K: Kind> {
     source: Vec<T>,
     /// The destination before the first call.
     fresh: Vec<T>,
-    /// As many elements as the job has cells, and where memcpy puts them.
+    /// As many elements as the job has cells, or its operand where it has one,
+    /// and where memcpy puts them.
     copied: Vec<T>,
     copy: Vec<T>,
     bases: Vec<isize>,
@@ -57,21 +58,10 @@ impl<T: Element, K: Kind> Bench<'_, T, K> {
             }
             Way::Execute => K::execute(black_box(&self.plan), job, &self.source, dest),
             Way::Memcpy => black_box(&mut self.copy[..]).copy_from_slice(black_box(&self.copied)),
-            Way::PlainLoop => {
-                let (from, to) = (self.source.as_ptr(), dest.as_mut_ptr());
-                // SAFETY: both slices were made with room for their layouts,
-                // and every start is clamped.
-                unsafe {
-                    if K::ADD {
-                        plain::run::<T, true>(job, from, to, &mut self.bases);
-                    } else {
-                        plain::run::<T, false>(job, from, to, &mut self.bases);
-                    }
-                }
-            }
+            Way::PlainLoop => self.plain_loop(dest),
             Way::Touch => {
                 let (from, to) = (self.source.as_ptr(), dest.as_mut_ptr());
-                // SAFETY: as above.
+                // SAFETY: as for the plain loop.
                 unsafe {
                     if K::ADD {
                         plain::touch::<T, true>(job, from, to);
@@ -79,6 +69,23 @@ impl<T: Element, K: Kind> Bench<'_, T, K> {
                         plain::touch::<T, false>(job, from, to);
                     }
                 }
+            }
+        }
+    }
+
+    fn plain_loop(&mut self, dest: &mut [T]) {
+        let job = black_box(self.job);
+        let (from, to) = (self.source.as_ptr(), dest.as_mut_ptr());
+        // SAFETY: both slices were made with room for their layouts, the
+        // operand's behind the updates, and every start is clamped.
+        unsafe {
+            if let Some(operand) = &job.operand {
+                plain::copy(operand, &job.grid, from.add(job.windows.room()), to);
+            }
+            if K::ADD {
+                plain::run::<T, true>(job, from, to, &mut self.bases);
+            } else {
+                plain::run::<T, false>(job, from, to, &mut self.bases);
             }
         }
     }
@@ -100,7 +107,7 @@ impl<T: Element, K: Kind> Bench<'_, T, K> {
     /// another rule the slice is made fresh before each, since otherwise no
     /// update would change it any more.
     fn time<const N: usize>(&mut self, ways: [Way; N], dest: &mut [T], rounds: usize) -> [f64; N] {
-        let times = (100_000 / self.job.cells()).clamp(1, 1000);
+        let times = (100_000 / self.job.all_cells()).clamp(1, 1000);
         let mut taken = [(); N].map(|()| Vec::new());
         for round in 0..rounds {
             let step = 1 + round % (N - 1);
@@ -139,21 +146,21 @@ fn fresh<T: Element>(count: usize) -> Vec<T> {
 }
 
 pub fn measure<T: Element, K: Kind>(name: &str, job: &Job, rounds: usize) {
-    let (from, to) = if K::ADD {
-        (&job.windows, &job.grid)
-    } else {
-        (&job.grid, &job.windows)
+    let to = match K::ADD {
+        true => &job.grid,
+        false => &job.windows,
     };
     let cells = job.cells();
+    let copied = job.operand.as_ref().map_or(cells, Layout::room);
     let mut bench = Bench::<T, K> {
         job,
         spec: K::spec(job),
         plan: K::compile(job, K::spec(job)),
         library: K::prepare(job),
-        source: elements(from.room()),
+        source: elements(K::room(job)),
         fresh: fresh(to.room()),
-        copied: elements(cells),
-        copy: elements(cells),
+        copied: elements(copied),
+        copy: elements(copied),
         bases: vec![0; job.batch],
     };
     bench.compare(name);

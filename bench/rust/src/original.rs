@@ -14,6 +14,13 @@ pub trait Kind {
     type Spec: Clone;
     type Plan;
     type Library;
+    /// How many elements the source has.
+    fn room(job: &Job) -> usize {
+        match Self::ADD {
+            true => job.windows.room(),
+            false => job.grid.room(),
+        }
+    }
     fn spec(job: &Job) -> Self::Spec;
     /// The Rust takes the lists by value, so each compile needs its own.
     fn compile(job: &Job, spec: Self::Spec) -> Self::Plan;
@@ -47,6 +54,11 @@ fn write<'a, T>(layout: &'a Layout, data: &'a mut [T]) -> RawStridedMut<'a, T> {
         strides: &layout.steps,
         offset: 0,
     }
+}
+
+/// The layout of the operand.
+fn operand(job: &Job) -> &Layout {
+    job.operand.as_ref().expect("the job has an operand")
 }
 
 /// The lists of the job, as the library's crate takes them.
@@ -200,6 +212,86 @@ impl Kind for Scatter {
             &mut lend_mut(&job.grid, T::lent_mut(dest)),
             &lend(&job.index, &job.starts),
             &lend(&job.windows, T::lent(source)),
+            T::RULE,
+        )
+        .expect("the library refuses");
+    }
+}
+
+/// A scatter with an operand, whose elements stand behind the updates in the
+/// source.
+pub struct OperandScatter;
+
+impl Kind for OperandScatter {
+    const ADD: bool = true;
+    type Spec = ScatterSpec;
+    type Plan = ScatterPlan;
+    type Library = strided::OperandScatterPlan;
+
+    fn room(job: &Job) -> usize {
+        job.windows.room() + operand(job).room()
+    }
+
+    fn spec(job: &Job) -> ScatterSpec {
+        Scatter::spec(job)
+    }
+
+    #[inline(never)]
+    fn compile(job: &Job, spec: ScatterSpec) -> ScatterPlan {
+        ScatterPlan::compile(
+            &operand(job).dims,
+            &operand(job).steps,
+            &job.index.dims,
+            &job.index.steps,
+            &job.windows.dims,
+            &job.windows.steps,
+            &job.grid.dims,
+            &job.grid.steps,
+            spec,
+        )
+        .expect("the Rust refuses")
+    }
+
+    #[inline(never)]
+    fn execute<T: Element>(plan: &ScatterPlan, job: &Job, source: &[T], dest: &mut [T]) {
+        let (updates, elements) = source.split_at(job.windows.room());
+        plan.execute(
+            &mut write(&job.grid, dest),
+            &read(operand(job), elements),
+            &read(&job.index, &job.starts),
+            &read(&job.windows, updates),
+            Exec::serial(),
+        )
+        .expect("the Rust refuses");
+    }
+
+    fn prepare(job: &Job) -> strided::OperandScatterPlan {
+        strided::OperandScatterPlan::compile(
+            &operand(job).dims,
+            &operand(job).steps,
+            &job.index.dims,
+            &job.index.steps,
+            &job.windows.dims,
+            &job.windows.steps,
+            &job.grid.dims,
+            &job.grid.steps,
+            scatter_spec(job),
+        )
+        .expect("the library refuses")
+    }
+
+    fn library<T: Element>(
+        plan: &strided::OperandScatterPlan,
+        job: &Job,
+        source: &[T],
+        dest: &mut [T],
+    ) {
+        let (updates, elements) = T::lent(source).split_at(job.windows.room());
+        plan.execute_by(
+            &mut lend_mut(&job.grid, T::lent_mut(dest)),
+            &lend(operand(job), elements),
+            &lend(&job.index, &job.starts),
+            &lend(&job.windows, updates),
             T::RULE,
         )
         .expect("the library refuses");

@@ -2,7 +2,7 @@
 //! in which the windows lie, each start clamped once where it can be.
 
 use crate::element::Element;
-use crate::job::{Job, Order};
+use crate::job::{Job, Layout, Order};
 
 /// A window's extents, and its steps in the grid and in the windows; axes
 /// that it lacks have one cell.
@@ -81,9 +81,33 @@ unsafe fn batch_last<T: Element, const ADD: bool>(job: &Job, source: *const T, d
     }
 }
 
-/// Whether `touch` is made for the job: windows of rows that lie close.
+/// Copies an operand of two axes to the grid: in one piece where both have the
+/// same packed layout.
+///
+/// # Safety
+/// Both slices hold their layouts.
+#[inline(never)]
+pub unsafe fn copy<T: Element>(operand: &Layout, grid: &Layout, source: *const T, dest: *mut T) {
+    if operand.steps == grid.steps {
+        return std::ptr::copy_nonoverlapping(source, dest, grid.room());
+    }
+    let ([from, from_column], [to, to_column]) = (&operand.steps[..], &grid.steps[..]) else {
+        unreachable!("charts have two axes here")
+    };
+    for j in 0..grid.dims[1] as isize {
+        for i in 0..grid.dims[0] as isize {
+            *dest.offset(j * to_column + i * to) = *source.offset(j * from_column + i * from);
+        }
+    }
+}
+
+/// Whether `touch` is made for the job: windows of rows that lie close, and
+/// no operand, whose copy it does not know.
 pub fn is_touched(job: &Job) -> bool {
-    job.order == Order::BatchLast && job.slice_sizes.len() == 2 && job.slice_sizes[0] >= 64
+    job.operand.is_none()
+        && job.order == Order::BatchLast
+        && job.slice_sizes.len() == 2
+        && job.slice_sizes[0] >= 64
 }
 
 /// One cell in every 64 bytes of each row of each window, a line of the

@@ -22,7 +22,7 @@ pub enum State {
 }
 
 /// The version of the exports that this crate is for.
-pub const VERSION: u64 = 3;
+pub const VERSION: u64 = 4;
 /// An archive exports a function of this name and its version.
 const VERSION_NAME: &[u8] = b"strided_version_";
 

@@ -1,7 +1,9 @@
 //! The calls that there are for each type of element.
 
 use crate::ffi::{self, steps, words};
-use crate::{Done, Element, GatherPlan, Result, ScatterPlan, StridedMut, StridedRef};
+use crate::{
+    Done, Element, GatherPlan, OperandScatterPlan, Result, ScatterPlan, StridedMut, StridedRef,
+};
 
 /// The calls that there are for each type of element. A user cannot name this
 /// trait, so that [`Element`](crate::Element) stays with `i32` and `f64`.
@@ -31,14 +33,26 @@ pub trait Calls: Sized {
     ) -> Result<Done>
     where
         Self: Element;
+
+    #[doc(hidden)]
+    fn raw_operand_scatter(
+        plan: &OperandScatterPlan,
+        dest: &mut StridedMut<'_, Self>,
+        operand: &StridedRef<'_, Self>,
+        starts: &StridedRef<'_, i64>,
+        updates: &StridedRef<'_, Self>,
+        rule: <Self as Element>::Rule,
+    ) -> Result<Done>
+    where
+        Self: Element;
 }
 
-/// The calls of one type of element: the functions' names, and how the last of
-/// them takes a rule.
+/// The calls of one type of element: the functions' names, and how the last two
+/// of them take a rule.
 macro_rules! calls {
     (
         $element:ty, $gather:ident, $scatter:ident, $raw_gather:ident, $raw_scatter:ident,
-        $rule:ident => ($($of_rule:expr),+)
+        $raw_operand_scatter:ident, $rule:ident => ($($of_rule:expr),+)
     ) => {
         impl Calls for $element {
             fn gather_job(
@@ -125,6 +139,47 @@ macro_rules! calls {
                     dest.data_mut(),
                 ))
             }
+
+            fn raw_operand_scatter(
+                plan: &OperandScatterPlan,
+                dest: &mut StridedMut<'_, Self>,
+                operand: &StridedRef<'_, Self>,
+                starts: &StridedRef<'_, i64>,
+                updates: &StridedRef<'_, Self>,
+                $rule: <Self as Element>::Rule,
+            ) -> Result<Done> {
+                Done::of(ffi::$raw_operand_scatter(
+                    $($of_rule,)+
+                    words(&plan.operand.dims),
+                    steps(&plan.operand.strides),
+                    words(&plan.index.dims),
+                    steps(&plan.index.strides),
+                    words(&plan.updates.dims),
+                    steps(&plan.updates.strides),
+                    words(&plan.dest.dims),
+                    steps(&plan.dest.strides),
+                    words(&plan.spec.update_window_dims),
+                    words(&plan.spec.inserted_window_dims),
+                    words(&plan.spec.scatter_dims_to_operand_dims),
+                    plan.spec.index_vector_dim as u64,
+                    words(operand.dims()),
+                    steps(operand.strides()),
+                    operand.offset() as i64,
+                    words(starts.dims()),
+                    steps(starts.strides()),
+                    starts.offset() as i64,
+                    words(updates.dims()),
+                    steps(updates.strides()),
+                    updates.offset() as i64,
+                    words(dest.dims()),
+                    steps(dest.strides()),
+                    dest.offset() as i64,
+                    operand.data(),
+                    starts.data(),
+                    updates.data(),
+                    dest.data_mut(),
+                ))
+            }
         }
     };
 }
@@ -135,6 +190,7 @@ calls!(
     strided_scatter_i32,
     strided_raw_gather_i32,
     strided_raw_scatter_i32,
+    strided_raw_scatter_operand_i32,
     rule => (rule.number())
 );
 calls!(
@@ -143,5 +199,6 @@ calls!(
     strided_scatter_f64,
     strided_raw_gather_f64,
     strided_raw_scatter_f64,
+    strided_raw_scatter_operand_f64,
     rule => (rule.number(), rule.limit())
 );

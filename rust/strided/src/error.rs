@@ -71,7 +71,8 @@ pub enum StridedError {
     /// 9: a view reaches outside its slice, or a writer has too little room.
     BufferBounds {
         /// The view, from 1 (of a gather operand, index, destination; of a
-        /// scatter index, updates, destination), or 0 for a writer.
+        /// scatter index, updates, destination, after the operand if it has
+        /// one), or 0 for a writer.
         view: u64,
         /// The bytes that a writer needs, and 0 for a view.
         bytes_needed: u64,

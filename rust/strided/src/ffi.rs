@@ -32,6 +32,7 @@
 //! That the declarations are the header's is tested. This is the only module
 //! with unsafe code.
 
+use core::num::Wrapping;
 use core::slice;
 
 /// The number of a refusal, or 0, then its a and b, 0 where unnamed, and last
@@ -45,10 +46,10 @@ const NO_ANSWER: Answer = [u64::MAX; 4];
 /// no archive of another version than this crate is for.
 pub fn strided_version() -> u64 {
     extern "C" {
-        fn strided_version_3() -> u64;
+        fn strided_version_4() -> u64;
     }
     // SAFETY: it takes nothing, and returns a number.
-    unsafe { strided_version_3() }
+    unsafe { strided_version_4() }
 }
 
 /// Extents, axes or sizes, as the library takes them.
@@ -61,6 +62,25 @@ pub(crate) fn words(list: &[usize]) -> &[u64] {
 /// Strides, as the library takes them.
 pub(crate) fn steps(list: &[isize]) -> &[i64] {
     // SAFETY: as in `words`.
+    unsafe { slice::from_raw_parts(list.as_ptr().cast(), list.len()) }
+}
+
+/// Elements without the name that says how they are added.
+pub(crate) fn unwrapped(list: &[Wrapping<i32>]) -> &[i32] {
+    // SAFETY: `Wrapping` is transparent.
+    unsafe { slice::from_raw_parts(list.as_ptr().cast(), list.len()) }
+}
+
+/// The same, to be written.
+pub(crate) fn unwrapped_mut(list: &mut [Wrapping<i32>]) -> &mut [i32] {
+    // SAFETY: as in `unwrapped`, and the list is borrowed for as long.
+    unsafe { slice::from_raw_parts_mut(list.as_mut_ptr().cast(), list.len()) }
+}
+
+/// Starts as elements of their size, for a call that reads none of them.
+pub(crate) fn bits(list: &[i64]) -> &[f64] {
+    // SAFETY: on 64-bit targets both are aligned to their eight bytes, and
+    // every bit pattern is an `f64`.
     unsafe { slice::from_raw_parts(list.as_ptr().cast(), list.len()) }
 }
 
@@ -301,6 +321,93 @@ exports! {
         dest_view_extents: &[u64],
         dest_view_strides: &[i64],
         dest_offset: i64,
+        starts: &[i64],
+        updates: &[f64],
+        dest: &mut [f64],
+    );
+
+    /// The first refusal of the compile of a scatter that copies an operand first.
+    fn strided_scatter_operand_refusal(
+        operand_extents: &[u64],
+        operand_strides: &[i64],
+        index_extents: &[u64],
+        index_strides: &[i64],
+        updates_extents: &[u64],
+        updates_strides: &[i64],
+        dest_extents: &[u64],
+        dest_strides: &[i64],
+        update_window_dims: &[u64],
+        inserted_window_dims: &[u64],
+        scatter_dims_to_operand_dims: &[u64],
+        index_vector_dim: u64,
+    );
+
+    /// Compiles a scatter of `i32` by the first four layouts and the lists, and calls it on
+    /// the four views: the operand is copied to the destination, cell by cell, and then the
+    /// updates go on by the rule, which is one of those of `strided_raw_scatter_i32`.
+    fn strided_raw_scatter_operand_i32(
+        rule: u64,
+        operand_extents: &[u64],
+        operand_strides: &[i64],
+        index_extents: &[u64],
+        index_strides: &[i64],
+        updates_extents: &[u64],
+        updates_strides: &[i64],
+        dest_extents: &[u64],
+        dest_strides: &[i64],
+        update_window_dims: &[u64],
+        inserted_window_dims: &[u64],
+        scatter_dims_to_operand_dims: &[u64],
+        index_vector_dim: u64,
+        operand_view_extents: &[u64],
+        operand_view_strides: &[i64],
+        operand_offset: i64,
+        index_view_extents: &[u64],
+        index_view_strides: &[i64],
+        index_offset: i64,
+        updates_view_extents: &[u64],
+        updates_view_strides: &[i64],
+        updates_offset: i64,
+        dest_view_extents: &[u64],
+        dest_view_strides: &[i64],
+        dest_offset: i64,
+        operand: &[i32],
+        starts: &[i64],
+        updates: &[i32],
+        dest: &mut [i32],
+    );
+
+    /// Compiles a scatter of `f64` by the first four layouts and the lists, and calls it on
+    /// the four views: the operand is copied to the destination, cell by cell, and then the
+    /// updates go on by the rule, which is one of those of `strided_raw_scatter_f64`.
+    fn strided_raw_scatter_operand_f64(
+        rule: u64,
+        limit: f64,
+        operand_extents: &[u64],
+        operand_strides: &[i64],
+        index_extents: &[u64],
+        index_strides: &[i64],
+        updates_extents: &[u64],
+        updates_strides: &[i64],
+        dest_extents: &[u64],
+        dest_strides: &[i64],
+        update_window_dims: &[u64],
+        inserted_window_dims: &[u64],
+        scatter_dims_to_operand_dims: &[u64],
+        index_vector_dim: u64,
+        operand_view_extents: &[u64],
+        operand_view_strides: &[i64],
+        operand_offset: i64,
+        index_view_extents: &[u64],
+        index_view_strides: &[i64],
+        index_offset: i64,
+        updates_view_extents: &[u64],
+        updates_view_strides: &[i64],
+        updates_offset: i64,
+        dest_view_extents: &[u64],
+        dest_view_strides: &[i64],
+        dest_offset: i64,
+        operand: &[f64],
         starts: &[i64],
         updates: &[f64],
         dest: &mut [f64],

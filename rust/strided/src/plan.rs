@@ -11,7 +11,7 @@ pub struct Layout {
 }
 
 impl Layout {
-    fn new(dims: &[usize], strides: &[isize]) -> Self {
+    pub(crate) fn new(dims: &[usize], strides: &[isize]) -> Self {
         Self {
             dims: dims.to_vec(),
             strides: strides.to_vec(),

@@ -126,7 +126,8 @@ pub fn outside(verdict: &Verdict, call: &Call) -> Option<&'static str> {
     match verdict.refused_by {
         Some(Check::Ranks) => Some("2 is added"),
         Some(Check::Span(2)) if scatter => Some("the scatter's destination span is added"),
-        Some(Check::Bounds(_)) => Some("9 is added"),
+        Some(Check::OperandSpan) => Some("the span of a scatter's operand is added"),
+        Some(Check::OperandBounds | Check::Bounds(_)) => Some("9 is added"),
         _ if verdict.answer == Answer::TooMany => Some("more updates than a run can do"),
         _ => None,
     }
@@ -138,7 +139,7 @@ pub fn first_seen<'a>(
     cases: impl IntoIterator<Item = &'a (&'a Answered, Answer, Vec<bool>)>,
 ) -> Option<&'a Answered> {
     let seen = |(answered, expected, added): &&(&Answered, Answer, Vec<bool>)| {
-        let Some(call) = answered.call() else {
+        let Some(call) = answered.call().filter(|call| model.may_differ(call)) else {
             return false;
         };
         let judged = std::panic::catch_unwind(|| model.judge(call).answer);

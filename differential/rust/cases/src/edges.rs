@@ -201,6 +201,7 @@ fn scattered(random: &mut Random, views: [View; 3], spec: ScatterSpec, len: usiz
         index: starts(random, 2, 2),
         source: elements(random, element, 2),
         dest: elements(random, element, len),
+        operand: None,
         layouts: [None, None, None],
         rule: Rule::Add,
     }
@@ -279,6 +280,7 @@ fn gather(random: &mut Random) -> Call {
         source: elements(random, element, 3),
         index: starts(random, 4, 2),
         dest: elements(random, element, 130),
+        operand: None,
         layouts: [None, None, None],
         rule: Rule::Add,
     }

@@ -3,7 +3,7 @@
 
 use crate::random::Random;
 use crate::valid;
-use lines::{Call, Data, GatherSpec, Layout, ScatterSpec, Spec};
+use lines::{Call, Data, GatherSpec, Layout, ScatterSpec, Spec, View};
 
 /// Puts a fault into the call; false where the call has no place for it.
 type Fault = fn(&mut Call, &mut Random) -> bool;
@@ -190,7 +190,11 @@ fn any_axis(layout: &Layout, random: &mut Random) -> Option<usize> {
 }
 
 fn lengths(call: &mut Call, random: &mut Random) -> bool {
-    let layout = &mut call.job.views[random.below(3) as usize].layout;
+    let place = random.below(3) as usize;
+    unequal_lengths(&mut call.job.views[place].layout, random)
+}
+
+pub fn unequal_lengths(layout: &mut Layout, random: &mut Random) -> bool {
     match random.below(4) {
         0 => layout.strides.push(random.between(-2, 2)),
         1 => layout.extents.push(random.below(3)),
@@ -202,20 +206,28 @@ fn lengths(call: &mut Call, random: &mut Random) -> bool {
 
 fn rank_above_eight(call: &mut Call, random: &mut Random) -> bool {
     for _ in 0..random.pick(&[1, 1, 1, 2, 3]) {
-        let layout = &mut call.job.views[random.below(3) as usize].layout;
-        let rank = random.pick(&[9, 9, 10, 12, 16, 17, 20]);
-        while layout.extents.len() < rank {
-            layout.extents.push(1);
-            layout.strides.push(random.between(0, 2));
-        }
+        let place = random.below(3) as usize;
+        more_axes(&mut call.job.views[place].layout, random);
     }
     true
 }
 
+/// More axes than a layout may have.
+pub fn more_axes(layout: &mut Layout, random: &mut Random) {
+    let rank = random.pick(&[9, 9, 10, 12, 16, 17, 20]);
+    while layout.extents.len() < rank {
+        layout.extents.push(1);
+        layout.strides.push(random.between(0, 2));
+    }
+}
+
+fn product(call: &mut Call, random: &mut Random, place: usize) -> bool {
+    long_product(&mut call.job.views[place].layout, random)
+}
+
 /// Two long axes of stride 0, and perhaps a 0 after them, which excuses
 /// nothing, or before them, which does.
-fn product(call: &mut Call, random: &mut Random, place: usize) -> bool {
-    let layout = &mut call.job.views[place].layout;
+pub fn long_product(layout: &mut Layout, random: &mut Random) -> bool {
     if layout.extents.len() != layout.strides.len() {
         return false;
     }
@@ -240,7 +252,11 @@ fn product(call: &mut Call, random: &mut Random, place: usize) -> bool {
 }
 
 fn span(call: &mut Call, random: &mut Random, place: usize) -> bool {
-    let layout = &mut call.job.views[place].layout;
+    far_span(&mut call.job.views[place].layout, random)
+}
+
+/// A span that does not fit i64, or hardly does.
+pub fn far_span(layout: &mut Layout, random: &mut Random) -> bool {
     let Some(axis) = any_axis(layout, random) else {
         return false;
     };
@@ -304,7 +320,7 @@ fn call_layout(call: &mut Call, random: &mut Random) -> bool {
 }
 
 /// Changes a layout a little, or now and then not at all.
-fn change_layout(layout: &mut Layout, random: &mut Random) {
+pub fn change_layout(layout: &mut Layout, random: &mut Random) {
     let axis = any_axis(layout, random);
     match (random.below(10), axis) {
         (0, _) => {}
@@ -332,7 +348,12 @@ fn bounds(call: &mut Call, random: &mut Random, place: usize) -> bool {
         cut_slice(call, place, cut);
         return true;
     }
-    let view = &mut call.job.views[place];
+    move_out(&mut call.job.views[place], len, random);
+    true
+}
+
+/// Moves a view out of a slice of this length, by one element or by far.
+pub fn move_out(view: &mut View, len: usize, random: &mut Random) {
     let (mut low, mut high) = (i128::from(view.offset), i128::from(view.offset));
     for (&extent, &stride) in view.layout.extents.iter().zip(&view.layout.strides) {
         let reach = i128::from(extent.saturating_sub(1)) * i128::from(stride);
@@ -355,7 +376,6 @@ fn bounds(call: &mut Call, random: &mut Random, place: usize) -> bool {
         _ => random.pick(&[i128::from(i64::MAX), i128::from(i64::MIN), 1 << 62]),
     };
     view.offset = i64::try_from(moved).unwrap_or(i64::MAX);
-    true
 }
 
 fn cut_slice(call: &mut Call, place: usize, len: usize) {
@@ -364,6 +384,10 @@ fn cut_slice(call: &mut Call, place: usize, len: usize) {
         p if p == call.job.index_place() => return call.index.truncate(len),
         _ => &mut call.source,
     };
+    cut_data(data, len);
+}
+
+pub fn cut_data(data: &mut Data, len: usize) {
     match data {
         Data::I32(v) => v.truncate(len),
         Data::F64(v) => v.truncate(len),
@@ -469,7 +493,11 @@ fn components(call: &mut Call, random: &mut Random) -> bool {
 }
 
 fn shape(call: &mut Call, random: &mut Random) -> bool {
-    let layout = &mut call.job.views[2].layout;
+    other_extents(&mut call.job.views[2].layout, random)
+}
+
+/// Other extents: one more or less, turned round, an axis more or less.
+pub fn other_extents(layout: &mut Layout, random: &mut Random) -> bool {
     let Some(axis) = any_axis(layout, random) else {
         layout.extents.push(1);
         layout.strides.push(1);

@@ -7,13 +7,16 @@ mod edges;
 mod faults;
 pub mod jobs;
 pub mod large;
+mod operands;
 mod random;
 mod rules;
 pub mod small;
+mod small_operands;
 mod starts;
 mod valid;
 
 pub use faults::fault_names;
+pub use operands::WithOperands;
 pub use rules::Ruled;
 
 use faults::Faults;
@@ -22,7 +25,7 @@ use random::Random;
 
 /// The random cases of a seed, in order: most are valid, the others carry one
 /// fault or two, or have layouts at the edges of u64 and i64. Their scatters
-/// add; `Ruled` gives them rules.
+/// are update-only and add; `WithOperands` and `Ruled` give them more.
 pub struct Generator {
     random: Random,
     faults: Faults,

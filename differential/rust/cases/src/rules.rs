@@ -45,6 +45,9 @@ fn give_rule(random: &mut Random, call: &mut Call) {
     };
     call.source = contents(random, &call.source, style);
     call.dest = contents(random, &call.dest, style);
+    if let Some(operand) = &mut call.operand {
+        operand.data = contents(random, &operand.data, style);
+    }
     if !call.index.is_empty() && random.percent(40) {
         // All windows land on the same cells.
         let start = random.pick(&call.index);

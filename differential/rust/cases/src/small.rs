@@ -1,8 +1,9 @@
 //! Small cases, all of them: every meaning on a small grid, every short axis
 //! list, every small destination layout, every view near the ends of its
 //! slice, every pair of walk axes from a list of edges, every rule on two
-//! updates of one cell, every way in which two windows slide.
+//! updates of one cell, every way in which two windows slide, and small charts.
 
+use crate::small_operands;
 use crate::valid::shape;
 use lines::{Call, Data, Element, GatherSpec, Job, Layout, Rule, ScatterSpec, Spec, View};
 
@@ -25,10 +26,11 @@ pub fn all(size: Size, take: &mut dyn FnMut(Call)) {
     rules(size, take);
     slides(size, take);
     shared_starts(size, take);
+    small_operands::all(size, take);
 }
 
 /// Calls `take` with every list that has one entry from each of `choices`.
-fn each<T: Copy>(choices: &[Vec<T>], take: &mut dyn FnMut(&[T])) {
+pub(crate) fn each<T: Copy>(choices: &[Vec<T>], take: &mut dyn FnMut(&[T])) {
     fn step<T: Copy>(choices: &[Vec<T>], list: &mut Vec<T>, take: &mut dyn FnMut(&[T])) {
         let Some(entries) = choices.get(list.len()) else {
             return take(list);
@@ -60,7 +62,7 @@ fn all_arrangements(n: usize) -> Vec<Vec<u64>> {
 }
 
 /// Packed, first axis fastest, at offset 0, with the number of cells.
-fn packed(extents: &[u64]) -> (View, usize) {
+pub(crate) fn packed(extents: &[u64]) -> (View, usize) {
     let mut cells = 1;
     let strides = extents
         .iter()
@@ -81,7 +83,7 @@ fn packed(extents: &[u64]) -> (View, usize) {
     )
 }
 
-fn counted(len: usize, first: i32) -> Data {
+pub(crate) fn counted(len: usize, first: i32) -> Data {
     Data::I32((0..len as i32).map(|n| first + n).collect())
 }
 
@@ -94,15 +96,15 @@ fn near_starts(len: usize, from: usize) -> Vec<i64> {
 }
 
 /// A grid with windows and a batch, in every arrangement.
-struct Arranged<'a> {
-    extents: &'a [u64],
-    windows: &'a [u64],
-    hidden: &'a [u64],
-    map: &'a [u64],
-    index_extents: Vec<u64>,
-    vector: u64,
-    shown: &'a [u64],
-    shape: Vec<u64>,
+pub(crate) struct Arranged<'a> {
+    pub extents: &'a [u64],
+    pub windows: &'a [u64],
+    pub hidden: &'a [u64],
+    pub map: &'a [u64],
+    pub index_extents: Vec<u64>,
+    pub vector: u64,
+    pub shown: &'a [u64],
+    pub shape: Vec<u64>,
 }
 
 fn meanings(size: Size, take: &mut dyn FnMut(Call)) {
@@ -196,12 +198,13 @@ fn gathered(a: &Arranged, turn: usize) -> Call {
         source: counted(operand_len, 1),
         index: near_starts(index_len, turn),
         dest: counted(dest_len, 50),
+        operand: None,
         layouts: [None, None, None],
         rule: Rule::Add,
     }
 }
 
-fn scattered(a: &Arranged, turn: usize) -> Call {
+pub(crate) fn scattered(a: &Arranged, turn: usize) -> Call {
     let (index, index_len) = packed(&a.index_extents);
     let (updates, update_len) = packed(&a.shape);
     let (dest, dest_len) = packed(a.extents);
@@ -220,6 +223,7 @@ fn scattered(a: &Arranged, turn: usize) -> Call {
         index: near_starts(index_len, turn),
         source: counted(update_len, 1),
         dest: counted(dest_len, 100),
+        operand: None,
         layouts: [None, None, None],
         rule: Rule::Add,
     }
@@ -424,6 +428,7 @@ fn walk(axes: &[(u64, i64, i64)]) -> Call {
         index: vec![],
         source: counted(0, 0),
         dest: counted(1, 7),
+        operand: None,
         layouts: [None, None, None],
         rule: Rule::Add,
     }
@@ -469,7 +474,7 @@ fn spanned(axes: &[(u64, i64)], windows: &[u64; 2]) -> Call {
 }
 
 /// Zeros, ones, infinities and NaNs; then numbers near them or at the ends.
-const FLOATS: [u64; 14] = [
+pub(crate) const FLOATS: [u64; 14] = [
     0x0000_0000_0000_0000,
     0x8000_0000_0000_0000,
     0x3ff0_0000_0000_0000,

@@ -248,16 +248,11 @@ pub fn gather_of(random: &mut Random, w: Windowed) -> Call {
     let (index, index_len) = placed(random, w.index_extents, index_strides);
     let dest_strides = nested_strides(random, &w.shape);
     let (dest, dest_len) = placed(random, w.shape, dest_strides);
-    let reach = operand.layout.extents.iter().copied().filter(|&e| e < 99);
+    let extents = &operand.layout.extents;
+    let reach = extents.iter().copied().filter(|&e| e < 99);
     let reach = reach.max().unwrap_or(0) as i64;
     let mut starts = starts(random, index_len, reach);
-    let components = components(
-        &w.map,
-        &operand.layout.extents,
-        &w.windows,
-        &index,
-        w.vector,
-    );
+    let components = components(&w.map, extents, &w.windows, &index, w.vector);
     put_some_at_ends(random, &components, &mut starts);
     let spec = GatherSpec {
         offset_dims: w.shown,
@@ -275,6 +270,7 @@ pub fn gather_of(random: &mut Random, w: Windowed) -> Call {
         source: elements(random, element, operand_len),
         index: starts,
         dest: elements(random, element, dest_len),
+        operand: None,
         layouts: [None, None, None],
         rule: Rule::Add,
     }
@@ -366,6 +362,7 @@ pub fn scatter_of(random: &mut Random, w: Windowed) -> Call {
         index: starts,
         source: elements(random, element, update_len),
         dest: elements(random, element, dest_len),
+        operand: None,
         layouts: [None, None, None],
         rule: Rule::Add,
     }

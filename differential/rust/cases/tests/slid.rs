@@ -1,9 +1,10 @@
 //! A side that counts windows can get by neither without the number nor with
 //! another, and the oracle, which has none, not with one.
 
-use std::fs;
-use std::path::PathBuf;
+mod taken;
+
 use std::process::Command;
+use taken::is_taken;
 
 /// Two windows that slid; a call that is refused; infinity - infinity, which
 /// is any NaN, by a window that slid.
@@ -13,30 +14,6 @@ const REFUSED: &str = "scatter i32 ix=2|1|0 up=2|1|1 de=2|1|0 uw= iw=0 sm=0 vd=1
                        ixd=-1,9 upd=1,2 ded=0,0";
 const NAN: &str = "scatter f64 ix=||0 up=||0 de=1|1|0 uw= iw=0 sm=0 vd=0 \
                    ixd=1 upd=fff0000000000000 ded=7ff0000000000000";
-
-/// Whether `compare` takes this line from a side of this name, beside a right
-/// one of the oracle.
-fn is_taken(test: &str, case: &str, right: &str, name: &str, line: &str) -> bool {
-    let folder = PathBuf::from(env!("CARGO_TARGET_TMPDIR")).join(test);
-    fs::create_dir_all(&folder).unwrap();
-    let file = |name: &str, text: &str| {
-        let path = folder.join(name);
-        fs::write(&path, format!("one {text}\n")).unwrap();
-        path.display().to_string()
-    };
-    let status = Command::new(env!("CARGO_BIN_EXE_compare"))
-        .arg(file("cases", case))
-        .arg(format!("oracle={}", file("first", right)))
-        .arg(format!("{name}={}", file("second", line)))
-        .output()
-        .unwrap()
-        .status;
-    match status.code() {
-        Some(0) => true,
-        Some(1) => false,
-        _ => panic!("{status}: {case}"),
-    }
-}
 
 #[test]
 fn the_number_must_be_the_models() {

@@ -127,12 +127,31 @@ impl Rule {
     }
 }
 
+/// The base chart of a scatter, which is copied into the destination before
+/// the updates go on: the view that comes ahead of the job's, with its slice
+/// and the layout that the call's view carries where it is not the plan's.
+#[derive(Clone, Debug, PartialEq, Eq)]
+pub struct Operand {
+    pub view: View,
+    pub data: Data,
+    pub layout: Option<Layout>,
+}
+
+impl Operand {
+    /// The layout that the call's view carries.
+    pub fn call_layout(&self) -> &Layout {
+        self.layout.as_ref().unwrap_or(&self.view.layout)
+    }
+}
+
 /// A job with its slices. `layouts` are those that the call's views carry
-/// where they are not the plan's. The rule is a scatter's; in a gather, which
-/// has none, it is Add.
+/// where they are not the plan's. The operand is a scatter's, and without one
+/// the call is update-only; a gather's operand is the job's. The rule is a
+/// scatter's; in a gather, which has none, it is Add.
 #[derive(Clone, Debug, PartialEq, Eq)]
 pub struct Call {
     pub job: Job,
+    pub operand: Option<Operand>,
     pub source: Data,
     pub index: Vec<i64>,
     pub dest: Data,

@@ -1,8 +1,8 @@
 //! Reading lines.
 
 use crate::{
-    Answer, Call, Case, Data, Element, GatherSpec, Job, Layout, Number, Rule, ScatterSpec, Spec,
-    View,
+    Answer, Call, Case, Data, Element, GatherSpec, Job, Layout, Number, Operand, Rule, ScatterSpec,
+    Spec, View,
 };
 use std::str::{FromStr, Split};
 
@@ -107,8 +107,7 @@ fn views(tokens: &mut Tokens, keys: [&str; 3]) -> Option<[View; 3]> {
     Some([one(keys[0])?, one(keys[1])?, one(keys[2])?])
 }
 
-fn job(kind: &str, tokens: &mut Tokens) -> Option<Job> {
-    let element = element(tokens.next()?)?;
+fn job(kind: &str, element: Element, tokens: &mut Tokens) -> Option<Job> {
     let (views, spec) = match kind {
         "gather" => (views(tokens, ["op", "ix", "de"])?, gather_spec(tokens)?),
         "scatter" => (views(tokens, ["ix", "up", "de"])?, scatter_spec(tokens)?),
@@ -153,40 +152,71 @@ fn rule(tokens: &mut Tokens, element: Element) -> Option<Rule> {
 }
 
 fn call(kind: &str, tokens: &mut Tokens) -> Option<Call> {
-    let job = job(kind, tokens)?;
-    let (source, index);
-    let keys = match job.spec {
-        Spec::Gather(_) => {
-            source = data(tokens.value("opd")?, job.element)?;
-            index = list(tokens.value("ixd")?, number)?;
-            ["cop", "cix", "cde"]
-        }
-        Spec::Scatter(_) => {
-            index = list(tokens.value("ixd")?, number)?;
-            source = data(tokens.value("upd")?, job.element)?;
-            ["cix", "cup", "cde"]
-        }
+    let element = element(tokens.next()?)?;
+    let chart = match kind {
+        "scatter" => optional(tokens, "op", view)?,
+        _ => None,
     };
-    let dest = data(tokens.value("ded")?, job.element)?;
+    let job = job(kind, element, tokens)?;
+    let mut operand = match chart {
+        Some(view) => Some(Operand {
+            view,
+            data: data(tokens.value("opd")?, element)?,
+            layout: None,
+        }),
+        None => None,
+    };
+    let (source, index, keys) = slices(tokens, &job)?;
+    let dest = data(tokens.value("ded")?, element)?;
+    if let Some(operand) = &mut operand {
+        operand.layout = optional(tokens, "cop", layout)?;
+    }
     let mut layouts = [None, None, None];
     for (slot, key) in layouts.iter_mut().zip(keys) {
-        if let Some(text) = tokens.optional(key) {
-            *slot = Some(layout(text)?);
-        }
+        *slot = optional(tokens, key, layout)?;
     }
     let rule = match job.spec {
         Spec::Gather(_) => Rule::Add,
-        Spec::Scatter(_) => rule(tokens, job.element)?,
+        Spec::Scatter(_) => rule(tokens, element)?,
     };
     tokens.end()?;
     Some(Call {
         job,
+        operand,
         source,
         index,
         dest,
         layouts,
         rule,
     })
+}
+
+/// What a token holds that need not be there; `None` where it is damaged.
+fn optional<T>(
+    tokens: &mut Tokens,
+    key: &str,
+    read: impl Fn(&str) -> Option<T>,
+) -> Option<Option<T>> {
+    match tokens.optional(key) {
+        Some(text) => read(text).map(Some),
+        None => Some(None),
+    }
+}
+
+/// The slices of source and index, and the keys of the call's layouts.
+fn slices(tokens: &mut Tokens, job: &Job) -> Option<(Data, Vec<i64>, [&'static str; 3])> {
+    match job.spec {
+        Spec::Gather(_) => {
+            let source = data(tokens.value("opd")?, job.element)?;
+            let index = list(tokens.value("ixd")?, number)?;
+            Some((source, index, ["cop", "cix", "cde"]))
+        }
+        Spec::Scatter(_) => {
+            let index = list(tokens.value("ixd")?, number)?;
+            let source = data(tokens.value("upd")?, job.element)?;
+            Some((source, index, ["cix", "cup", "cde"]))
+        }
+    }
 }
 
 fn bytes(text: &str) -> Option<Vec<u8>> {
@@ -215,7 +245,8 @@ pub fn parse_case(text: &str) -> Option<Case> {
         }
         "write" => {
             let kind = tokens.next()?;
-            let job = Box::new(job(kind, &mut tokens)?);
+            let element = element(tokens.next()?)?;
+            let job = Box::new(job(kind, element, &mut tokens)?);
             (tokens.next()? == "room").then_some(())?;
             let room = number(tokens.next()?)?;
             tokens.end()?;

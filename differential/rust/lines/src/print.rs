@@ -53,30 +53,45 @@ impl Display for Element {
     }
 }
 
-impl Display for Job {
+/// A job, with the view of the operand that a scatter may have ahead of it.
+struct JobOn<'a>(&'a Job, Option<&'a View>);
+
+impl Display for JobOn<'_> {
     fn fmt(&self, f: &mut Formatter<'_>) -> fmt::Result {
-        let [first, second, third] = &self.views;
-        match &self.spec {
+        let JobOn(job, operand) = self;
+        let [first, second, third] = &job.views;
+        match &job.spec {
             Spec::Gather(s) => write!(
                 f,
                 "gather {} op={first} ix={second} de={third} od={} cd={} sm={} vd={} ss={}",
-                self.element,
+                job.element,
                 List(&s.offset_dims),
                 List(&s.collapsed_slice_dims),
                 List(&s.start_index_map),
                 s.index_vector_dim,
                 List(&s.slice_sizes),
             ),
-            Spec::Scatter(s) => write!(
-                f,
-                "scatter {} ix={first} up={second} de={third} uw={} iw={} sm={} vd={}",
-                self.element,
-                List(&s.update_window_dims),
-                List(&s.inserted_window_dims),
-                List(&s.scatter_dims_to_operand_dims),
-                s.index_vector_dim,
-            ),
+            Spec::Scatter(s) => {
+                write!(f, "scatter {}", job.element)?;
+                if let Some(view) = operand {
+                    write!(f, " op={view}")?;
+                }
+                write!(
+                    f,
+                    " ix={first} up={second} de={third} uw={} iw={} sm={} vd={}",
+                    List(&s.update_window_dims),
+                    List(&s.inserted_window_dims),
+                    List(&s.scatter_dims_to_operand_dims),
+                    s.index_vector_dim,
+                )
+            }
         }
+    }
+}
+
+impl Display for Job {
+    fn fmt(&self, f: &mut Formatter<'_>) -> fmt::Result {
+        JobOn(self, None).fmt(f)
     }
 }
 
@@ -93,7 +108,11 @@ impl Display for Rule {
 impl Display for Call {
     fn fmt(&self, f: &mut Formatter<'_>) -> fmt::Result {
         let (source, index, dest) = (&self.source, List(&self.index), &self.dest);
-        write!(f, "{}", self.job)?;
+        let operand = self.operand.as_ref();
+        write!(f, "{}", JobOn(&self.job, operand.map(|o| &o.view)))?;
+        if let Some(operand) = operand {
+            write!(f, " opd={}", operand.data)?;
+        }
         let keys = match self.job.spec {
             Spec::Gather(_) => {
                 write!(f, " opd={source} ixd={index} ded={dest}")?;
@@ -104,6 +123,9 @@ impl Display for Call {
                 ["cix", "cup", "cde"]
             }
         };
+        if let Some(layout) = operand.and_then(|o| o.layout.as_ref()) {
+            write!(f, " cop={layout}")?;
+        }
         for (layout, key) in self.layouts.iter().zip(keys) {
             if let Some(layout) = layout {
                 write!(f, " {key}={layout}")?;

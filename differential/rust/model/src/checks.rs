@@ -1,20 +1,55 @@
-//! The refusals of document 01, each by its place in the order.
+//! The refusals of document 01, and those that document 02's operand of a
+//! scatter adds to them, each by its place in the order.
 
 use crate::arithmetic::{at, fits};
 use crate::meaning::dot;
 use crate::shape::{batch_axes, others, pick};
 use crate::{arithmetic, Model, Slip};
-use lines::{Call, GatherSpec, Job, Layout, Number, ScatterSpec, Spec, View};
+use lines::{Call, GatherSpec, Job, Layout, Number, Operand, ScatterSpec, Spec, View};
 
 pub const MOST_AXES: usize = 8;
 
-/// A line of document 01's order. A number is a view's place in view order.
+/// What is called: each kind has an order of its own.
+#[derive(Clone, Copy, Debug, PartialEq, Eq, Hash, PartialOrd, Ord)]
+pub enum Kind {
+    Gather,
+    /// Updates alone.
+    Scatter,
+    /// A scatter with an operand of its own.
+    OperandScatter,
+}
+
+impl Kind {
+    pub const ALL: [Kind; 3] = [Kind::Gather, Kind::Scatter, Kind::OperandScatter];
+
+    pub fn of(call: &Call) -> Kind {
+        match (&call.job.spec, &call.operand) {
+            (Spec::Gather(_), _) => Kind::Gather,
+            (Spec::Scatter(_), None) => Kind::Scatter,
+            (Spec::Scatter(_), Some(_)) => Kind::OperandScatter,
+        }
+    }
+
+    pub fn name(self) -> &'static str {
+        match self {
+            Kind::Gather => "gather",
+            Kind::Scatter => "scatter",
+            Kind::OperandScatter => "operand-scatter",
+        }
+    }
+}
+
+/// A line of the order. A number is the place of a view among the job's; the
+/// operand of a scatter, which comes ahead of them, has lines of its own.
 #[derive(Clone, Copy, Debug, PartialEq, Eq, Hash, PartialOrd, Ord)]
 pub enum Check {
     Lengths,
     Ranks,
+    OperandProduct,
     Product(usize),
+    OperandExtents,
     Span(usize),
+    OperandSpan,
     Nested,
     SliceSizes,
     CollapsedAxes,
@@ -38,6 +73,7 @@ pub enum Check {
     WindowWalk,
     ComponentOffsets,
     CallLayouts,
+    OperandBounds,
     Bounds(usize),
 }
 
@@ -99,28 +135,58 @@ const SCATTER: [Check; 26] = [
     Check::Bounds(2),
 ];
 
+const OPERAND_SCATTER: [Check; 29] = [
+    Check::Lengths,
+    Check::Ranks,
+    Check::OperandProduct,
+    Check::Product(0),
+    Check::Product(1),
+    Check::OperandExtents,
+    Check::Span(2),
+    Check::OperandSpan,
+    Check::Nested,
+    Check::InsertedAxes,
+    Check::Map,
+    Check::VectorAxis,
+    Check::Components,
+    Check::WindowCount,
+    Check::WindowCountInRank,
+    Check::BatchRank,
+    Check::WindowAxes,
+    Check::Shape,
+    Check::WindowSizes,
+    Check::BatchProduct,
+    Check::WindowProduct,
+    Check::BatchWalk,
+    Check::WindowWalk,
+    Check::ComponentOffsets,
+    Check::CallLayouts,
+    Check::OperandBounds,
+    Check::Bounds(0),
+    Check::Bounds(1),
+    Check::Bounds(2),
+];
+
 /// The order in which the first hit counts, compile's and then the call's.
-pub fn order(spec: &Spec) -> [Check; 26] {
-    match spec {
-        Spec::Gather(_) => GATHER,
-        Spec::Scatter(_) => SCATTER,
+pub fn order(kind: Kind) -> &'static [Check] {
+    match kind {
+        Kind::Gather => &GATHER,
+        Kind::Scatter => &SCATTER,
+        Kind::OperandScatter => &OPERAND_SCATTER,
     }
 }
 
 impl Check {
-    pub fn name(self, spec: &Spec) -> String {
-        let gather = matches!(spec, Spec::Gather(_));
-        let view = |place: usize| {
-            let names = match gather {
-                true => ["operand", "index", "destination"],
-                false => ["index", "updates", "destination"],
-            };
-            names[place]
-        };
+    pub fn name(self, kind: Kind) -> String {
+        let view = |place| view_name(kind, place);
         let name = match self {
             Check::Product(place) => return format!("{}-product", view(place)),
             Check::Span(place) => return format!("{}-span", view(place)),
             Check::Bounds(place) => return format!("{}-bounds", view(place)),
+            Check::OperandProduct => "operand-product",
+            Check::OperandExtents => "operand-extents",
+            Check::OperandSpan => "operand-span",
+            Check::OperandBounds => "operand-bounds",
             Check::Lengths => "lengths",
             Check::Ranks => "ranks",
             Check::Nested => "nested",
@@ -136,7 +202,7 @@ impl Check {
             Check::WindowCountInRank => "window-axis-count-above-rank",
             Check::BatchRank => "batch-rank",
             Check::WindowAxes => "window-axes",
-            Check::Shape if gather => "shape",
+            Check::Shape if kind == Kind::Gather => "shape",
             Check::Shape => "batch-extents",
             Check::DestResets => "destination-resets",
             Check::WindowResets => "window-resets",
@@ -150,6 +216,15 @@ impl Check {
         };
         name.to_string()
     }
+}
+
+/// The name of the view at this place of the job's.
+fn view_name(kind: Kind, place: usize) -> &'static str {
+    let names = match kind {
+        Kind::Gather => ["operand", "index", "destination"],
+        Kind::Scatter | Kind::OperandScatter => ["index", "updates", "destination"],
+    };
+    names[place]
 }
 
 fn count(list: &[u64]) -> u64 {
@@ -174,18 +249,25 @@ fn unequal(layout: &Layout) -> bool {
     layout.extents.len() != layout.strides.len()
 }
 
+/// The plan's layouts in view order.
+fn layouts(call: &Call) -> Vec<&Layout> {
+    let operand = call.operand.iter().map(|operand| &operand.view);
+    let views = operand.chain(&call.job.views);
+    views.map(|view| &view.layout).collect()
+}
+
 impl Model {
     /// What this check answers if it refuses, whatever the others do.
     pub(crate) fn refusal(&self, check: Check, call: &Call) -> Option<Number> {
         let number = self.untwisted_refusal(check, call)?;
-        self.twist.answer_of(check, &call.job.spec, number)
+        self.twist.answer_of(check, Kind::of(call), number)
     }
 
     fn untwisted_refusal(&self, check: Check, call: &Call) -> Option<Number> {
         let job = &call.job;
         match check {
-            Check::Lengths => self.lengths(job),
-            Check::Ranks => self.ranks(job),
+            Check::Lengths => self.lengths(call),
+            Check::Ranks => self.ranks(call),
             Check::Product(place) => {
                 overflow(self.product(&job.views[place].layout.extents).is_some())
             }
@@ -193,6 +275,10 @@ impl Model {
             Check::Nested => self.not_nested(&job.dest().layout),
             Check::CallLayouts => self.call_layouts(call),
             Check::Bounds(place) => self.out_of_bounds(call, place),
+            Check::OperandProduct
+            | Check::OperandExtents
+            | Check::OperandSpan
+            | Check::OperandBounds => self.operand_refusal(check, call, call.operand.as_ref()?),
             _ => match &job.spec {
                 Spec::Gather(spec) => self.gather_refusal(check, job, spec),
                 Spec::Scatter(spec) => self.scatter_refusal(check, job, spec),
@@ -200,34 +286,31 @@ impl Model {
         }
     }
 
-    fn lengths(&self, job: &Job) -> Option<Number> {
+    fn lengths(&self, call: &Call) -> Option<Number> {
+        let layouts = layouts(call);
         if self.slips(Slip::LengthsAndRanksByView) {
-            return self.lengths_and_ranks_by_view(job);
+            return lengths_and_ranks_by_view(&layouts);
         }
-        let tested = match self.slips(Slip::LengthsOfFirstView) {
-            true => &job.views[..1],
-            false => &job.views[..],
+        let tested = match self.twist.slip {
+            Some(Slip::LengthsOfFirstView) => &layouts[..1],
+            Some(Slip::LengthsOfOperandUntested) => &layouts[layouts.len() - 3..],
+            _ => &layouts[..],
         };
-        let any = tested.iter().any(|view| unequal(&view.layout));
+        let any = tested.iter().any(|layout| unequal(layout));
         any.then_some(Number::new(1, 0, 0))
     }
 
-    fn lengths_and_ranks_by_view(&self, job: &Job) -> Option<Number> {
-        job.views.iter().find_map(|view| match &view.layout {
-            layout if unequal(layout) => Some(Number::new(1, 0, 0)),
-            layout if rank(layout) > MOST_AXES as u64 => Some(Number::new(2, rank(layout), 8)),
-            _ => None,
-        })
-    }
-
-    fn ranks(&self, job: &Job) -> Option<Number> {
+    fn ranks(&self, call: &Call) -> Option<Number> {
         let most = match self.slips(Slip::RanksToNine) {
             true => 9,
             false => MOST_AXES as u64,
         };
-        let mut ranks: Vec<u64> = job.views.iter().map(|v| rank(&v.layout)).collect();
-        if self.slips(Slip::RanksDestinationFirst) {
-            ranks.rotate_right(1);
+        let mut ranks: Vec<u64> = layouts(call).into_iter().map(rank).collect();
+        match self.twist.slip {
+            Some(Slip::RanksDestinationFirst) => ranks.rotate_right(1),
+            Some(Slip::RanksOperandLast) if call.operand.is_some() => ranks.rotate_left(1),
+            Some(Slip::RankOfOperandUntested) => drop(ranks.drain(..ranks.len() - 3)),
+            _ => {}
         }
         let above = |rank: &u64| *rank > most;
         let named = match self.slips(Slip::RanksLargest) {
@@ -235,6 +318,36 @@ impl Model {
             false => ranks.into_iter().find(above),
         };
         named.map(|rank| Number::new(2, rank, most))
+    }
+
+    /// What the operand of a scatter adds to the order, 1, 2 and 8 apart.
+    fn operand_refusal(&self, check: Check, call: &Call, operand: &Operand) -> Option<Number> {
+        let (layout, dest) = (&operand.view.layout, &call.job.dest().layout);
+        match check {
+            Check::OperandProduct => {
+                let extents = match self.slips(Slip::OperandProductOfDestination) {
+                    true => &dest.extents,
+                    false => &layout.extents,
+                };
+                overflow(self.product(extents).is_some())
+            }
+            Check::OperandExtents => self.operand_extents(&layout.extents, &dest.extents),
+            Check::OperandSpan => overflow(self.layout_span_fits(layout)),
+            _ => self.operand_out_of_bounds(call, operand),
+        }
+    }
+
+    /// 7 where the destination's extents are not the operand's.
+    fn operand_extents(&self, expected: &[u64], given: &[u64]) -> Option<Number> {
+        let same = match self.twist.slip {
+            Some(Slip::OperandExtentsByRank) => given.len() == expected.len(),
+            Some(Slip::OperandExtentsByCells) => {
+                arithmetic::cells(given) == arithmetic::cells(expected)
+            }
+            Some(Slip::OperandExtentsAnyOrder) => sorted(given) == sorted(expected),
+            _ => given == expected,
+        };
+        (!same).then_some(Number::new(7, count(given), count(expected)))
     }
 
     fn layout_span_fits(&self, layout: &Layout) -> bool {
@@ -489,46 +602,82 @@ impl Model {
 
     /// 8 where a call's layout is not the plan's.
     fn call_layouts(&self, call: &Call) -> Option<Number> {
-        let differs = |place: usize| {
-            let (plan, called) = (&call.job.views[place].layout, call.call_layout(place));
-            match self.twist.slip {
-                Some(Slip::CallExtentsOnly) => plan.extents != called.extents,
-                Some(Slip::CallStridesOnly) => plan.strides != called.strides,
-                Some(Slip::CallSourceUntested) if place != job_places(call).0 => plan != called,
-                Some(Slip::CallSourceUntested) => false,
-                Some(Slip::CallIndexUntested) if place != job_places(call).1 => plan != called,
-                Some(Slip::CallIndexUntested) => false,
-                Some(Slip::CallDestUntested) => place != 2 && plan != called,
-                _ => plan != called,
-            }
-        };
         let eight = Number::new(8, 0, 0);
-        if self.slips(Slip::CallLengthsGiveOne)
-            && (0..3).any(|place| unequal(call.call_layout(place)))
-        {
+        if self.slips(Slip::CallLengthsGiveOne) && called(call).any(unequal) {
             return Some(Number::new(1, 0, 0));
         }
         if self.slips(Slip::CallViewByView) {
-            return (0..3).find_map(|place| match differs(place) {
-                true => Some(eight),
-                false => self.out_of_bounds(call, place),
-            });
+            return self.call_view_by_view(call);
         }
-        (0..3).any(differs).then_some(eight)
+        let operand = call.operand.as_ref().is_some_and(|operand| {
+            let (plan, called) = (&operand.view.layout, operand.call_layout());
+            self.differs(plan, called) && !self.slips(Slip::CallOperandUntested)
+        });
+        let any = operand || (0..3).any(|place| self.view_differs(call, place));
+        any.then_some(eight)
     }
 
-    /// 9, the view's place counted from 1.
+    fn differs(&self, plan: &Layout, called: &Layout) -> bool {
+        match self.twist.slip {
+            Some(Slip::CallExtentsOnly) => plan.extents != called.extents,
+            Some(Slip::CallStridesOnly) => plan.strides != called.strides,
+            _ => plan != called,
+        }
+    }
+
+    /// Whether the call's view at this place of the job's has another layout.
+    fn view_differs(&self, call: &Call, place: usize) -> bool {
+        let (source, index) = job_places(call);
+        let untested = match self.twist.slip {
+            Some(Slip::CallSourceUntested) => place == source,
+            Some(Slip::CallIndexUntested) => place == index,
+            Some(Slip::CallDestUntested) => place == 2,
+            _ => false,
+        };
+        !untested && self.differs(&call.job.views[place].layout, call.call_layout(place))
+    }
+
+    /// The slip that tests 8 and 9 view by view.
+    fn call_view_by_view(&self, call: &Call) -> Option<Number> {
+        let eight = Number::new(8, 0, 0);
+        let operand = call.operand.as_ref().and_then(|operand| {
+            match self.differs(&operand.view.layout, operand.call_layout()) {
+                true => Some(eight),
+                false => self.operand_out_of_bounds(call, operand),
+            }
+        });
+        operand.or_else(|| {
+            (0..3).find_map(|place| match self.view_differs(call, place) {
+                true => Some(eight),
+                false => self.out_of_bounds(call, place),
+            })
+        })
+    }
+
+    /// 9, the view's place in view order counted from 1.
     fn out_of_bounds(&self, call: &Call, place: usize) -> Option<Number> {
         let place = match self.slips(Slip::BoundsDestinationFirst) {
             true => (place + 2) % 3,
             false => place,
         };
         let inside = self.inside(&call.job.views[place], call.slice_len(place) as i128);
+        let ahead = call.operand.is_some() && !self.slips(Slip::BoundsAsUpdateOnly);
         let a = match self.slips(Slip::BoundsFromZero) {
             true => place as u64,
             false => place as u64 + 1,
         };
-        (!inside).then_some(Number::new(9, a, 0))
+        (!inside).then_some(Number::new(9, a + u64::from(ahead), 0))
+    }
+
+    /// 9 for the operand, which is view 1.
+    fn operand_out_of_bounds(&self, call: &Call, operand: &Operand) -> Option<Number> {
+        let inside = self.inside(&operand.view, operand.data.len() as i128);
+        let others = |place| self.out_of_bounds(call, place).is_some();
+        if inside || (self.slips(Slip::OperandBoundsLast) && (0..3).any(others)) {
+            return None;
+        }
+        let a = u64::from(!self.slips(Slip::BoundsFromZero));
+        Some(Number::new(9, a, 0))
     }
 
     /// A view with cells needs all inside its slice; one without needs an
@@ -588,6 +737,20 @@ impl Model {
         map.iter()
             .all(|&axis| fits(i128::from(at(extents, axis)) - i128::from(at(&windows, axis))))
     }
+}
+
+fn lengths_and_ranks_by_view(layouts: &[&Layout]) -> Option<Number> {
+    layouts.iter().find_map(|&layout| match rank(layout) {
+        _ if unequal(layout) => Some(Number::new(1, 0, 0)),
+        rank if rank > MOST_AXES as u64 => Some(Number::new(2, rank, 8)),
+        _ => None,
+    })
+}
+
+/// The layouts that the views of the call carry, in view order.
+fn called(call: &Call) -> impl Iterator<Item = &Layout> {
+    let operand = call.operand.iter().map(Operand::call_layout);
+    operand.chain((0..3).map(|place| call.call_layout(place)))
 }
 
 /// The places of the source and of the index view.

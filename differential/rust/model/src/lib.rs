@@ -1,7 +1,7 @@
 //! Document 01 in exact integers: the refusals in their order, the meaning of
 //! gather and scatter, the stored job; and of document 02 the rules of a
-//! scatter and the number of windows that slid. It knows nothing of the Rust
-//! original.
+//! scatter, the number of windows that slid and the operand that a scatter
+//! copies first. It knows nothing of the Rust original.
 //!
 //! A model can be twisted, for the mutation run: a check moved or dropped, or
 //! a slip made somewhere.
@@ -9,6 +9,7 @@
 mod arithmetic;
 mod checks;
 mod meaning;
+mod operand;
 mod rules;
 mod shape;
 mod slid;
@@ -16,7 +17,7 @@ mod slips;
 mod stored;
 mod twist;
 
-pub use checks::{order, Check};
+pub use checks::{order, Check, Kind};
 pub use slid::{starts, windows};
 pub use slips::{Slip, SLIPS};
 pub use stored::{read, write};
@@ -50,6 +51,11 @@ impl Model {
         self.twist.slip == Some(slip)
     }
 
+    /// Whether its twist can show in such a call.
+    pub fn may_differ(&self, call: &Call) -> bool {
+        self.twist.concerns(Kind::of(call))
+    }
+
     pub fn answer(&self, case: &Case) -> Answer {
         match case {
             Case::Call(call) => self.judge(call).answer,
@@ -61,7 +67,7 @@ impl Model {
     pub fn judge(&self, call: &Call) -> Verdict {
         let shortened = self.with_shortened_lists(call);
         let call = shortened.as_ref().unwrap_or(call);
-        for check in self.twist.order(&call.job.spec) {
+        for check in self.twist.order(Kind::of(call)) {
             if let Some(number) = self.refusal(check, call) {
                 return self.refused(call, number, Some(check));
             }
@@ -84,8 +90,9 @@ impl Model {
         }
     }
 
-    /// True for an accepted call with more cells than a run can do. A gather
-    /// has no more than its destination slice has elements.
+    /// True for an accepted call with more cells than a run can do. A gather,
+    /// or an operand's copy, has no more than its destination slice has
+    /// elements.
     pub fn runs_too_long(&self, call: &Call) -> bool {
         let (most, cells) = match (&call.job.spec, self.twist.is_some()) {
             (Spec::Gather(_), false) => return false,
@@ -94,7 +101,10 @@ impl Model {
                 (MOST_WHEN_TWISTED, arithmetic::cells(extents))
             }
             (Spec::Scatter(spec), false) => (MOST_UPDATES, shape::updates(&call.job, spec)),
-            (Spec::Scatter(spec), true) => (MOST_WHEN_TWISTED, shape::updates(&call.job, spec)),
+            (Spec::Scatter(spec), true) => (
+                MOST_WHEN_TWISTED,
+                shape::updates(&call.job, spec).max(operand::cells(call)),
+            ),
         };
         cells > u128::from(most)
     }

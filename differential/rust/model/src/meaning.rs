@@ -33,7 +33,7 @@ pub fn dot(strides: &[i64], coordinate: &[i128]) -> i128 {
 }
 
 /// Elements as 64-bit words: an i32's bits, or an f64's.
-fn words(data: &Data) -> Vec<u64> {
+pub(crate) fn words(data: &Data) -> Vec<u64> {
     match data {
         Data::I32(v) => v.iter().map(|&x| u64::from(x as u32)).collect(),
         Data::F64(v) => v.clone(),
@@ -48,12 +48,12 @@ fn data(words: Vec<u64>, element: Element) -> Data {
 }
 
 /// The word at an offset, or 0 outside: only a twisted model goes there.
-fn read(words: &[u64], place: i128) -> u64 {
+pub(crate) fn read(words: &[u64], place: i128) -> u64 {
     let inside = usize::try_from(place).ok().and_then(|p| words.get(p));
     inside.copied().unwrap_or(0)
 }
 
-fn write(words: &mut [u64], place: i128, word: u64) {
+pub(crate) fn write(words: &mut [u64], place: i128, word: u64) {
     if let Some(cell) = usize::try_from(place).ok().and_then(|p| words.get_mut(p)) {
         *cell = word;
     }
@@ -95,7 +95,7 @@ impl Model {
     }
 
     /// The place of a coordinate in the view's slice.
-    fn place(&self, view: &View, coordinate: &[i128]) -> i128 {
+    pub(crate) fn place(&self, view: &View, coordinate: &[i128]) -> i128 {
         let offset = match self.slips(Slip::OffsetForgotten) {
             true => 0,
             false => i128::from(view.offset),
@@ -161,7 +161,7 @@ impl Model {
     /// The cuts put on the grid by the call's rule, in their order. Only Add
     /// and Ceiling add; the others keep the bits of what stays or is taken.
     fn scatter(&self, call: &Call, spec: &ScatterSpec) -> (Vec<u64>, Vec<bool>) {
-        let old = words(&call.dest);
+        let old = self.before_updates(call);
         let mut cells = match self.sums_first(call) {
             true => vec![0; old.len()],
             false => old.clone(),
@@ -178,6 +178,7 @@ impl Model {
             }
         }
         self.slip_scatter(&mut cells, &old, &landed, call);
+        self.slip_operand_last(&mut cells, call);
         let adds = matches!(call.rule, Rule::Add | Rule::Ceiling(_));
         let added = landed.iter().map(|&landed| landed && adds).collect();
         (cells, added)

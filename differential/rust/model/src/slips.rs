@@ -171,6 +171,30 @@ slips! {
     CeilingTakesNan: "Ceiling takes the limit unless the sum is less or equal, so also where either is NaN";
     CeilingTurnedRound: "Ceiling takes the limit where the sum is less";
     CeilingElsewhere: "Ceiling's limit is applied to cells that nothing lands on";
+    // The operand of a scatter.
+    LengthsOfOperandUntested: "1 leaves out the operand of a scatter";
+    RankOfOperandUntested: "2 leaves out the operand of a scatter";
+    RanksOperandLast: "2 names the operand of a scatter after the other views";
+    OperandProductOfDestination: "the destination's product is tested, not the operand's";
+    OperandExtentsByRank: "the extents of operand and destination are compared by rank alone";
+    OperandExtentsByCells: "the extents of operand and destination are compared by their number of cells";
+    OperandExtentsAnyOrder: "the extents of operand and destination are compared in any order";
+    CallOperandUntested: "8 leaves out the operand of a scatter";
+    BoundsAsUpdateOnly: "9 numbers index, updates and destination as in an update-only call";
+    OperandBoundsLast: "9 tests the operand of a scatter last";
+    OperandNotCopied: "the operand is not copied";
+    OperandCopiedLast: "the operand is copied after the updates";
+    OperandNeedsUpdates: "the operand is copied only where there are updates";
+    OperandLastCellLeftOut: "the operand's last cell is not copied";
+    OperandByDestStrides: "the operand is read by the destination's strides";
+    OperandByOwnStrides: "the operand is written by its own strides";
+    OperandAsOneRun: "the operand is copied as one run, whatever the layouts";
+    OperandMergesByDest: "axes are merged where the destination alone is contiguous";
+    OperandMergesByOwn: "axes are merged where the operand alone is contiguous";
+    OperandClearsSlice: "elements that the destination does not name become 0";
+    OperandCombined: "the operand is put on the destination by the rule";
+    OperandQuietsNan: "the copy of the operand quiets NaNs";
+    OperandLosesZeroSign: "the copy of the operand loses the sign of zero";
     // How many windows slid.
     SlidComponents: "moved components are counted, not windows";
     SlidCells: "the cells of windows that slid are counted";

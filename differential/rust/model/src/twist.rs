@@ -1,7 +1,7 @@
 //! Mutants: how a model is twisted, and the list of all of them.
 
-use crate::{order, Check, Slip, SLIPS};
-use lines::{Call, GatherSpec, Number, ScatterSpec, Spec};
+use crate::{order, Check, Kind, Slip, SLIPS};
+use lines::{Call, Number, Spec};
 
 /// What is done to one check.
 #[derive(Clone, Copy, Debug, PartialEq, Eq)]
@@ -20,12 +20,8 @@ pub enum Change {
 #[derive(Clone, Copy, Default)]
 pub struct Twist {
     pub(crate) slip: Option<Slip>,
-    /// Of a gather's order or a scatter's, at this place.
-    change: Option<(bool, usize, Change)>,
-}
-
-fn is_gather(spec: &Spec) -> bool {
-    matches!(spec, Spec::Gather(_))
+    /// Of this kind's order, at this place.
+    change: Option<(Kind, usize, Change)>,
 }
 
 impl Twist {
@@ -33,13 +29,17 @@ impl Twist {
         self.slip.is_some() || self.change.is_some()
     }
 
-    pub(crate) fn order(&self, spec: &Spec) -> Vec<Check> {
-        let mut checks = order(spec).to_vec();
+    /// Whether calls of this kind can be answered otherwise: a change in the
+    /// order of one kind leaves the others as they are.
+    pub(crate) fn concerns(&self, kind: Kind) -> bool {
+        self.change.is_none_or(|(of, _, _)| of == kind)
+    }
+
+    pub(crate) fn order(&self, kind: Kind) -> Vec<Check> {
+        let mut checks = order(kind).to_vec();
         match self.change {
-            Some((gather, place, Change::Moved)) if gather == is_gather(spec) => {
-                checks.swap(place, place + 1);
-            }
-            Some((gather, place, Change::Dropped)) if gather == is_gather(spec) => {
+            Some((of, place, Change::Moved)) if of == kind => checks.swap(place, place + 1),
+            Some((of, place, Change::Dropped)) if of == kind => {
                 checks.remove(place);
             }
             _ => {}
@@ -48,11 +48,11 @@ impl Twist {
     }
 
     /// What becomes of a refusal by `check`.
-    pub(crate) fn answer_of(&self, check: Check, spec: &Spec, number: Number) -> Option<Number> {
-        let Some((gather, place, change)) = self.change else {
+    pub(crate) fn answer_of(&self, check: Check, kind: Kind, number: Number) -> Option<Number> {
+        let Some((of, place, change)) = self.change else {
             return Some(number);
         };
-        if gather != is_gather(spec) || order(spec)[place] != check {
+        if of != kind || order(kind)[place] != check {
             return Some(number);
         }
         match change {
@@ -86,12 +86,9 @@ pub fn mutants() -> Vec<Mutant> {
             unseen,
         })
         .collect();
-    for spec in [
-        Spec::Gather(GatherSpec::default()),
-        Spec::Scatter(ScatterSpec::default()),
-    ] {
-        for place in 0..order(&spec).len() {
-            all.extend(mutants_of(&spec, place));
+    for kind in Kind::ALL {
+        for place in 0..order(kind).len() {
+            all.extend(mutants_of(kind, place));
         }
     }
     all
@@ -101,28 +98,27 @@ pub fn mutants() -> Vec<Mutant> {
 /// for it, what it does, and why it cannot be seen.
 type Row = (Change, &'static str, String, Option<&'static str>);
 
-fn mutants_of(spec: &Spec, place: usize) -> Vec<Mutant> {
-    let kind = if is_gather(spec) { "gather" } else { "scatter" };
-    let name = order(spec)[place].name(spec);
+fn mutants_of(kind: Kind, place: usize) -> Vec<Mutant> {
+    let name = order(kind)[place].name(kind);
     let mutant = |(change, word, what, unseen): Row| Mutant {
-        name: format!("{kind}-{word}-{name}"),
+        name: format!("{}-{word}-{name}", kind.name()),
         what,
         twist: Twist {
             slip: None,
-            change: Some((is_gather(spec), place, change)),
+            change: Some((kind, place, change)),
         },
         unseen,
     };
-    rows(spec, place).into_iter().map(mutant).collect()
+    rows(kind, place).into_iter().map(mutant).collect()
 }
 
-fn rows(spec: &Spec, place: usize) -> Vec<Row> {
-    let checks = order(spec);
+fn rows(kind: Kind, place: usize) -> Vec<Row> {
+    let checks = order(kind);
     let check = checks[place];
-    let name = check.name(spec);
+    let name = check.name(kind);
     let mut rows: Vec<Row> = Vec::new();
     if let Some(next) = checks.get(place + 1) {
-        let what = format!("{name} is tested after {}", next.name(spec));
+        let what = format!("{name} is tested after {}", next.name(kind));
         let alike = check.number() == 3 && next.number() == 3;
         let unseen = alike.then_some("both give 3, 0, 0");
         rows.push((Change::Moved, "moved", what, unseen));
@@ -131,7 +127,7 @@ fn rows(spec: &Spec, place: usize) -> Vec<Row> {
     rows.push((Change::Dropped, "dropped", what, dropped_unseen(check)));
     if matches!(check.number(), 2 | 5 | 6 | 7 | 9) {
         let what = format!("{name} gives a and b the other way round");
-        let unseen = exchanged_unseen(check, spec);
+        let unseen = exchanged_unseen(check, kind);
         rows.push((Change::Exchanged, "exchanged", what, unseen));
     }
     if check.number() == 5 && check != Check::WindowCountInRank {
@@ -148,8 +144,8 @@ fn dropped_unseen(check: Check) -> Option<&'static str> {
     )
 }
 
-fn exchanged_unseen(check: Check, spec: &Spec) -> Option<&'static str> {
-    let same = check == Check::Shape && !is_gather(spec);
+fn exchanged_unseen(check: Check, kind: Kind) -> Option<&'static str> {
+    let same = check == Check::Shape && kind != Kind::Gather;
     same.then_some("a and b are both the update rank")
 }
 
@@ -172,9 +168,9 @@ impl Check {
             | Check::WindowSizes
             | Check::CollapsedWindows
             | Check::WindowAxes => 6,
-            Check::Shape => 7,
+            Check::Shape | Check::OperandExtents => 7,
             Check::CallLayouts => 8,
-            Check::Bounds(_) => 9,
+            Check::OperandBounds | Check::Bounds(_) => 9,
             _ => 3,
         }
     }

@@ -1,27 +1,42 @@
-//! The refusals that document 01 marks as added, which the Rust does not
-//! know: 2, the span of a scatter's destination, and the test of 9.
+//! The refusals that the documents mark as added, which the Rust does not
+//! know: 2, the spans of a scatter's destination and of its operand, and the
+//! test of 9.
 
-use lines::{Call, Job, Layout, Number, Spec, View};
+use lines::{Call, Layout, Number, Spec, View};
 
 const MOST_AXES: usize = 8;
 
-/// 2, or the 3 of a scatter's destination span. Both come after 1, so a
-/// layout of unequal lengths is left to the Rust. The span's 3 may stand
-/// before the products: theirs is the same answer.
-pub fn before_compile(job: &Job) -> Option<Number> {
-    let unequal = |v: &View| v.layout.extents.len() != v.layout.strides.len();
-    if job.views.iter().any(unequal) {
+/// 2, or the 3 of a scatter's spans. Both come after 1, so a layout of unequal
+/// lengths is left to the Rust. The spans' 3 may stand before the products:
+/// theirs is the same answer. It may not stand before the 7 of an operand that
+/// has other extents than the destination, which is left to the Rust too.
+pub fn before_compile(call: &Call) -> Option<Number> {
+    let views = views(call);
+    let unequal = |(v, _): &(&View, usize)| v.layout.extents.len() != v.layout.strides.len();
+    if views.iter().any(unequal) {
         return None;
     }
-    let ranks = job.views.iter().map(|v| v.layout.extents.len());
-    if let Some(rank) = ranks.into_iter().find(|&rank| rank > MOST_AXES) {
+    let mut ranks = views.iter().map(|(v, _)| v.layout.extents.len());
+    if let Some(rank) = ranks.find(|&rank| rank > MOST_AXES) {
         return Some(Number::new(2, rank as u64, MOST_AXES as u64));
     }
-    let scatter = matches!(job.spec, Spec::Scatter(_));
-    if scatter && !span_fits(&job.dest().layout) {
-        return Some(Number::new(3, 0, 0));
+    let (dest, operand) = (call.job.dest(), call.operand.as_ref().map(|o| &o.view));
+    let seven = operand.is_some_and(|v| v.layout.extents != dest.layout.extents);
+    let scatter = matches!(call.job.spec, Spec::Scatter(_));
+    if !scatter || seven {
+        return None;
     }
-    None
+    let fit = span_fits(&dest.layout) && operand.is_none_or(|v| span_fits(&v.layout));
+    (!fit).then_some(Number::new(3, 0, 0))
+}
+
+/// The views in view order, each with the length of its slice.
+fn views(call: &Call) -> Vec<(&View, usize)> {
+    let operand = call.operand.iter().map(|o| (&o.view, o.data.len()));
+    let views = call.job.views.iter().enumerate();
+    operand
+        .chain(views.map(|(place, view)| (view, call.slice_len(place))))
+        .collect()
 }
 
 /// Extent - 1 (at least 0), its product with the stride, and the running sums
@@ -45,8 +60,8 @@ fn span_fits(layout: &Layout) -> bool {
 /// The test of 9: the first view that is not inside its slice. It is made
 /// only where the call's layouts are the plan's.
 pub fn out_of_bounds(call: &Call) -> Option<Number> {
-    let outside = |place: &usize| !inside(&call.job.views[*place], call.slice_len(*place));
-    let place = (0..3).find(outside)?;
+    let outside = |&(view, len): &(&View, usize)| !inside(view, len);
+    let place = views(call).iter().position(outside)?;
     Some(Number::new(9, place as u64 + 1, 0))
 }
 

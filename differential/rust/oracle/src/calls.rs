@@ -17,19 +17,29 @@ pub fn answer(case: &Case) -> Answer {
 }
 
 fn called(call: &Call) -> Answer {
-    if let Some(number) = added::before_compile(&call.job) {
+    if let Some(number) = added::before_compile(call) {
         return Answer::Called(number, call.dest.clone(), None);
     }
-    match (&call.source, &call.dest) {
-        (Data::I32(source), Data::I32(dest)) => by_i32(call, source, dest),
-        (Data::F64(source), Data::F64(dest)) => by_f64(call, source, dest),
+    let operand = call.operand.as_ref().map(|operand| &operand.data);
+    match (operand, &call.source, &call.dest) {
+        (None, Data::I32(source), Data::I32(dest)) => by_i32(call, (None, source, dest)),
+        (None, Data::F64(source), Data::F64(dest)) => by_f64(call, (None, source, dest)),
+        (Some(Data::I32(operand)), Data::I32(source), Data::I32(dest)) => {
+            by_i32(call, (Some(operand), source, dest))
+        }
+        (Some(Data::F64(operand)), Data::F64(source), Data::F64(dest)) => {
+            by_f64(call, (Some(operand), source, dest))
+        }
         _ => Answer::Malformed,
     }
 }
 
+/// The slices of a scatter's operand, if it has one, of the gather's operand
+/// or the scatter's updates, and of the destination.
+type Slices<'a, E> = (Option<&'a [E]>, &'a [E], &'a [E]);
+
 /// The Rust on elements whose `+` is the rule. A gather's `+` is not used.
-fn by_i32(call: &Call, source: &[i32], dest: &[i32]) -> Answer {
-    let slices = (source, dest);
+fn by_i32(call: &Call, slices: Slices<i32>) -> Answer {
     match call.rule {
         Rule::Add => run(call, slices, Wrapping, |x| x.0, Data::I32),
         Rule::Lowest => run(call, slices, Lowest, |x| x.0, Data::I32),
@@ -40,8 +50,7 @@ fn by_i32(call: &Call, source: &[i32], dest: &[i32]) -> Answer {
 }
 
 /// The same for f64, which a case has as bits.
-fn by_f64(call: &Call, source: &[u64], dest: &[u64]) -> Answer {
-    let slices = (source, dest);
+fn by_f64(call: &Call, slices: Slices<u64>) -> Answer {
     let float = f64::from_bits;
     match call.rule {
         Rule::Add => run(call, slices, float, |x| x.to_bits(), Data::F64),
@@ -72,7 +81,7 @@ fn by_f64(call: &Call, source: &[u64], dest: &[u64]) -> Answer {
 /// with the whole destination. The Rust does not count windows that slid.
 fn run<E: Copy, T>(
     call: &Call,
-    (source, dest): (&[E], &[E]),
+    (operand, source, dest): Slices<E>,
     element: impl Fn(E) -> T,
     back: impl Fn(T) -> E,
     data: fn(Vec<E>) -> Data,
@@ -84,7 +93,10 @@ where
     let (source, mut dest) = (elements(source), elements(dest));
     let done = match &call.job.spec {
         Spec::Gather(_) => gather(call, &source, &mut dest),
-        Spec::Scatter(_) => scatter(call, &source, &mut dest),
+        Spec::Scatter(_) => {
+            let operand = operand.map(elements).unwrap_or_else(|| dest.clone());
+            scatter(call, &operand, &source, &mut dest)
+        }
     };
     let dest = data(dest.into_iter().map(back).collect());
     match done {
@@ -165,6 +177,8 @@ fn layouts(call: &Call) -> ([Native; 3], [Native; 3]) {
 /// before anything is read. `updates` is how many a scatter would add.
 fn may_run(call: &Call, updates: u64) -> Result<(), Stop> {
     let same = (0..3).all(|place| *call.call_layout(place) == call.job.views[place].layout);
+    let operand = call.operand.as_ref();
+    let same = same && operand.is_none_or(|o| *o.call_layout() == o.view.layout);
     if !same {
         return Ok(());
     }
@@ -214,9 +228,18 @@ where
     Ok(())
 }
 
-/// The operand is a copy of the destination in the same layout, so that only
-/// the update phase shows.
-fn scatter<T>(call: &Call, updates: &[T], dest: &mut [T]) -> Result<(), Stop>
+/// The view of a scatter's operand, its layout in the plan and in the call. An
+/// update-only call has the destination's, and a copy of its elements, so that
+/// only the update phase shows.
+fn operand_view(call: &Call) -> (&View, Native, Native) {
+    let (view, called) = match &call.operand {
+        Some(operand) => (&operand.view, operand.call_layout()),
+        None => (call.job.dest(), &call.job.dest().layout),
+    };
+    (view, Native::of(&view.layout), Native::of(called))
+}
+
+fn scatter<T>(call: &Call, operand: &[T], updates: &[T], dest: &mut [T]) -> Result<(), Stop>
 where
     T: Copy + Add<Output = T> + Send + Sync,
 {
@@ -224,9 +247,10 @@ where
         unreachable!()
     };
     let (plan, called) = layouts(call);
+    let (operand_view, operand_plan, operand_called) = operand_view(call);
     let compiled = ScatterPlan::compile(
-        &plan[2].dims,
-        &plan[2].strides,
+        &operand_plan.dims,
+        &operand_plan.strides,
         &plan[0].dims,
         &plan[0].strides,
         &plan[1].dims,
@@ -243,10 +267,9 @@ where
     let [index_view, update_view, dest_view] = &call.job.views;
     // Compile has checked that the product fits.
     may_run(call, update_view.layout.extents.iter().product())?;
-    let operand = dest.to_vec();
     compiled.execute(
         &mut called[2].write(dest_view, dest),
-        &plan[2].read(dest_view, &operand),
+        &operand_called.read(operand_view, operand),
         &called[0].read(index_view, &call.index),
         &called[1].read(update_view, updates),
         Exec::serial(),

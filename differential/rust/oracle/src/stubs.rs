@@ -1,8 +1,8 @@
 //! Stand-ins for the parts of the repository that gather_plan.rs names and
 //! that are not at hand. They follow document 01: views without checks (the
-//! driver makes the test of 9 first), "nested" as the layout test, a plain
-//! copy, a serial executor. What only the dynamic slice plans use is never
-//! reached.
+//! driver makes the test of 9 first), "nested" as the layout test, a serial
+//! executor, and a copy over axes that the Rust's own `fuse_axes` has merged.
+//! What only the dynamic slice plans use is never reached.
 
 use std::marker::PhantomData;
 
@@ -74,9 +74,37 @@ pub struct RawStridedMut<'a, T> {
     pub offset: isize,
 }
 
+/// `fuse_axes` of raw_ops.rs and `total_len` of kernel.rs, as they stand there.
+#[allow(clippy::all)]
+pub mod fused {
+    use super::{Result, StridedError, RAW_FUSED_RANK_LIMIT};
+
+    // `FusedAxis`, `EMPTY_AXIS`, `fuse_axes`, `total_len`.
+    include!(concat!(env!("OUT_DIR"), "/fused.rs"));
+
+    /// The axes of a copy of at most eight, and how many they are: ordered by
+    /// the destination's stride, and merged where both sides are contiguous.
+    /// There is at least one.
+    pub(crate) fn axes(
+        dims: &[usize],
+        dest: &[isize],
+        source: &[isize],
+    ) -> ([FusedAxis; RAW_FUSED_RANK_LIMIT], usize) {
+        let mut axes = [EMPTY_AXIS; RAW_FUSED_RANK_LIMIT];
+        let rank = fuse_axes(&mut axes, dims, dest, source);
+        (axes, rank)
+    }
+
+    /// How many cells a copy has.
+    pub fn cells(dims: &[usize]) -> Result<usize> {
+        total_len(dims)
+    }
+}
+
 pub mod copy_plan {
+    use super::fused::{self, FusedAxis};
     use super::raw_ops::{FusedPairLayout, PairTiles};
-    use super::{Exec, RawStridedMut, RawStridedRef, Result};
+    use super::{Exec, RawStridedMut, RawStridedRef, Result, RAW_FUSED_RANK_LIMIT};
     use std::mem::MaybeUninit;
 
     pub trait OverwriteWriter<T> {
@@ -144,21 +172,20 @@ pub mod copy_plan {
 
     impl<T: Copy> ReadModifyWrite<T> for RawStridedMut<'_, T> {}
 
-    /// Copies cell by cell, first axis fastest.
+    /// Copies run by run, over the merged axes. Compile comes here only with
+    /// a product that fits, and so nothing is refused.
     #[derive(Clone, Debug)]
     pub struct CopyPlan {
-        dims: Vec<usize>,
-        dest_strides: Vec<isize>,
-        source_strides: Vec<isize>,
+        axes: [FusedAxis; RAW_FUSED_RANK_LIMIT],
+        rank: usize,
+        cells: usize,
     }
 
     impl CopyPlan {
         pub fn compile(dims: &[usize], dest: &[isize], source: &[isize]) -> Result<Self> {
-            Ok(CopyPlan {
-                dims: dims.to_vec(),
-                dest_strides: dest.to_vec(),
-                source_strides: source.to_vec(),
-            })
+            let (axes, rank) = fused::axes(dims, dest, source);
+            let cells = fused::cells(dims)?;
+            Ok(CopyPlan { axes, rank, cells })
         }
 
         pub fn execute<T: Copy>(
@@ -167,15 +194,18 @@ pub mod copy_plan {
             source: &RawStridedRef<'_, T>,
             _exec: Exec<'_>,
         ) -> Result<()> {
-            if self.dims.contains(&0) {
+            let [run, outer @ ..] = &self.axes[..self.rank] else {
+                return Ok(());
+            };
+            if self.cells == 0 {
                 return Ok(());
             }
-            let mut coordinate = vec![0usize; self.dims.len()];
+            let mut coordinate = vec![0usize; outer.len()];
             loop {
-                let from = place(source.offset, &self.source_strides, &coordinate);
-                let to = place(dest.offset, &self.dest_strides, &coordinate);
-                dest.data[to] = source.data[from];
-                if !next(&mut coordinate, &self.dims) {
+                let from = place(source.offset, outer, |axis| axis.src, &coordinate);
+                let to = place(dest.offset, outer, |axis| axis.dst, &coordinate);
+                copy_run(run, source.data, from, dest.data, to);
+                if !next(&mut coordinate, outer) {
                     return Ok(());
                 }
             }
@@ -193,18 +223,36 @@ pub mod copy_plan {
         }
     }
 
-    fn place(offset: isize, strides: &[isize], coordinate: &[usize]) -> usize {
-        let moved = strides.iter().zip(coordinate).fold(offset, |sum, (s, &c)| {
-            sum.wrapping_add(s.wrapping_mul(c as isize))
-        });
-        moved as usize
+    fn place(
+        offset: isize,
+        axes: &[FusedAxis],
+        step: impl Fn(&FusedAxis) -> isize,
+        coordinate: &[usize],
+    ) -> isize {
+        let axes = axes.iter().zip(coordinate);
+        axes.fold(offset, |sum, (axis, &c)| {
+            sum.wrapping_add(step(axis).wrapping_mul(c as isize))
+        })
+    }
+
+    /// Copies one run: in one piece where both sides go by 1.
+    fn copy_run<T: Copy>(run: &FusedAxis, source: &[T], from: isize, dest: &mut [T], to: isize) {
+        if run.src == 1 && run.dst == 1 {
+            let (from, to) = (from as usize, to as usize);
+            dest[to..to + run.dim].copy_from_slice(&source[from..from + run.dim]);
+            return;
+        }
+        for n in 0..run.dim as isize {
+            let (from, to) = (from + n * run.src, to + n * run.dst);
+            dest[to as usize] = source[from as usize];
+        }
     }
 
     /// Steps to the next coordinate; false after the last one.
-    fn next(coordinate: &mut [usize], dims: &[usize]) -> bool {
-        for (c, &dim) in coordinate.iter_mut().zip(dims) {
+    fn next(coordinate: &mut [usize], axes: &[FusedAxis]) -> bool {
+        for (c, axis) in coordinate.iter_mut().zip(axes) {
             *c += 1;
-            if *c < dim {
+            if *c < axis.dim {
                 return true;
             }
             *c = 0;

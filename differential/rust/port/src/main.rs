@@ -5,7 +5,7 @@
 mod lists;
 mod stored;
 
-use lines::{Answer, Call, Case, Data, Number};
+use lines::{Answer, Call, Case, Data, Number, Operand};
 use model::Model;
 use strided::ffi;
 
@@ -53,6 +53,29 @@ fn number_and_slid(answer: ffi::Answer) -> (Number, Option<u64>) {
     }
 }
 
+fn floats(bits: &[u64]) -> Vec<f64> {
+    bits.iter().map(|&x| f64::from_bits(x)).collect()
+}
+
+/// What the function for the call's elements answers, given the operand's
+/// slice as well.
+fn called_on(
+    call: &Call,
+    operand: &Operand,
+    by_i32: impl FnOnce(&[i32], &[i32], &mut [i32]) -> ffi::Answer,
+    by_f64: impl FnOnce(&[f64], &[f64], &mut [f64]) -> ffi::Answer,
+) -> (Number, Data, Option<u64>) {
+    let (wholes, doubles) = match &operand.data {
+        Data::I32(wholes) => (&wholes[..], Vec::new()),
+        Data::F64(bits) => (&[][..], floats(bits)),
+    };
+    called(
+        call,
+        |source, dest| by_i32(wholes, source, dest),
+        |source, dest| by_f64(&doubles, source, dest),
+    )
+}
+
 /// What the function for the call's elements answers, given source and
 /// destination, with the destination as it leaves it.
 fn called(
@@ -67,7 +90,6 @@ fn called(
             (answer, Data::I32(dest))
         }
         (Data::F64(source), Data::F64(dest)) => {
-            let floats = |bits: &[u64]| bits.iter().map(|&x| f64::from_bits(x)).collect::<Vec<_>>();
             let (source, mut dest) = (floats(source), floats(dest));
             let answer = by_f64(&source, &mut dest);
             let bits = dest.iter().map(|x| x.to_bits()).collect();

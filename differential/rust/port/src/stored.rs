@@ -42,10 +42,11 @@ pub fn write(job: &Job, room: u64) -> Answer {
 
 /// A call by its stored job: written, then read, compiled and called. Not for
 /// a job that has no stored form, nor where a view of the call carries another
-/// layout than the job's, nor for a rule other than Add, which is the one that
-/// stored jobs mean.
+/// layout than the job's, nor for a rule other than Add or an operand: stored
+/// jobs mean updates alone, which are added.
 pub fn call(call: &Call) -> Option<Answer> {
-    if call.layouts.iter().any(Option::is_some) || call.rule != Rule::Add {
+    let update_only = call.rule == Rule::Add && call.operand.is_none();
+    if call.layouts.iter().any(Option::is_some) || !update_only {
         return None;
     }
     let mut bytes = vec![0; NEVER_NEEDED as usize];

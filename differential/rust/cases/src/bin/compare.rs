@@ -6,7 +6,7 @@
 
 use cases::answers::{load, of_oracle, outside, same, Answered};
 use lines::{Answer, Call, Case, Number, Spec};
-use model::{order, windows, Check, Model};
+use model::{order, windows, Check, Kind, Model};
 use std::collections::BTreeMap;
 use std::path::Path;
 use std::process::ExitCode;
@@ -20,11 +20,12 @@ struct Counts {
     names: [String; 2],
     cases: usize,
     numbers: BTreeMap<u64, usize>,
-    /// By gather or scatter, and by the check's place in the order.
-    checks: BTreeMap<(bool, usize), (String, usize)>,
+    /// By kind, and by the check's place in its order.
+    checks: BTreeMap<(Kind, usize), (String, usize)>,
     outside: BTreeMap<&'static str, usize>,
-    /// Scatters that were done, by element and rule.
-    rules: BTreeMap<(String, &'static str), usize>,
+    /// Scatters that were done, by element and rule, and those among them
+    /// with an operand.
+    rules: BTreeMap<(String, &'static str), (usize, usize)>,
     /// Calls that were done, by kind and by how many of their windows slid.
     slid: BTreeMap<(&'static str, &'static str), usize>,
     /// What the second side answered, by number.
@@ -108,7 +109,7 @@ impl Counts {
         let verdict = Model::default().judge(call);
         self.count_number(&verdict.answer);
         if let Some(check) = verdict.refused_by {
-            self.count_check(&call.job.spec, check);
+            self.count_check(Kind::of(call), check);
         }
         if let Some(reason) = outside(&verdict, call) {
             self.count_outside(reason);
@@ -136,11 +137,10 @@ impl Counts {
         }
     }
 
-    fn count_check(&mut self, spec: &Spec, check: Check) {
-        let place = order(spec).iter().position(|&c| c == check).unwrap_or(0);
-        let scatter = matches!(spec, Spec::Scatter(_));
-        let entry = self.checks.entry((scatter, place));
-        entry.or_insert_with(|| (check.name(spec), 0)).1 += 1;
+    fn count_check(&mut self, kind: Kind, check: Check) {
+        let place = order(kind).iter().position(|&c| c == check).unwrap_or(0);
+        let entry = self.checks.entry((kind, place));
+        entry.or_insert_with(|| (check.name(kind), 0)).1 += 1;
     }
 
     fn count_outside(&mut self, reason: &'static str) {
@@ -150,7 +150,9 @@ impl Counts {
     fn count_rule(&mut self, call: &Call) {
         if matches!(call.job.spec, Spec::Scatter(_)) {
             let key = (call.job.element.to_string(), call.rule.name());
-            *self.rules.entry(key).or_default() += 1;
+            let (all, charts) = self.rules.entry(key).or_default();
+            *all += 1;
+            *charts += usize::from(call.operand.is_some());
         }
     }
 
@@ -190,17 +192,16 @@ impl Counts {
             println!("  {number}: {count}");
         }
         println!("by the check that refused:");
-        for ((scatter, _), (name, count)) in &self.checks {
-            let kind = if *scatter { "scatter" } else { "gather" };
-            println!("  {kind} {name}: {count}");
+        for ((kind, _), (name, count)) in &self.checks {
+            println!("  {} {name}: {count}", kind.name());
         }
         println!("outside the domain of comparison:");
         for (reason, count) in &self.outside {
             println!("  {reason}: {count}");
         }
         println!("scatters done, by rule:");
-        for ((element, rule), count) in &self.rules {
-            println!("  {element} {rule}: {count}");
+        for ((element, rule), (all, charts)) in &self.rules {
+            println!("  {element} {rule}: {all}, on a chart: {charts}");
         }
         println!("calls done, by how many of their windows slid:");
         for ((kind, which), count) in &self.slid {

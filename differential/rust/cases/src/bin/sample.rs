@@ -2,47 +2,73 @@
 //! DIR/cases.txt and DIR/answers.txt. Every paper's case is kept, a case that
 //! sees each mutant, and some for every refusal, answer, rank, element type
 //! and place of the vector axis, and for windows that slide in every way.
-//! Cases that name a rule are left out: the program that replays the stored
-//! ones knows no rules. The answers are the oracle's, with the model's number
-//! of windows that slid, which the oracle has not.
+//! Cases that name a rule or a chart are left out: the program that replays
+//! the stored ones knows neither. `sample charts CASES ORACLE DIR` writes
+//! those with a chart, fewer of them and by any rule, to DIR/charts.txt and
+//! DIR/chart-answers.txt. The answers are the oracle's, with the model's
+//! number of windows that slid, which the oracle has not.
 
 use cases::answers::{completed, first_seen, load, telling, Answered};
 use lines::{Answer, Call, Spec};
-use model::{mutants, Model};
+use model::{mutants, Kind, Model};
 use std::collections::{BTreeMap, BTreeSet};
-use std::path::Path;
+use std::path::{Path, PathBuf};
 use std::{fs, io};
 
 /// Longer lines than this are left out.
 const LONGEST: usize = 330;
 const MOST_BYTES: usize = 660_000;
+/// Of a feature so many times fewer cases with a chart are wanted.
+const FEWER_CHARTS: usize = 5;
 /// Of how many windows the starts are looked at.
 const MOST_WINDOWS: usize = 64;
 
 fn main() -> io::Result<()> {
-    let files: Vec<String> = std::env::args().skip(1).collect();
-    let [cases, oracle, dir] = &files[..] else {
-        eprintln!("usage: sample CASES ORACLE DIR");
-        std::process::exit(2);
+    let arguments: Vec<String> = std::env::args().skip(1).collect();
+    let words: Vec<&str> = arguments.iter().map(String::as_str).collect();
+    let (charts, cases, oracle, dir) = match words[..] {
+        ["charts", cases, oracle, dir] => (true, cases, oracle, dir),
+        [cases, oracle, dir] => (false, cases, oracle, dir),
+        _ => {
+            eprintln!("usage: sample [charts] CASES ORACLE DIR");
+            std::process::exit(2);
+        }
     };
     let mut cases = load(Path::new(cases), &[Path::new(oracle)])?;
-    cases.retain(|answered| answered.text.len() <= LONGEST && !answered.text.contains(" rule="));
+    cases.retain(|answered| is_wanted(answered, charts));
     std::panic::set_hook(Box::new(|_| {}));
     let chosen = chosen(&cases);
+    let names = match charts {
+        true => ["charts.txt", "chart-answers.txt"],
+        false => ["cases.txt", "answers.txt"],
+    };
     write(
-        Path::new(dir),
+        names.map(|name| Path::new(dir).join(name)),
         cases.iter().filter(|a| chosen.contains(&a.id)),
     )
 }
 
-fn write<'a>(dir: &Path, chosen: impl Iterator<Item = &'a Answered>) -> io::Result<()> {
+/// Whether a case may be stored, among those with a chart or without.
+fn is_wanted(answered: &Answered, charts: bool) -> bool {
+    let Some(call) = answered.call() else {
+        return false;
+    };
+    let kind = match charts {
+        true => call.operand.is_some(),
+        false => call.operand.is_none() && !answered.text.contains(" rule="),
+    };
+    kind && answered.text.len() <= LONGEST
+}
+
+fn write<'a>(files: [PathBuf; 2], chosen: impl Iterator<Item = &'a Answered>) -> io::Result<()> {
     let (mut cases, mut answers) = (String::new(), String::new());
     for answered in chosen {
         cases += &format!("{} {}\n", answered.id, answered.text);
         answers += &format!("{} {}\n", answered.id, stored(answered));
     }
-    fs::write(dir.join("cases.txt"), cases)?;
-    fs::write(dir.join("answers.txt"), answers)
+    let [cases_file, answers_file] = files;
+    fs::write(cases_file, cases)?;
+    fs::write(answers_file, answers)
 }
 
 /// The oracle's line, completed where it answers a call.
@@ -76,6 +102,10 @@ fn chosen(cases: &[Answered]) -> BTreeSet<String> {
         };
         let mut wanted = chosen.contains(&answered.id);
         for (feature, most) in features(call, &answered.given[0]) {
+            let most = match call.operand {
+                Some(_) => most.div_ceil(FEWER_CHARTS),
+                None => most,
+            };
             let count = counts.entry(feature).or_default();
             wanted |= *count < most;
             *count += 1;
@@ -99,14 +129,14 @@ fn is_named(id: &str) -> bool {
 /// What a case shows, with how many cases are wanted for each.
 fn features(call: &Call, given: &str) -> Vec<(String, usize)> {
     let verdict = Model::default().judge(call);
-    let spec = &call.job.spec;
-    let (kind, vector) = match spec {
-        Spec::Gather(s) => ("gather", s.index_vector_dim),
-        Spec::Scatter(s) => ("scatter", s.index_vector_dim),
+    let kind = Kind::of(call).name();
+    let vector = match &call.job.spec {
+        Spec::Gather(s) => s.index_vector_dim,
+        Spec::Scatter(s) => s.index_vector_dim,
     };
     let element = call.job.element;
     let line = match verdict.refused_by {
-        Some(check) => check.name(spec),
+        Some(check) => check.name(Kind::of(call)),
         None => "done".to_string(),
     };
     let mut features = vec![(format!("{kind} {element} {line}"), 10)];
@@ -124,8 +154,28 @@ fn features(call: &Call, given: &str) -> Vec<(String, usize)> {
         let changed = !given.ends_with(&format!("dest {}", call.dest));
         features.push((format!("{kind} {element} changed {changed}"), 40));
         features.extend(slid_features(call, kind));
+        features.extend(operand_features(call));
     }
     features
+}
+
+/// What a chart that is copied shows: its element and rule, and how its
+/// strides stand to the destination's.
+fn operand_features(call: &Call) -> Vec<(String, usize)> {
+    let Some(operand) = &call.operand else {
+        return Vec::new();
+    };
+    let (own, dest) = (&operand.view.layout, &call.job.dest().layout);
+    let signs: BTreeSet<i64> = own.strides.iter().map(|stride| stride.signum()).collect();
+    let strides = match own.strides == dest.strides {
+        true => "the same".to_string(),
+        false => format!("{signs:?}"),
+    };
+    let axes = dest.extents.iter().filter(|&&extent| extent > 1).count();
+    vec![
+        (format!("{} {}", call.job.element, call.rule.name()), 20),
+        (format!("strides {strides}, {axes} axes"), 15),
+    ]
 }
 
 /// What a call that is done shows of windows that slide: how many of them do,
