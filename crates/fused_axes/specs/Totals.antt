@@ -18,7 +18,7 @@ use Rattle.indexing.specs.Fusion.{product-pos}
 use Rattle.layout.specs.Nested.{hasZero}
 use Rattle.layout.specs.Laws.{no-cells, some-cells}
 use Rattle.layout.specs.Spans.{andThenU, totalFrom, totalOf}
-use Rattle.fused_axes.specs.Fusing.{totalLen, fusionPays}
+use Rattle.fused_axes.specs.Fusing.{totalLen, fewCells, fusionPays}
 
 -- left to right, each step in u64: where no extent is 0 no step is greater than the whole
 total-from : (ds : List ℕ) (acc : ℕ) → acc < 2 ^ 64 → AllPos ds → totalFrom acc ds ≡ checkedU (acc * product ds)
@@ -61,7 +61,7 @@ many-axes (suc rank) ds h = omega arith
 pub pays-few : (rank n : ℕ) (ds : List ℕ) → fusionPays n rank ≡ true → product (take rank ds) ≡ n → n ≤ 2 ^ 63
 unfolding fusionPays product
 pays-few zero n ds e h = omega arith
-pays-few (suc rank) n ds e h = go (leb n 64) (rw (ne-eqb (suc rank) 0 (λ q. omega arith)) at e)
+pays-few (suc rank) n ds e h = go (leb n fewCells) (rw (ne-eqb (suc rank) 0 (λ q. omega arith)) at e)
   where
     go : (t : Bool) → cond t false (leb n (2 ^ 63)) ≡ true → n ≤ 2 ^ 63
     go true f = absurd (true≢false (sym f))

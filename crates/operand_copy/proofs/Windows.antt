@@ -12,7 +12,6 @@ use Rattle.integer.specs.Z.{back}
 use Rattle.indexing.specs.Coordinates.{product, InSlice}
 use Rattle.indexing.specs.Odometer.{AllPos, offsetAt}
 use Rattle.indexing.specs.Linear.{index-pos}
-use Rattle.indexing.specs.Loops.{inOrder}
 use Rattle.indexing.specs.Operand.{operandCopied}
 use Rattle.layout.specs.Layouts.{rankLimit, padded}
 use Rattle.runs.proofs.Place.{read}
@@ -20,7 +19,7 @@ use Rattle.runs.proofs.Turns.{none}
 use Rattle.windows.specs.Windows.{windowed, Region, Window, RunAxis, Level}
 use Rattle.fused_axes.specs.declared.FusedAxis.{FusedAxis}
 use Rattle.fused_axes.specs.declared.FusedAxes.{FusedAxes}
-use Rattle.fused_axes.specs.Fusing.{copyTurn, cellsCopied, dims, dsts, srcs, unitAxis, copyAxes, heldAxes}
+use Rattle.fused_axes.specs.Fusing.{cellsCopied, dims, dsts, srcs, unitAxis, copyAxes, heldAxes}
 use Rattle.fused_axes.specs.Fused.{copied-is, operand-chosen, chosen-has, chosen-total}
 use Rattle.fused_axes.proofs.Counts.{each-most, chosen-count, chosen-some, held-part, held-length}
 use Rattle.operand_copy.specs.Views.{heldView, Cells}

@@ -29,18 +29,7 @@ fn over_axes(
     ensures { λ _. ⌜ now (dst .exit) ≡ windowed (pos 0) (ruleI32 R.Replace) (now (src .entry)) s d extents ss ds rank (now (dst .entry)) ⌝ }
 {
     let low = windows::run_axis(&extents, rank);
-    windows::axes(
-        Rule::Replace,
-        src,
-        dst,
-        &extents,
-        &ss,
-        &ds,
-        low,
-        rank,
-        s,
-        d,
-    );
+    windows::axes(Rule::Replace, src, dst, &extents, &ss, &ds, low, rank, s, d);
 }
 
 // The same over fused axes.
