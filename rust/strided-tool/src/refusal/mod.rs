@@ -152,8 +152,107 @@ fn outside(views: &[Named<'_>], view: u64, known: &Known<'_>) -> Option<String> 
 }
 
 #[cfg(test)]
+#[allow(clippy::unwrap_used)]
 mod tests {
     use super::*;
+    use strided::{ElementType, ScatterJob, ScatterSpec};
+
+    fn packed(dims: &[usize]) -> ViewLayout {
+        ViewLayout::column_major(dims).unwrap()
+    }
+
+    /// Three updates on a grid of five cells.
+    fn cuts() -> Job {
+        Job::Scatter(ScatterJob {
+            element: ElementType::I32,
+            index: packed(&[3]),
+            updates: packed(&[3]),
+            dest: packed(&[5]),
+            spec: ScatterSpec {
+                update_window_dims: vec![],
+                inserted_window_dims: vec![0],
+                scatter_dims_to_operand_dims: vec![0],
+                index_vector_dim: 1,
+            },
+        })
+    }
+
+    fn told(error: StridedError, chart: Option<&ViewLayout>) -> String {
+        let names = ["a", "b", "c", "d"].map(str::to_owned);
+        let job = cuts();
+        let known = Known {
+            job: Some(&job),
+            chart,
+            bytes: None,
+            lent: names.into_iter().zip(10..).collect(),
+        };
+        refused("x", error, &known).to_string()
+    }
+
+    #[test]
+    fn a_chart_is_the_first_view() {
+        let chart = packed(&[5]);
+        let outside = |view| StridedError::BufferBounds {
+            view,
+            bytes_needed: 0,
+        };
+        let with = ["chart", "index", "updates", "dest"];
+        for ((view, name), file) in (1..).zip(with).zip(["a", "b", "c", "d"]) {
+            let told = told(outside(view), Some(&chart));
+            let count = view.saturating_add(9);
+            assert!(
+                told.contains(&format!("view {view} is the {name}: ")),
+                "{told}"
+            );
+            assert!(
+                told.contains(&format!("; {file} lends {count} elements")),
+                "{told}"
+            );
+        }
+        for (view, name) in (1..).zip(["index", "updates", "dest"]) {
+            let told = told(outside(view), None);
+            assert!(
+                told.contains(&format!("view {view} is the {name}: ")),
+                "{told}"
+            );
+        }
+        assert!(!told(outside(4), None).contains("view 4 is"));
+    }
+
+    #[test]
+    fn a_shape_of_the_chart_or_of_the_updates() {
+        let error = StridedError::ShapeMismatch {
+            given: 1,
+            expected: 2,
+        };
+        let other = told(error, Some(&packed(&[5, 1])));
+        assert!(
+            other.contains("the chart is 5 x 1, and the grid is 5;"),
+            "{other}"
+        );
+        for chart in [None, Some(&packed(&[5]))] {
+            let updates = told(error, chart);
+            assert!(
+                updates.contains("the updates have the extents [3]"),
+                "{updates}"
+            );
+        }
+    }
+
+    #[test]
+    fn layouts_that_are_refused() {
+        let mut chart = packed(&[1; 9]);
+        let error = StridedError::RankTooLarge { rank: 9, limit: 8 };
+        assert!(told(error, Some(&chart)).ends_with("it is the chart that has 9 axes"));
+        chart.strides.clear();
+        let unequal = told(StridedError::StrideLengthMismatch, Some(&chart));
+        assert!(unequal.contains("chart.extents has 9 entries"), "{unequal}");
+        let nested = told(StridedError::NonInjectiveOutputLayout, Some(&chart));
+        assert!(
+            nested.contains("dest has extents [5] with strides [1]"),
+            "{nested}"
+        );
+    }
 
     #[test]
     fn a_later_refusal_is_told_by_its_number() {
