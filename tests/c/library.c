@@ -1,6 +1,6 @@
 /* The library as a C program links it: document 01's window read and cuts added and StableHLO's gather, raw and by stored jobs,
-   in i32 and f64, with refusals on the way; scatters by each rule; how many windows slid. Prints each check that fails; the exit
-   status is 0 where none does. */
+   in i32 and f64, with refusals on the way; scatters by each rule, and with an operand; how many windows slid. Prints each check
+   that fails; the exit status is 0 where none does. */
 #include "strided.h"
 
 #include <inttypes.h>
@@ -351,6 +351,105 @@ static void components_moved(void) {
     }
 }
 
+/* The cuts added, to five cells that an operand of the given extents and strides is copied to first: compile's refusal. */
+static void with_operand(const uint64_t *extents, size_t rank, const int64_t *strides, size_t strides_count,
+                         const int64_t dest_strides[1], uint64_t answer[4]) {
+    strided_scatter_operand_refusal(extents, rank, strides, strides_count, SLICE(three), SLICE(one), SLICE(three), SLICE(one),
+                                    SLICE(five), dest_strides, 1, none, 0, SLICE(axis_0), SLICE(axis_0), 1, answer);
+}
+
+static void operand_refusals(void) {
+    const uint64_t six[] = {6}, nine[] = {1, 1, 1, 1, 1, 1, 1, 1, 1}, huge[] = {UINT64_MAX, 2}, five_one[] = {5, 1};
+    const int64_t nines[] = {1, 1, 1, 1, 1, 1, 1, 1, 1}, zeros[] = {0, 0}, back[] = {-1}, far[] = {INT64_MAX};
+    uint64_t answer[4];
+    with_operand(SLICE(five), SLICE(back), one, answer);
+    done(answer, 0, "compile of the cuts added to an operand that is kept backwards");
+    with_operand(SLICE(five), SLICE(zeros), zeros, answer);
+    refused(answer, STRIDED_STRIDE_LENGTH_MISMATCH, 0, 0, "an operand's extents and strides");
+    with_operand(SLICE(nine), SLICE(nines), zeros, answer);
+    refused(answer, STRIDED_RANK_TOO_LARGE, 9, 8, "an operand of nine axes");
+    with_operand(SLICE(huge), SLICE(zeros), zeros, answer);
+    refused(answer, STRIDED_OFFSET_OVERFLOW, 0, 0, "the product of an operand's extents");
+    with_operand(SLICE(five_one), SLICE(one_two), zeros, answer);
+    refused(answer, STRIDED_SHAPE_MISMATCH, 1, 2, "an operand of two axes for a destination of one");
+    with_operand(SLICE(six), SLICE(one), zeros, answer);
+    refused(answer, STRIDED_SHAPE_MISMATCH, 1, 1, "an operand of another extent, before a destination that is not nested");
+    with_operand(SLICE(five), SLICE(far), zeros, answer);
+    refused(answer, STRIDED_OFFSET_OVERFLOW, 0, 0, "an operand's span, before a destination that is not nested");
+    with_operand(SLICE(five), SLICE(one), zeros, answer);
+    refused(answer, STRIDED_NON_INJECTIVE_OUTPUT, 0, 0, "a destination that is not nested");
+}
+
+/* Where each of the four views begins, and the strides of the operand's. */
+struct views {
+    int64_t operand, index, updates, dest, stride;
+};
+
+/* The cuts added to a chart that is kept backwards, through a destination whose cells are every other element of nine. */
+static void put_on_chart_i32(uint64_t rule, struct views at, const int32_t chart[5], int32_t grid[9], uint64_t answer[4]) {
+    const int64_t back[] = {-1}, apart[] = {2};
+    const int32_t updates[] = {3, 4, 5};
+    strided_raw_scatter_operand_i32(
+        rule, SLICE(five), SLICE(back), SLICE(three), SLICE(one), SLICE(three), SLICE(one), SLICE(five), SLICE(apart), none, 0,
+        SLICE(axis_0), SLICE(axis_0), 1, SLICE(five), &at.stride, 1, at.operand, SLICE(three), SLICE(one), at.index,
+        SLICE(three), SLICE(one), at.updates, SLICE(five), SLICE(apart), at.dest, chart, 5, SLICE(cut_starts), SLICE(updates),
+        grid, 9, answer);
+}
+
+static void put_on_chart_f64(uint64_t rule, double limit, struct views at, const double chart[5], double grid[9],
+                             uint64_t answer[4]) {
+    const int64_t back[] = {-1}, apart[] = {2};
+    const double updates[] = {3, 4, 5};
+    strided_raw_scatter_operand_f64(
+        rule, limit, SLICE(five), SLICE(back), SLICE(three), SLICE(one), SLICE(three), SLICE(one), SLICE(five), SLICE(apart),
+        none, 0, SLICE(axis_0), SLICE(axis_0), 1, SLICE(five), &at.stride, 1, at.operand, SLICE(three), SLICE(one), at.index,
+        SLICE(three), SLICE(one), at.updates, SLICE(five), SLICE(apart), at.dest, chart, 5, SLICE(cut_starts), SLICE(updates),
+        grid, 9, answer);
+}
+
+static void put_on_a_chart(void) {
+    const struct views at = {4, 0, 0, 0, -1};
+    const int32_t chart[] = {50, 40, 30, 20, 10}, expected[] = {17, 1, 20, 1, 30, 1, 40, 1, 55};
+    const double soundings[] = {50, NAN, -0.0, 20, 10}, heaped[] = {12, 1, 20, 1, -0.0, 1, 0, 1, 12};
+    int32_t grid[] = {1, 1, 1, 1, 1, 1, 1, 1, 1};
+    double depths[] = {1, 1, 1, 1, 1, 1, 1, 1, 1};
+    uint64_t answer[4];
+    put_on_chart_i32(STRIDED_ADD, at, chart, grid, answer);
+    done(answer, 1, "the cuts added to a chart");
+    check(memcmp(grid, expected, sizeof grid) == 0, "the chart is copied first, and elements between the cells stay");
+    put_on_chart_i32(STRIDED_ADD, at, chart, grid, answer);
+    check(memcmp(grid, expected, sizeof grid) == 0, "what the cells held makes no difference");
+    put_on_chart_f64(STRIDED_CEILING, 12, at, soundings, depths, answer);
+    done(answer, 1, "the cuts under a ceiling, on a chart");
+    check(memcmp(&depths[6], &soundings[1], sizeof depths[6]) == 0, "a NaN is copied bit for bit");
+    depths[6] = 0;
+    check(memcmp(depths, heaped, sizeof depths) == 0, "the rule goes by the chart's cells");
+}
+
+/* A call that is refused copies nothing: by 18, by 8, and by 9 for each view in turn. */
+static void refused_on_a_chart(void) {
+    const struct views at[] = {{5, -1, -1, 2, -1}, {4, -1, -1, 2, -1}, {4, 0, -1, 2, -1}, {4, 0, 0, 2, -1}};
+    const struct views other = {0, -1, -1, 2, 1};
+    const int32_t chart[] = {50, 40, 30, 20, 10}, before[] = {1, 1, 1, 1, 1, 1, 1, 1, 1};
+    const double soundings[] = {50, 40, 30, 20, 10};
+    int32_t grid[] = {1, 1, 1, 1, 1, 1, 1, 1, 1};
+    double depths[] = {1, 1, 1, 1, 1, 1, 1, 1, 1};
+    uint64_t answer[4];
+    put_on_chart_i32(STRIDED_CEILING, other, chart, grid, answer);
+    refused(answer, STRIDED_UNLISTED_RULE, STRIDED_CEILING, 0, "a rule that is not listed for i32, on a chart");
+    put_on_chart_f64(0, 1, other, soundings, depths, answer);
+    refused(answer, STRIDED_UNLISTED_RULE, 0, 0, "a rule that is not listed for f64, on a chart");
+    put_on_chart_i32(STRIDED_ADD, other, chart, grid, answer);
+    refused(answer, STRIDED_PLAN_LAYOUT_MISMATCH, 0, 0, "a chart of another layout than was compiled for");
+    for (size_t i = 0; i < COUNT(at); i++) {
+        put_on_chart_i32(STRIDED_ADD, at[i], chart, grid, answer);
+        refused(answer, STRIDED_BUFFER_BOUNDS, i + 1, 0, "a view of four outside its slice, in i32");
+        put_on_chart_f64(STRIDED_ADD, 0, at[i], soundings, depths, answer);
+        refused(answer, STRIDED_BUFFER_BOUNDS, i + 1, 0, "a view of four outside its slice, in f64");
+    }
+    check(memcmp(grid, before, sizeof grid) == 0 && depths[0] == 1 && depths[8] == 1, "a refusal copies nothing");
+}
+
 int main(void) {
     check(strided_version_4() == STRIDED_VERSION && STRIDED_VERSION == 4, "the archive is of the header's version");
     window_read();
@@ -366,6 +465,9 @@ int main(void) {
     printed_gather();
     windows_slid();
     components_moved();
+    operand_refusals();
+    put_on_a_chart();
+    refused_on_a_chart();
     printf("C program: %d checks, %d failed\n", checks, failures);
     return failures != 0;
 }

@@ -99,6 +99,19 @@
 //! # Ok::<(), strided::StridedError>(())
 //! ```
 //!
+//! # A scatter with an operand
+//!
+//! An [`OperandScatterPlan`] copies an operand into the destination, cell by
+//! cell, before the updates: a clean chart under the cuts, in a layout of its
+//! own. [`OperandScatterPlan::execute`] adds, and
+//! [`OperandScatterPlan::execute_by`] takes a rule.
+//!
+//! # A program for strided-rs
+//!
+//! [`strided_basic`] has the names, the order of arguments and the shapes of
+//! errors of strided-rs's gather and scatter, so that a program written for
+//! them needs another `use` line.
+//!
 //! # Stored jobs
 //!
 //! A [`Job`] is a gather or a scatter with its views. [`Job::to_bytes`] stores
@@ -115,17 +128,17 @@
 //!
 //! An accepted call takes as long as its plan has cells, at one to a few
 //! nanoseconds each, besides some hundreds of its own; so many starts belong in
-//! one call. A gather has at most as many cells as its destination's slice has
-//! elements. A scatter whose index and updates have strides of 0 can name 2^62
+//! one call. A gather, and the copy of an operand, has at most as many cells as
+//! its destination's slice has elements. A scatter whose index and updates have strides of 0 can name 2^62
 //! updates in a few elements, and such a call would take more than a hundred
 //! years; nothing refuses it.
 //!
 //! # Elements
 //!
 //! An element is an `i32`, whose sums wrap modulo 2^32, or an `f64`, whose sums
-//! round one by one in the order of the updates. A gather copies elements bit
-//! for bit, those of a NaN too, and so does a rule that takes one of two; which
-//! NaN a sum gives is left open. Starts are `i64`.
+//! round one by one in the order of the updates. Elements are copied bit for
+//! bit, those of a NaN too, by a gather, from an operand, and by a rule that
+//! takes one of two; which NaN a sum gives is left open. Starts are `i64`.
 //!
 //! # Why the calls are sound
 //!

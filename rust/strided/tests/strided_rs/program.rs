@@ -153,6 +153,37 @@ fn refused_gathers() {
     with(|spec| spec.offset_dims = vec![]);
     with(|spec| spec.offset_dims = vec![2]);
     with(|spec| spec.offset_dims = vec![1]);
+    refused_planes();
+}
+
+/// Planes of a chart of three axes; the windows stand in the other order.
+fn refused_planes() {
+    for (dest_dims, collapsed) in [
+        (&[3, 7, 2][..], vec![1]),
+        (&[2, 7, 3], vec![1]),
+        (&[3, 7, 2, 1], vec![1]),
+        (&[3, 7, 1], vec![0]),
+        (&[3, 7, 1], vec![2, 1]),
+    ] {
+        let spec = GatherSpec {
+            offset_dims: vec![2, 0],
+            collapsed_slice_dims: collapsed,
+            start_index_map: vec![2, 1],
+            index_vector_dim: 0,
+            slice_sizes: vec![2, 1, 3],
+        };
+        let strides = [1, 10, 100, 1000];
+        let plan = GatherPlan::compile(
+            &[4, 5, 6],
+            &[1, 4, 20],
+            &[2, 7],
+            &[7, 1],
+            dest_dims,
+            &strides[..dest_dims.len()],
+            spec,
+        );
+        println!("{:?}", plan.map(|plan| plan.dest_dims().to_vec()));
+    }
 }
 
 /// A gather's views, each with other strides than the plan.

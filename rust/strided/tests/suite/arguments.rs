@@ -8,11 +8,11 @@ use strided::{
     ScatterPlan, ScatterSpec, StridedError, ViewLayout,
 };
 
-const CASES: usize = 15_000;
+pub const CASES: usize = 15_000;
 
 /// A scatter of more updates is not run: strides of 0 let there be so many
 /// that it would go on for years.
-const MOST_UPDATES: usize = 1 << 12;
+pub const MOST_UPDATES: usize = 1 << 12;
 
 const EXTENTS: [usize; 10] = [
     0,
@@ -201,12 +201,12 @@ fn stored(job: &Job) -> Option<Vec<u8>> {
     }
 }
 
-fn wild_starts(random: &mut Random) -> Vec<i64> {
+pub fn wild_starts(random: &mut Random) -> Vec<i64> {
     let len = random.below(8);
     random.list(len, |random| random.pick(&STEPS) as i64)
 }
 
-fn wild_view(random: &mut Random) -> ViewLayout {
+pub fn wild_view(random: &mut Random) -> ViewLayout {
     let rank = match random.one_in(20) {
         true => random.pick(&[8, 9, 300]),
         false => random.below(4),
@@ -265,7 +265,7 @@ fn wild_gather(random: &mut Random) -> GatherJob {
     }
 }
 
-fn wild_scatter(random: &mut Random) -> ScatterJob {
+pub fn wild_scatter(random: &mut Random) -> ScatterJob {
     ScatterJob {
         element: i32::TYPE,
         index: wild_view(random),
@@ -294,7 +294,7 @@ fn change_gather(random: &mut Random, job: &mut GatherJob) {
     }
 }
 
-fn change_scatter(random: &mut Random, job: &mut ScatterJob) {
+pub fn change_scatter(random: &mut Random, job: &mut ScatterJob) {
     let spec = &mut job.spec;
     match random.below(7) {
         0 => change_view(random, &mut job.index),
@@ -307,7 +307,7 @@ fn change_scatter(random: &mut Random, job: &mut ScatterJob) {
     }
 }
 
-fn change_view(random: &mut Random, view: &mut ViewLayout) {
+pub fn change_view(random: &mut Random, view: &mut ViewLayout) {
     let small = random.one_in(2);
     match random.below(5) {
         0 => view.offset = random.pick(&STEPS),

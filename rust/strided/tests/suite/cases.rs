@@ -213,6 +213,19 @@ impl ScatterCase {
     /// A scatter that no check refuses.
     pub fn random(random: &mut Random, element: ElementType) -> Self {
         let grid = Grid::random(random);
+        Self::on(random, element, grid)
+    }
+
+    /// Another scatter on the same grid that no check refuses.
+    pub fn beside(&self, random: &mut Random) -> Self {
+        let grid = Grid::of(random, self.job.dest.dims.clone());
+        let mut other = Self::on(random, self.job.element, grid);
+        other.job.dest = self.job.dest.clone();
+        other.dest_len = self.dest_len;
+        other
+    }
+
+    fn on(random: &mut Random, element: ElementType, grid: Grid) -> Self {
         let batch = batch(random);
         let index = Index::random(random, &grid, &batch);
         let (update_dims, update_window_dims) = interleaved(random, &batch, &grid.kept_windows());
@@ -241,6 +254,12 @@ impl ScatterCase {
     }
 }
 
+/// A view of these extents, with any strides, and the length of its slice.
+pub fn operand_of(random: &mut Random, dims: &[usize]) -> (ViewLayout, usize) {
+    let strides = any_strides(random, dims.len());
+    placed(random, dims, strides)
+}
+
 /// The grid that windows are taken of: its extents, the windows, and the axes
 /// that are dropped (collapsed or inserted), whose windows are 1.
 struct Grid {
@@ -252,8 +271,14 @@ struct Grid {
 impl Grid {
     fn random(random: &mut Random) -> Self {
         let rank = random.below(5);
+        let dims = random.list(rank, extent);
+        Self::of(random, dims)
+    }
+
+    fn of(random: &mut Random, dims: Vec<usize>) -> Self {
+        let rank = dims.len();
         let mut grid = Self {
-            dims: random.list(rank, extent),
+            dims,
             windows: vec![],
             dropped: vec![],
         };

@@ -2,9 +2,13 @@
 //! strided-rs's gather and scatter make public.
 
 use std::path::{Path, PathBuf};
-use strided::{GatherPlan, GatherSpec, Rule, ScatterPlan, ScatterSpec, StridedMut, StridedRef};
+use strided::{
+    GatherPlan, GatherSpec, OperandScatterPlan, Rule, ScatterSpec, StridedMut, StridedRef,
+};
 
 const PAGE: &str = include_str!("../../../README.md");
+const MODULE: &str = include_str!("../../src/strided_basic.rs");
+const ERRORS: &str = include_str!("../../src/strided_basic/error.rs");
 
 /// The public items of strided-rs's gather_plan.rs.
 const ITEMS: [&str; 32] = [
@@ -91,20 +95,32 @@ fn every_public_name_has_its_row() {
 
 #[test]
 fn what_is_missing_is_named() {
+    let row = |name: &str| rows().into_iter().find(|(row, _)| names(row, name));
+    let missing = |cell: &str| names(cell, "missing");
     for name in [
-        "RawStridedRef",
-        "RawStridedMut",
-        "Exec",
-        "GatherIndex",
         "DynamicSlicePlan::compile",
         "DynamicUpdateSlicePlan::compile",
-        "ShapeMismatch",
     ] {
-        let row = rows().into_iter().find(|(row, _)| names(row, name));
-        assert!(
-            row.is_some_and(|(_, here)| names(here, "missing")),
-            "{name}"
-        );
+        let (_, here) = row(name).expect(name);
+        let (module, root) = here.split_once(" | ").expect(name);
+        assert!(missing(module) && missing(root), "{name}");
+    }
+    for name in ["Exec", "GatherIndex", "ShapeMismatch", "any rank"] {
+        let (_, here) = row(name).expect(name);
+        assert!(missing(here), "{name}");
+    }
+}
+
+/// What of strided-rs the module of its name has; the rest is missing there.
+#[test]
+fn the_module_has_the_names() {
+    let (_, exported) = MODULE.split_once("\npub use ").unwrap();
+    for item in ITEMS.iter().filter(|item| !item.contains(['.', ':'])) {
+        let missing = item.starts_with("Dynamic");
+        assert_eq!(names(exported, item), !missing, "{item}");
+    }
+    for refusal in REFUSALS {
+        assert!(names(ERRORS, refusal), "{refusal}");
     }
 }
 
@@ -185,10 +201,23 @@ fn a_window_overwritten_at_one_start() {
         scatter_dims_to_operand_dims: vec![0, 1],
         index_vector_dim: 0,
     };
-    let plan = ScatterPlan::compile(&[2], &[1], &[2, 2], &[1, 2], &[3, 3], &[1, 3], spec).unwrap();
-    let mut grid = [0, 1, 2, 10, 11, 12, 20, 21, 22];
-    plan.execute_updates(
-        &mut StridedMut::new(&mut grid, &[3, 3], &[1, 3], 0),
+    let (dims, strides) = ([3, 3], [1, 3]);
+    let plan = OperandScatterPlan::compile(
+        &dims,
+        &strides,
+        &[2],
+        &[1],
+        &[2, 2],
+        &[1, 2],
+        &dims,
+        &strides,
+        spec,
+    )
+    .unwrap();
+    let mut grid = [0; 9];
+    plan.execute_by(
+        &mut StridedMut::new(&mut grid, &dims, &strides, 0),
+        &StridedRef::new(&[0, 1, 2, 10, 11, 12, 20, 21, 22], &dims, &strides, 0),
         &StridedRef::new(&[9, -1], &[2], &[1], 0),
         &StridedRef::new(&[-1, -2, -3, -4], &[2, 2], &[1, 2], 0),
         Rule::Replace,

@@ -222,7 +222,7 @@ fn others(rank: usize, listed: &[usize]) -> Vec<usize> {
 }
 
 /// All coordinates, first axis fastest.
-fn coordinates(dims: &[usize]) -> Vec<Vec<usize>> {
+pub fn coordinates(dims: &[usize]) -> Vec<Vec<usize>> {
     let mut all = vec![vec![]];
     for &dim in dims.iter().rev() {
         let behind = |c: usize, rest: &Vec<usize>| [&[c], &rest[..]].concat();
@@ -234,7 +234,7 @@ fn coordinates(dims: &[usize]) -> Vec<Vec<usize>> {
     all
 }
 
-fn place(view: &ViewLayout, coordinate: &[usize]) -> usize {
+pub fn place(view: &ViewLayout, coordinate: &[usize]) -> usize {
     let steps = coordinate.iter().zip(&view.strides);
     let sum: isize = steps.map(|(&c, &stride)| c as isize * stride).sum();
     (view.offset + sum) as usize

@@ -1,12 +1,15 @@
 //! Two ships on one grid, in both orders. They may be swapped where both add,
 //! both take the lowest or both take the highest, and otherwise where no
-//! element gets an update from both.
+//! element gets an update from both. A chart is copied once, by whichever ship
+//! comes first.
 
-use crate::cases::{cells, cuts_added, packed, Cell, GatherCase, ScatterCase, RULES};
+use crate::cases::{cells, cuts_added, operand_of, packed, Cell, GatherCase, ScatterCase, RULES};
 use crate::random::Random;
-use crate::reference::{landings, slid_in_gather, slid_in_scatter};
+use crate::reference::{coordinates, landings, place, slid_in_gather, slid_in_scatter};
 use std::collections::BTreeSet;
-use strided::{Done, ElementType, Result, Rule, RuleF64, ScatterJob};
+use strided::{
+    Done, ElementType, OperandScatterPlan, Result, Rule, RuleF64, ScatterJob, ViewLayout,
+};
 
 const CASES: usize = 2000;
 
@@ -25,6 +28,21 @@ impl Ship {
     /// A scatter that no check refuses, with a grid's layout of its own.
     fn random(random: &mut Random, rule: Rule) -> Self {
         let case = ScatterCase::random(random, ElementType::I32);
+        Self::of(random, case, rule)
+    }
+
+    /// Two scatters that no check refuses, with one layout of the grid.
+    fn pair(random: &mut Random, rules: [Rule; 2]) -> [Self; 2] {
+        let north = ScatterCase::random(random, ElementType::I32);
+        let south = north.beside(random);
+        let [of_north, of_south] = rules;
+        [
+            Self::of(random, north, of_north),
+            Self::of(random, south, of_south),
+        ]
+    }
+
+    fn of(random: &mut Random, case: ScatterCase, rule: Rule) -> Self {
         Self {
             job: case.job,
             starts: case.starts,
@@ -58,6 +76,115 @@ impl Ship {
             self.rule,
         )
     }
+
+    /// Copies a chart to the grid, and goes on by its updates.
+    fn put_on_chart(&self, chart: &Chart, grid: &mut [i32]) -> Result<Done> {
+        let job = &self.job;
+        let plan = OperandScatterPlan::compile(
+            &chart.view.dims,
+            &chart.view.strides,
+            &job.index.dims,
+            &job.index.strides,
+            &job.updates.dims,
+            &job.updates.strides,
+            &job.dest.dims,
+            &job.dest.strides,
+            job.spec.clone(),
+        )?;
+        plan.execute_by(
+            &mut job.dest.view_mut(grid),
+            &chart.view.view(&chart.cells),
+            &job.index.view(&self.starts),
+            &job.updates.view(&self.updates),
+            self.rule,
+        )
+    }
+}
+
+/// A chart in a layout of its own.
+struct Chart {
+    view: ViewLayout,
+    cells: Vec<i32>,
+}
+
+impl Chart {
+    fn random(random: &mut Random, dims: &[usize]) -> Self {
+        let (view, len) = operand_of(random, dims);
+        let cells = cells(random, len);
+        Self { view, cells }
+    }
+
+    /// The elements of a grid after the copy alone.
+    fn copied_to(&self, dest: &ViewLayout, grid: &[i32]) -> Vec<i32> {
+        let mut copied = grid.to_vec();
+        for cell in coordinates(&dest.dims) {
+            copied[place(dest, &cell)] = self.cells[place(&self.view, &cell)];
+        }
+        copied
+    }
+}
+
+/// As [`in_both_orders`], with a chart that the first of the two copies. It is
+/// copied through the same destination in both orders.
+fn on_a_chart(ships: [&Ship; 2], chart: &Chart, before: &[i32]) -> [Vec<i32>; 2] {
+    let [north, south] = ships;
+    assert_eq!(north.job.dest, south.job.dest);
+    [[north, south], [south, north]].map(|[first, second]| {
+        let mut grid = before.to_vec();
+        let slid = [
+            first.put_on_chart(chart, &mut grid),
+            second.put_on(&mut grid),
+        ];
+        for (ship, slid) in [first, second].into_iter().zip(slid) {
+            let expected = slid_in_scatter(&ship.job, &ship.starts);
+            assert_eq!(slid.map(Done::slid), Ok(expected));
+        }
+        grid
+    })
+}
+
+/// What each element holds is what the chart, or the grid, and all updates of
+/// both make it.
+#[test]
+fn ships_on_a_chart_may_be_swapped() {
+    for (seed, rule) in ALIKE.into_iter().enumerate() {
+        let mut random = Random::new(41 + seed as u64);
+        let mut shared = 0;
+        for case in 0..CASES {
+            let [north, south] = Ship::pair(&mut random, [rule, rule]);
+            let chart = Chart::random(&mut random, &north.job.dest.dims);
+            let before = grid_for(&mut random, [&north, &south]);
+            let [one, other] = on_a_chart([&north, &south], &chart, &before);
+            assert_eq!(one, other, "case {case}, {rule:?}");
+            let [by_north, by_south] = [&north, &south].map(|ship| ship.landing(before.len()));
+            let copied = chart.copied_to(&north.job.dest, &before);
+            for (element, &held) in copied.iter().enumerate() {
+                let [first, second] = [&by_north, &by_south].map(|landing| &landing[element]);
+                shared += usize::from(!first.is_empty() && !second.is_empty());
+                let all = first.iter().chain(second);
+                let expected = all.fold(held, |held, &update| held.combined(update, rule));
+                assert_eq!(one[element], expected, "case {case}, {rule:?}");
+            }
+        }
+        assert!(shared > CASES / 10, "{rule:?}: {shared} elements from both");
+    }
+}
+
+/// A chart that the second ship copies again takes the first one's cuts away.
+#[test]
+fn a_chart_that_is_copied_twice() {
+    let chart = Chart {
+        view: packed(&[3]),
+        cells: vec![900; 3],
+    };
+    let ships = [single(Rule::Add, -30), single(Rule::Add, -40)];
+    let [one, other] = on_a_chart([&ships[0], &ships[1]], &chart, &[0; 3]);
+    assert_eq!([one, other], [[900, 830, 900]; 2]);
+    let mut grid = [0; 3];
+    for ship in &ships {
+        ship.put_on_chart(&chart, &mut grid).unwrap();
+    }
+    assert_eq!(grid, [900, 860, 900]);
 }
 
 /// The grid after both ships, in either order. Both are accepted in both, and
