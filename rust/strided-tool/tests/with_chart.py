@@ -40,7 +40,7 @@ def small(element="<i4"):
 
 
 def windows(chart, grid=None, count=1, element="<i4"):
-    """Updates of 3 rows and 5 columns, at least one of them, on a chart of two axes."""
+    """Updates of 3 rows and 5 columns on a chart of two axes; what they leave."""
     rng = np.random.default_rng(count)
     cuts = rng.integers(-900, 900, (count, 3, 5)).astype(element)
     starts = np.stack([rng.integers(-3, chart.shape[0], count), rng.integers(-3, chart.shape[1], count)], axis=1)
@@ -133,7 +133,8 @@ def without_updates():
         chart = np.arange(12).astype(element).reshape(3, 4)
         for order in ORDERS:
             for grid in [[], GRID]:
-                for starts, cuts in [(np.zeros((0, 2)), (0, 3, 4)), (np.zeros((5, 2)), (5, 0, 4)), (np.full((2, 2), 99), (2, 3, 0))]:
+                for starts, cuts in [(np.zeros((0, 2)), (0, 3, 4)), (np.zeros((5, 2)), (5, 0, 4)),
+                                     (np.full((2, 2), 99), (2, 3, 0))]:
                     save(starts, np.zeros(cuts, dtype=element), ORDERS[order](chart), np.full_like(chart, 9))
                     same(left(*WINDOWS, *grid), chart, "C" if grid else order, f"no updates, {cuts} of {element}, {grid}")
         for shape in [(0, 4), (3, 0)]:
@@ -183,15 +184,14 @@ def told():
 
 
 def stays(status, words, *arguments, grids=([], GRID)):
-    """A run that is refused, with an output of its own and in place: nothing is written. What it said last."""
+    """A run that is refused, with an output of its own and in place: nothing is written."""
     before = content("grid.npy"), content("chart.npy")
     for grid in grids:
         for out in ["none.npy", "grid.npy"]:
             for quiet in [[], ["-q"]]:
-                said = refused(status, words, *quiet, "scatter", *arguments, *LOG, *grid, "--out", out)
+                refused(status, words, *quiet, "scatter", *arguments, *LOG, *grid, "--out", out)
     check((content("grid.npy"), content("chart.npy")) == before and not os.path.exists(path("none.npy")),
           f"{arguments}: something was written")
-    return said
 
 
 def other_shapes():
@@ -280,10 +280,9 @@ def bad_files():
     """Charts that cannot be read."""
     small()
     whole = content("chart.npy")
-    for name, data, words in [("short", whole[:-1], "short.npy"), ("long", whole + b"\0", "long.npy"), ("empty", b"", "empty.npy"),
-                              ("text", b"10 20 30 40 50\n", "text.npy")]:
-        put(f"{name}.npy", data)
-        stays(2, [f"strided: {words}: "], *LISTS, "--chart", f"{name}.npy")
+    for name, data in [("short.npy", whole[:-1]), ("long.npy", whole + b"\0"), ("empty.npy", b""), ("text.npy", b"10 20 30\n")]:
+        put(name, data)
+        stays(2, [f"strided: {name}: "], *LISTS, "--chart", name)
     stays(2, ["strided: absent.npy: cannot open it"], *LISTS, "--chart", "absent.npy")
     stays(2, ["strided: folder: "], *LISTS, "--chart", "folder")
     stays(2, ["strided: absent.npy: cannot open it"], *LISTS, *CHART, grids=[["--grid", "absent.npy"]])
@@ -302,7 +301,8 @@ def refused_by_the_library():
         stays(1, ["the call: refused by 6 InvalidAxis (a = 0, b = 1)", "inserted_window_dims names axis 0 twice"], *CHART,
               "--inserted-window-dims", many, *LISTS[2:])
         save([0, 0], np.zeros(3, dtype=element), np.zeros(5, dtype=element))
-        stays(1, ["the call: refused by 7 ShapeMismatch (a = 1, b = 1)", "the updates have the extents [3] outside"], *LISTS, *CHART)
+        stays(1, ["the call: refused by 7 ShapeMismatch (a = 1, b = 1)", "the updates have the extents [3] outside"], *LISTS,
+              *CHART)
         save([0], np.zeros(1, dtype=element), np.zeros([1] * 9, dtype=element), np.zeros([1] * 10, dtype=element))
         stays(1, ["the call: refused by 2 RankTooLarge (a = 9, b = 8)", "it is the chart that has 9 axes"], *LISTS, *CHART)
         save(np.zeros([1] * 9), np.zeros(1, dtype=element), np.zeros(5, dtype=element))
