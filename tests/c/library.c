@@ -386,40 +386,40 @@ struct views {
 };
 
 /* The cuts added to a chart that is kept backwards, through a destination whose cells are every other element of nine. */
-static void put_on_chart_i32(uint64_t rule, struct views at, const int32_t chart[5], int32_t grid[9], uint64_t answer[4]) {
+static void put_with_operand_i32(uint64_t rule, struct views at, const int32_t operand[5], int32_t grid[9], uint64_t answer[4]) {
     const int64_t back[] = {-1}, apart[] = {2};
     const int32_t updates[] = {3, 4, 5};
     strided_raw_scatter_operand_i32(
         rule, SLICE(five), SLICE(back), SLICE(three), SLICE(one), SLICE(three), SLICE(one), SLICE(five), SLICE(apart), none, 0,
         SLICE(axis_0), SLICE(axis_0), 1, SLICE(five), &at.stride, 1, at.operand, SLICE(three), SLICE(one), at.index,
-        SLICE(three), SLICE(one), at.updates, SLICE(five), SLICE(apart), at.dest, chart, 5, SLICE(cut_starts), SLICE(updates),
+        SLICE(three), SLICE(one), at.updates, SLICE(five), SLICE(apart), at.dest, operand, 5, SLICE(cut_starts), SLICE(updates),
         grid, 9, answer);
 }
 
-static void put_on_chart_f64(uint64_t rule, double limit, struct views at, const double chart[5], double grid[9],
+static void put_with_operand_f64(uint64_t rule, double limit, struct views at, const double operand[5], double grid[9],
                              uint64_t answer[4]) {
     const int64_t back[] = {-1}, apart[] = {2};
     const double updates[] = {3, 4, 5};
     strided_raw_scatter_operand_f64(
         rule, limit, SLICE(five), SLICE(back), SLICE(three), SLICE(one), SLICE(three), SLICE(one), SLICE(five), SLICE(apart),
         none, 0, SLICE(axis_0), SLICE(axis_0), 1, SLICE(five), &at.stride, 1, at.operand, SLICE(three), SLICE(one), at.index,
-        SLICE(three), SLICE(one), at.updates, SLICE(five), SLICE(apart), at.dest, chart, 5, SLICE(cut_starts), SLICE(updates),
+        SLICE(three), SLICE(one), at.updates, SLICE(five), SLICE(apart), at.dest, operand, 5, SLICE(cut_starts), SLICE(updates),
         grid, 9, answer);
 }
 
-static void put_on_a_chart(void) {
+static void put_with_an_operand(void) {
     const struct views at = {4, 0, 0, 0, -1};
-    const int32_t chart[] = {50, 40, 30, 20, 10}, expected[] = {17, 1, 20, 1, 30, 1, 40, 1, 55};
+    const int32_t operand[] = {50, 40, 30, 20, 10}, expected[] = {17, 1, 20, 1, 30, 1, 40, 1, 55};
     const double soundings[] = {50, NAN, -0.0, 20, 10}, heaped[] = {12, 1, 20, 1, -0.0, 1, 0, 1, 12};
     int32_t grid[] = {1, 1, 1, 1, 1, 1, 1, 1, 1};
     double depths[] = {1, 1, 1, 1, 1, 1, 1, 1, 1};
     uint64_t answer[4];
-    put_on_chart_i32(STRIDED_ADD, at, chart, grid, answer);
+    put_with_operand_i32(STRIDED_ADD, at, operand, grid, answer);
     done(answer, 1, "the cuts added to a chart");
     check(memcmp(grid, expected, sizeof grid) == 0, "the chart is copied first, and elements between the cells stay");
-    put_on_chart_i32(STRIDED_ADD, at, chart, grid, answer);
+    put_with_operand_i32(STRIDED_ADD, at, operand, grid, answer);
     check(memcmp(grid, expected, sizeof grid) == 0, "what the cells held makes no difference");
-    put_on_chart_f64(STRIDED_CEILING, 12, at, soundings, depths, answer);
+    put_with_operand_f64(STRIDED_CEILING, 12, at, soundings, depths, answer);
     done(answer, 1, "the cuts under a ceiling, on a chart");
     check(memcmp(&depths[6], &soundings[1], sizeof depths[6]) == 0, "a NaN is copied bit for bit");
     depths[6] = 0;
@@ -427,24 +427,24 @@ static void put_on_a_chart(void) {
 }
 
 /* A call that is refused copies nothing: by 18, by 8, and by 9 for each view in turn. */
-static void refused_on_a_chart(void) {
+static void refused_with_an_operand(void) {
     const struct views at[] = {{5, -1, -1, 2, -1}, {4, -1, -1, 2, -1}, {4, 0, -1, 2, -1}, {4, 0, 0, 2, -1}};
     const struct views other = {0, -1, -1, 2, 1};
-    const int32_t chart[] = {50, 40, 30, 20, 10}, before[] = {1, 1, 1, 1, 1, 1, 1, 1, 1};
+    const int32_t operand[] = {50, 40, 30, 20, 10}, before[] = {1, 1, 1, 1, 1, 1, 1, 1, 1};
     const double soundings[] = {50, 40, 30, 20, 10};
     int32_t grid[] = {1, 1, 1, 1, 1, 1, 1, 1, 1};
     double depths[] = {1, 1, 1, 1, 1, 1, 1, 1, 1};
     uint64_t answer[4];
-    put_on_chart_i32(STRIDED_CEILING, other, chart, grid, answer);
+    put_with_operand_i32(STRIDED_CEILING, other, operand, grid, answer);
     refused(answer, STRIDED_UNLISTED_RULE, STRIDED_CEILING, 0, "a rule that is not listed for i32, on a chart");
-    put_on_chart_f64(0, 1, other, soundings, depths, answer);
+    put_with_operand_f64(0, 1, other, soundings, depths, answer);
     refused(answer, STRIDED_UNLISTED_RULE, 0, 0, "a rule that is not listed for f64, on a chart");
-    put_on_chart_i32(STRIDED_ADD, other, chart, grid, answer);
+    put_with_operand_i32(STRIDED_ADD, other, operand, grid, answer);
     refused(answer, STRIDED_PLAN_LAYOUT_MISMATCH, 0, 0, "a chart of another layout than was compiled for");
     for (size_t i = 0; i < COUNT(at); i++) {
-        put_on_chart_i32(STRIDED_ADD, at[i], chart, grid, answer);
+        put_with_operand_i32(STRIDED_ADD, at[i], operand, grid, answer);
         refused(answer, STRIDED_BUFFER_BOUNDS, i + 1, 0, "a view of four outside its slice, in i32");
-        put_on_chart_f64(STRIDED_ADD, 0, at[i], soundings, depths, answer);
+        put_with_operand_f64(STRIDED_ADD, 0, at[i], soundings, depths, answer);
         refused(answer, STRIDED_BUFFER_BOUNDS, i + 1, 0, "a view of four outside its slice, in f64");
     }
     check(memcmp(grid, before, sizeof grid) == 0 && depths[0] == 1 && depths[8] == 1, "a refusal copies nothing");
@@ -466,8 +466,8 @@ int main(void) {
     windows_slid();
     components_moved();
     operand_refusals();
-    put_on_a_chart();
-    refused_on_a_chart();
+    put_with_an_operand();
+    refused_with_an_operand();
     printf("C program: %d checks, %d failed\n", checks, failures);
     return failures != 0;
 }

@@ -30,7 +30,8 @@
 //!   that calls may go on at the same time.
 //!
 //! That the declarations are the header's is tested. This is the only module
-//! with unsafe code.
+//! with unsafe code: the calls, and slices that are read as others of the same
+//! size.
 
 use core::num::Wrapping;
 use core::slice;

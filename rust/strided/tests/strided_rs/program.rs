@@ -14,10 +14,10 @@ fn main() -> Result<()> {
     printed_gather()?;
     refused_gathers();
     other_layouts()?;
-    cuts_on_a_chart()?;
-    chart_kept_backwards()?;
-    chart_of_one_sounding()?;
-    chart_by_rows()?;
+    cuts_on_an_operand()?;
+    operand_kept_backwards()?;
+    operand_of_one_element()?;
+    operand_by_rows()?;
     overlapping_windows()?;
     no_updates()?;
     sums_that_wrap()?;
@@ -76,13 +76,13 @@ fn windows() -> Result<()> {
 /// Windows that lie apart in the destination, of a chart that is kept backwards.
 fn windows_apart() -> Result<()> {
     let plan = GatherPlan::compile(&[5], &[-2], &[3], &[0], &[2, 3], &[4, -1], of_windows(2))?;
-    let chart = [5.5, 0.0, -0.0, 0.0, f64::NAN, 0.0, 2.25, 0.0, f64::INFINITY];
+    let operand = [5.5, 0.0, -0.0, 0.0, f64::NAN, 0.0, 2.25, 0.0, f64::INFINITY];
     let start = [i32::MAX];
     println!("{}", start[0].to_i64());
     let mut dest = [9.0; 8];
     let answer = plan.clone().execute(
         &mut RawStridedMut::new(&mut dest, &[2, 3], &[4, -1], 2)?,
-        &RawStridedRef::new(&chart, &[5], &[-2], 8)?,
+        &RawStridedRef::new(&operand, &[5], &[-2], 8)?,
         &RawStridedRef::new(&start, &[3], &[0], 0)?,
         Exec::serial(),
     );
@@ -189,13 +189,13 @@ fn refused_planes() {
 /// A gather's views, each with other strides than the plan.
 fn other_layouts() -> Result<()> {
     let plan = GatherPlan::compile(&[5], &[1], &[2], &[1], &[2, 2], &[1, 2], of_windows(2))?;
-    let (chart, starts) = ([10, 20, 30, 40, 50], [4i64, -1]);
+    let (cells, starts) = ([10, 20, 30, 40, 50], [4i64, -1]);
     for strides in [[1, 1, 1], [-1, 1, 1], [1, 0, 1], [1, 1, -1]] {
         let [operand, index, dest] = strides;
         let mut grid = [7; 4];
         let answer = plan.execute(
             &mut RawStridedMut::new(&mut grid, &[2, 2], &[dest, 2], (1 - dest) / 2)?,
-            &RawStridedRef::new(&chart, &[5], &[operand], 2 - 2 * operand)?,
+            &RawStridedRef::new(&cells, &[5], &[operand], 2 - 2 * operand)?,
             &RawStridedRef::new(&starts, &[2], &[index], 0)?,
             Exec::serial(),
         );
@@ -204,7 +204,7 @@ fn other_layouts() -> Result<()> {
     Ok(())
 }
 
-fn cuts_on_a_chart() -> Result<()> {
+fn cuts_on_an_operand() -> Result<()> {
     let plan = ScatterPlan::compile(&[5], &[1], &[3], &[1], &[3], &[1], &[5], &[1], of_cells())?;
     let mut grid = [-7; 5];
     let answer = plan.execute(
@@ -219,7 +219,7 @@ fn cuts_on_a_chart() -> Result<()> {
 }
 
 /// The grid's cells lie apart, so that elements between them stay.
-fn chart_kept_backwards() -> Result<()> {
+fn operand_kept_backwards() -> Result<()> {
     let plan = ScatterPlan::compile(&[3], &[-1], &[2], &[1], &[2], &[-1], &[3], &[2], of_cells())?;
     let mut grid = [9.5; 6];
     let answer = plan.execute(
@@ -233,7 +233,7 @@ fn chart_kept_backwards() -> Result<()> {
     Ok(())
 }
 
-fn chart_of_one_sounding() -> Result<()> {
+fn operand_of_one_element() -> Result<()> {
     let plan = ScatterPlan::compile(&[4], &[0], &[1], &[1], &[1], &[1], &[4], &[-1], of_cells())?;
     let mut grid = [0; 5];
     let answer = plan.execute(
@@ -248,7 +248,7 @@ fn chart_of_one_sounding() -> Result<()> {
 }
 
 /// The chart goes row by row, the grid column by column.
-fn chart_by_rows() -> Result<()> {
+fn operand_by_rows() -> Result<()> {
     let spec = of_rectangles();
     let plan = ScatterPlan::compile(
         &[2, 3],
@@ -326,7 +326,7 @@ fn sums_that_wrap() -> Result<()> {
 /// Eight axes, some of one cell and some backwards.
 fn many_axes() -> Result<()> {
     let dims = [1, 2, 1, 2, 1, 2, 1, 1];
-    let (chart_strides, strides) = ([0, 4, 5, -2, 0, 1, 0, 9], [3, 1, 0, 2, 7, -4, 0, 0]);
+    let (operand_strides, strides) = ([0, 4, 5, -2, 0, 1, 0, 9], [3, 1, 0, 2, 7, -4, 0, 0]);
     let spec = ScatterSpec {
         update_window_dims: vec![],
         inserted_window_dims: vec![0, 1, 2, 3, 4, 5, 6, 7],
@@ -335,7 +335,7 @@ fn many_axes() -> Result<()> {
     };
     let plan = ScatterPlan::compile(
         &dims,
-        &chart_strides,
+        &operand_strides,
         &[2, 2],
         &[1, 2],
         &[2],
@@ -344,11 +344,11 @@ fn many_axes() -> Result<()> {
         &strides,
         spec,
     )?;
-    let chart: Vec<i32> = (10..18).collect();
+    let operand: Vec<i32> = (10..18).collect();
     let mut grid = [0; 8];
     let answer = plan.execute(
         &mut RawStridedMut::new(&mut grid, &dims, &strides, 4)?,
-        &RawStridedRef::new(&chart, &dims, &chart_strides, 2)?,
+        &RawStridedRef::new(&operand, &dims, &operand_strides, 2)?,
         &RawStridedRef::new(&[0i64, 1, 1, 1], &[2, 2], &[1, 2], 0)?,
         &RawStridedRef::new(&[100, 200], &[2], &[1], 0)?,
         Exec::serial(),
@@ -360,9 +360,9 @@ fn many_axes() -> Result<()> {
 /// A layout: extents and strides.
 type Layout<'a> = (&'a [usize], &'a [isize]);
 
-fn compiled(chart: Layout, index: Layout, updates: Layout, grid: Layout, spec: ScatterSpec) {
+fn compiled(operand: Layout, index: Layout, updates: Layout, dest: Layout, spec: ScatterSpec) {
     let plan = ScatterPlan::compile(
-        chart.0, chart.1, index.0, index.1, updates.0, updates.1, grid.0, grid.1, spec,
+        operand.0, operand.1, index.0, index.1, updates.0, updates.1, dest.0, dest.1, spec,
     );
     println!("{:?}", plan.map(drop));
 }
@@ -414,7 +414,7 @@ fn refused_rectangles() {
 /// A scatter's views, each with other strides than the plan: nothing is copied then.
 fn views_of_other_layouts() -> Result<()> {
     let plan = ScatterPlan::compile(&[3], &[1], &[2], &[1], &[2], &[1], &[3], &[1], of_cells())?;
-    let (chart, starts, cuts) = ([1.0, 2.0, 3.0], [0i64, 2], [0.5, 0.25]);
+    let (cells, starts, cuts) = ([1.0, 2.0, 3.0], [0i64, 2], [0.5, 0.25]);
     for strides in [
         [1; 4],
         [-1, 1, 1, 1],
@@ -426,7 +426,7 @@ fn views_of_other_layouts() -> Result<()> {
         let mut grid = [7.0; 3];
         let answer = plan.execute(
             &mut RawStridedMut::new(&mut grid, &[3], &[dest], 1 - dest)?,
-            &RawStridedRef::new(&chart, &[3], &[operand], 1 - operand)?,
+            &RawStridedRef::new(&cells, &[3], &[operand], 1 - operand)?,
             &RawStridedRef::new(&starts, &[2], &[index], 0)?,
             &RawStridedRef::new(&cuts, &[2], &[updates], 0)?,
             Exec::serial(),

@@ -260,6 +260,12 @@ pub fn operand_of(random: &mut Random, dims: &[usize]) -> (ViewLayout, usize) {
     placed(random, dims, strides)
 }
 
+/// The same, with strides by which no two coordinates share an element.
+pub fn nested_of(random: &mut Random, dims: &[usize]) -> (ViewLayout, usize) {
+    let strides = nested(random, dims);
+    placed(random, dims, strides)
+}
+
 /// The grid that windows are taken of: its extents, the windows, and the axes
 /// that are dropped (collapsed or inserted), whose windows are 1.
 struct Grid {

@@ -3,7 +3,9 @@
 
 use crate::arguments::{change_scatter, change_view, wild_scatter, wild_starts, wild_view};
 use crate::arguments::{CASES as WILD_CASES, MOST_UPDATES};
-use crate::cases::{bits, cells, cuts_added, operand_of, packed, summed, view, Cell, ScatterCase};
+use crate::cases::{
+    bits, cells, cuts_added, nested_of, operand_of, packed, summed, view, Cell, ScatterCase,
+};
 use crate::random::Random;
 use crate::reference::{coordinates, landings, place, plain_scatter, slid_in_scatter};
 use strided::ffi::{self, Answer};
@@ -36,13 +38,13 @@ type Slices<'a, T> = (&'a [T], &'a [i64], &'a [T]);
 fn put<T: Element>(
     plan: &OperandScatterPlan,
     (operand, views): Views,
-    (chart, starts, updates): Slices<T>,
+    (operand_cells, starts, updates): Slices<T>,
     dest: &mut [T],
     rule: impl Into<T::Rule>,
 ) -> Result<Done> {
     plan.execute_by(
         &mut views.dest.view_mut(dest),
-        &operand.view(chart),
+        &operand.view(operand_cells),
         &views.index.view(starts),
         &views.updates.view(updates),
         rule,
@@ -50,9 +52,14 @@ fn put<T: Element>(
 }
 
 /// Copies cell by cell.
-fn plain_copy<T: Copy>(operand: &ViewLayout, chart: &[T], job: &ScatterJob, dest: &mut [T]) {
+fn plain_copy<T: Copy>(
+    operand: &ViewLayout,
+    operand_cells: &[T],
+    job: &ScatterJob,
+    dest: &mut [T],
+) {
     for cell in coordinates(&job.dest.dims) {
-        dest[place(&job.dest, &cell)] = chart[place(operand, &cell)];
+        dest[place(&job.dest, &cell)] = operand_cells[place(operand, &cell)];
     }
 }
 
@@ -73,18 +80,18 @@ fn scatters<T: Cell>(seed: u64) {
     for case in 0..CASES {
         let call = ScatterCase::random(&mut random, T::TYPE);
         let (operand, operand_len) = operand_of(&mut random, &call.job.dest.dims);
-        let chart = cells::<T>(&mut random, operand_len);
+        let operand_cells = cells::<T>(&mut random, operand_len);
         let updates = cells::<T>(&mut random, call.updates_len);
         let before = cells::<T>(&mut random, call.dest_len);
         let rule = T::rule(&mut random);
 
         let mut copied = before.clone();
-        plain_copy(&operand, &chart, &call.job, &mut copied);
+        plain_copy(&operand, &operand_cells, &call.job, &mut copied);
         let mut expected = copied.clone();
         plain_scatter(&call.job, &call.starts, &updates, &mut expected, rule);
 
         let plan = compiled(&operand, &call.job).expect("a valid scatter");
-        let slices = (&chart[..], &call.starts[..], &updates[..]);
+        let slices = (&operand_cells[..], &call.starts[..], &updates[..]);
         let mut dest = before.clone();
         let done = put(&plan, (&operand, &call.job), slices, &mut dest, rule);
         let slid = slid_in_scatter(&call.job, &call.starts);
@@ -116,7 +123,7 @@ fn keeps_bits<T: Cell>(call: &ScatterCase, copied: &[T], dest: &[T]) {
 }
 
 /// The cuts added, and a chart of five cells for them.
-fn chart() -> ViewLayout {
+fn five_cells() -> ViewLayout {
     packed(&[5])
 }
 
@@ -208,7 +215,7 @@ fn faults_of_lists() -> Vec<Fault> {
 }
 
 fn answer_with(faults: &[&Fault]) -> Result<()> {
-    let (mut operand, mut job) = (chart(), cuts_added());
+    let (mut operand, mut job) = (five_cells(), cuts_added());
     // The first one is made last, so that it stands as it is.
     for fault in faults.iter().rev() {
         (fault.made)(&mut operand, &mut job);
@@ -250,7 +257,7 @@ fn a_shape_that_is_not_the_operands() {
 
 /// The cuts added to a chart, compiled as they are, with other views.
 fn put_with(operand: &ViewLayout, views: &ScatterJob) -> Result<Done> {
-    let plan = compiled(&chart(), &cuts_added())?;
+    let plan = compiled(&five_cells(), &cuts_added())?;
     let mut dest = [7; 5];
     let answer = plan.execute(
         &mut views.dest.view_mut(&mut dest),
@@ -287,13 +294,13 @@ fn a_view_of_another_layout() {
         packed(&[]),
     ];
     assert_eq!(
-        put_with(&chart(), &cuts_added()).map(Done::slid),
+        put_with(&five_cells(), &cuts_added()).map(Done::slid),
         Ok(1),
         "unchanged it is done"
     );
     for changed in 1..=4 {
         for layout in &layouts {
-            let (mut operand, mut job) = (chart(), cuts_added());
+            let (mut operand, mut job) = (five_cells(), cuts_added());
             for (number, view) in views_of(&mut operand, &mut job) {
                 match number == changed {
                     true => *view = layout.clone(),
@@ -311,7 +318,7 @@ fn a_view_of_another_layout() {
 fn views_outside_their_slices_in_turn() {
     for first in 1..=4 {
         for offset in [-1, 1, isize::MIN, isize::MAX] {
-            let (mut operand, mut job) = (chart(), cuts_added());
+            let (mut operand, mut job) = (five_cells(), cuts_added());
             for (number, view) in views_of(&mut operand, &mut job) {
                 if number >= first {
                     view.offset = offset;
@@ -329,11 +336,18 @@ fn views_outside_their_slices_in_turn() {
 #[test]
 fn rules_go_by_the_operand() {
     let after = |rule: Rule| {
-        let plan = compiled(&chart(), &cuts_added()).unwrap();
+        let plan = compiled(&five_cells(), &cuts_added()).unwrap();
         let slices = (&[10, 20, 30, 40, 50][..], &[0, 0, 9][..], &[12, 7, 60][..]);
         [i32::MIN, i32::MAX].map(|held| {
             let mut dest = [held; 5];
-            put(&plan, (&chart(), &cuts_added()), slices, &mut dest, rule).unwrap();
+            put(
+                &plan,
+                (&five_cells(), &cuts_added()),
+                slices,
+                &mut dest,
+                rule,
+            )
+            .unwrap();
             dest
         })
     };
@@ -345,11 +359,11 @@ fn rules_go_by_the_operand() {
 
 #[test]
 fn a_ceiling_over_the_operand() {
-    let plan = compiled(&chart(), &cuts_added()).unwrap();
+    let plan = compiled(&five_cells(), &cuts_added()).unwrap();
     let mut dest = [0.0; 5];
-    let chart_cells = [4.5, 9.0, 1.0, 1.0, f64::NAN];
-    let slices = (&chart_cells[..], &[0, 0, 2][..], &[2.0, -1.0, 1.0][..]);
-    let views = (&chart(), &cuts_added());
+    let operand_cells = [4.5, 9.0, 1.0, 1.0, f64::NAN];
+    let slices = (&operand_cells[..], &[0, 0, 2][..], &[2.0, -1.0, 1.0][..]);
+    let views = (&five_cells(), &cuts_added());
     put(&plan, views, slices, &mut dest, RuleF64::Ceiling(5.0)).unwrap();
     // What is above the limit stays where nothing lands.
     assert_eq!(dest[..4], [4.0, 9.0, 2.0, 1.0]);
@@ -359,13 +373,20 @@ fn a_ceiling_over_the_operand() {
 #[test]
 fn bits_of_the_operand_are_copied() {
     let nans = [0x7ff0_0000_0000_0001, 0x7ff8_dead_beef_cafe, 0xfff8 << 48].map(f64::from_bits);
-    let chart_cells = [nans[0], nans[1], nans[2], -0.0, 1.5];
+    let operand_cells = [nans[0], nans[1], nans[2], -0.0, 1.5];
     for rule in [RuleF64::Lowest, RuleF64::Highest] {
-        let plan = compiled(&chart(), &cuts_added()).unwrap();
+        let plan = compiled(&five_cells(), &cuts_added()).unwrap();
         let mut dest = [3.0; 5];
-        let slices = (&chart_cells[..], &[0, 1, 3][..], &[2.0, 2.0, 0.0][..]);
-        put(&plan, (&chart(), &cuts_added()), slices, &mut dest, rule).unwrap();
-        assert_eq!(bits(&dest), bits(&chart_cells), "{rule:?}");
+        let slices = (&operand_cells[..], &[0, 1, 3][..], &[2.0, 2.0, 0.0][..]);
+        put(
+            &plan,
+            (&five_cells(), &cuts_added()),
+            slices,
+            &mut dest,
+            rule,
+        )
+        .unwrap();
+        assert_eq!(bits(&dest), bits(&operand_cells), "{rule:?}");
     }
 }
 
@@ -412,6 +433,37 @@ fn no_updates_and_no_cells() {
     };
     assert_eq!(put_none(&none), Ok(0));
     assert_eq!(put_none(&view(&[0], &[7], 3)), Err(1));
+}
+
+/// The copy alone, over eight axes, some of which lie behind each other in both
+/// layouts, in one, or in none.
+#[test]
+fn copies_of_eight_axes() {
+    let mut random = Random::new(85);
+    for case in 0..CASES / 4 {
+        let dims = random.list(8, |random| random.pick(&[1, 1, 1, 2, 2, 3]));
+        let mut job = cuts_added();
+        let (dest, dest_len) = nested_of(&mut random, &dims);
+        job.dest = dest;
+        job.index = packed(&[0]);
+        job.updates = packed(&[0]);
+        job.spec.inserted_window_dims = (0..8).collect();
+        let (operand, operand_len) = match random.below(3) {
+            0 => operand_of(&mut random, &dims),
+            1 => nested_of(&mut random, &dims),
+            // The destination's own layout: one run of it all.
+            _ => (job.dest.clone(), dest_len),
+        };
+        let operand_cells = cells::<i32>(&mut random, operand_len);
+        let mut dest = cells::<i32>(&mut random, dest_len);
+        let mut expected = dest.clone();
+        plain_copy(&operand, &operand_cells, &job, &mut expected);
+        let plan = compiled(&operand, &job).expect("a valid scatter");
+        let slices = (&operand_cells[..], &[][..], &[][..]);
+        let done = put(&plan, (&operand, &job), slices, &mut dest, Rule::Add);
+        assert_eq!(done.map(Done::slid), Ok(0), "case {case}");
+        assert_eq!(dest, expected, "case {case}: {operand:?} to {:?}", job.dest);
+    }
 }
 
 /// The cuts added to a chart by the library itself, with a number for the rule
@@ -478,11 +530,11 @@ fn answered<T: Cell>(
     if job.updates.dims.iter().product::<usize>() > MOST_UPDATES {
         return Ok(None);
     }
-    let chart = cells::<T>(random, operand_len);
+    let operand_cells = cells::<T>(random, operand_len);
     let updates = cells::<T>(random, updates_len);
     let before = cells::<T>(random, dest_len);
     let mut dest = before.clone();
-    let slices = (&chart[..], starts, &updates[..]);
+    let slices = (&operand_cells[..], starts, &updates[..]);
     let rule = T::rule(random);
     let answer = put(&plan, (operand_view, views), slices, &mut dest, rule);
     assert!(answer.is_ok() || bits(&dest) == bits(&before), "{job:?}");

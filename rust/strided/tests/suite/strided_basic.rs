@@ -217,22 +217,23 @@ fn scatters<T: Named>(seed: u64) {
         let call = ScatterCase::random(&mut random, <T::Plain as strided::Element>::TYPE);
         let job = &call.job;
         let (operand, operand_len) = operand_of(&mut random, &job.dest.dims);
-        let chart = cells::<T::Plain>(&mut random, operand_len);
+        let operand_cells = cells::<T::Plain>(&mut random, operand_len);
         let updates = cells::<T::Plain>(&mut random, call.updates_len);
         let mut expected = cells::<T::Plain>(&mut random, call.dest_len);
         let mut dest = named_cells::<T>(&expected);
         let done = compiled(&operand, job).unwrap().execute(
             &mut job.dest.view_mut(&mut expected),
-            &operand.view(&chart),
+            &operand.view(&operand_cells),
             &job.index.view(&call.starts),
             &job.updates.view(&updates),
         );
         assert!(done.is_ok(), "case {case}");
 
-        let (chart, updates) = (named_cells::<T>(&chart), named_cells::<T>(&updates));
+        let (operand_cells, updates) =
+            (named_cells::<T>(&operand_cells), named_cells::<T>(&updates));
         let done = scatter_plan(&operand, job).execute(
             &mut written(&job.dest, &mut dest).unwrap(),
-            &read(&operand, &chart).unwrap(),
+            &read(&operand, &operand_cells).unwrap(),
             &read(&job.index, &call.starts).unwrap(),
             &read(&job.updates, &updates).unwrap(),
             Exec::serial(),

@@ -78,11 +78,11 @@ impl Ship {
     }
 
     /// Copies a chart to the grid, and goes on by its updates.
-    fn put_on_chart(&self, chart: &Chart, grid: &mut [i32]) -> Result<Done> {
+    fn put_with_operand(&self, operand: &Operand, grid: &mut [i32]) -> Result<Done> {
         let job = &self.job;
         let plan = OperandScatterPlan::compile(
-            &chart.view.dims,
-            &chart.view.strides,
+            &operand.view.dims,
+            &operand.view.strides,
             &job.index.dims,
             &job.index.strides,
             &job.updates.dims,
@@ -93,7 +93,7 @@ impl Ship {
         )?;
         plan.execute_by(
             &mut job.dest.view_mut(grid),
-            &chart.view.view(&chart.cells),
+            &operand.view.view(&operand.cells),
             &job.index.view(&self.starts),
             &job.updates.view(&self.updates),
             self.rule,
@@ -102,12 +102,12 @@ impl Ship {
 }
 
 /// A chart in a layout of its own.
-struct Chart {
+struct Operand {
     view: ViewLayout,
     cells: Vec<i32>,
 }
 
-impl Chart {
+impl Operand {
     fn random(random: &mut Random, dims: &[usize]) -> Self {
         let (view, len) = operand_of(random, dims);
         let cells = cells(random, len);
@@ -126,13 +126,13 @@ impl Chart {
 
 /// As [`in_both_orders`], with a chart that the first of the two copies. It is
 /// copied through the same destination in both orders.
-fn on_a_chart(ships: [&Ship; 2], chart: &Chart, before: &[i32]) -> [Vec<i32>; 2] {
+fn with_an_operand(ships: [&Ship; 2], operand: &Operand, before: &[i32]) -> [Vec<i32>; 2] {
     let [north, south] = ships;
     assert_eq!(north.job.dest, south.job.dest);
     [[north, south], [south, north]].map(|[first, second]| {
         let mut grid = before.to_vec();
         let slid = [
-            first.put_on_chart(chart, &mut grid),
+            first.put_with_operand(operand, &mut grid),
             second.put_on(&mut grid),
         ];
         for (ship, slid) in [first, second].into_iter().zip(slid) {
@@ -146,18 +146,18 @@ fn on_a_chart(ships: [&Ship; 2], chart: &Chart, before: &[i32]) -> [Vec<i32>; 2]
 /// What each element holds is what the chart, or the grid, and all updates of
 /// both make it.
 #[test]
-fn ships_on_a_chart_may_be_swapped() {
+fn ships_with_an_operand_may_be_swapped() {
     for (seed, rule) in ALIKE.into_iter().enumerate() {
         let mut random = Random::new(41 + seed as u64);
         let mut shared = 0;
         for case in 0..CASES {
             let [north, south] = Ship::pair(&mut random, [rule, rule]);
-            let chart = Chart::random(&mut random, &north.job.dest.dims);
+            let operand = Operand::random(&mut random, &north.job.dest.dims);
             let before = grid_for(&mut random, [&north, &south]);
-            let [one, other] = on_a_chart([&north, &south], &chart, &before);
+            let [one, other] = with_an_operand([&north, &south], &operand, &before);
             assert_eq!(one, other, "case {case}, {rule:?}");
             let [by_north, by_south] = [&north, &south].map(|ship| ship.landing(before.len()));
-            let copied = chart.copied_to(&north.job.dest, &before);
+            let copied = operand.copied_to(&north.job.dest, &before);
             for (element, &held) in copied.iter().enumerate() {
                 let [first, second] = [&by_north, &by_south].map(|landing| &landing[element]);
                 shared += usize::from(!first.is_empty() && !second.is_empty());
@@ -172,17 +172,17 @@ fn ships_on_a_chart_may_be_swapped() {
 
 /// A chart that the second ship copies again takes the first one's cuts away.
 #[test]
-fn a_chart_that_is_copied_twice() {
-    let chart = Chart {
+fn an_operand_that_is_copied_twice() {
+    let operand = Operand {
         view: packed(&[3]),
         cells: vec![900; 3],
     };
     let ships = [single(Rule::Add, -30), single(Rule::Add, -40)];
-    let [one, other] = on_a_chart([&ships[0], &ships[1]], &chart, &[0; 3]);
+    let [one, other] = with_an_operand([&ships[0], &ships[1]], &operand, &[0; 3]);
     assert_eq!([one, other], [[900, 830, 900]; 2]);
     let mut grid = [0; 3];
     for ship in &ships {
-        ship.put_on_chart(&chart, &mut grid).unwrap();
+        ship.put_with_operand(&operand, &mut grid).unwrap();
     }
     assert_eq!(grid, [900, 860, 900]);
 }
