@@ -1,5 +1,6 @@
-//! The axis lists and the rule as options, for calls without a stored job.
+//! The axis lists, the rule and the chart as options, for calls without a stored job.
 
+use std::path::PathBuf;
 use std::str::FromStr;
 
 use clap::Args;
@@ -46,7 +47,7 @@ pub struct GatherLists {
     vector: Vector,
 }
 
-// A scatter's lists and its rule.
+// A scatter's lists, its rule and its chart.
 #[derive(Args)]
 #[command(next_help_heading = "Without a job")]
 pub struct ScatterLists {
@@ -66,6 +67,10 @@ pub struct ScatterLists {
     // A job beside it is refused in other words than clap has.
     #[arg(long, value_name = "RULE")]
     pub rule: Option<RuleName>,
+    /// A chart that is copied into the grid before the updates are put on it, of the grid's shape and element
+    // As the rule.
+    #[arg(long, value_name = "NPY")]
+    pub chart: Option<PathBuf>,
 }
 
 // What both have.

@@ -2,7 +2,7 @@
 
 use std::path::PathBuf;
 
-use clap::{Args, Parser, Subcommand};
+use clap::{ArgGroup, Args, Parser, Subcommand};
 
 use crate::axis_lists::{GatherLists, ScatterLists};
 use crate::output::Patience;
@@ -197,12 +197,19 @@ A stored job adds. Without one --rule says what a cell becomes of what it holds 
   ceiling:LIMIT   of f64: the sum, or LIMIT where the sum is greater, at every update
 A comparison with NaN is false.
 
+With --chart the chart is copied into the grid, cell by cell, before the updates are put on it; what the grid held makes no difference.
+The chart has the grid's shape and element, in either order. Without --grid the output has the chart's shape and order.
+A stored job copies no chart.
+
 Example:
   strided scatter --job cut.job --starts at.npy --updates cuts.npy --grid bed.npy --out bed.npy
   strided scatter --update-window-dims 1,2 --scatter-dims-to-operand-dims 0,1 --index-vector-dim 1 \\
     --starts at.npy --updates cuts.npy --grid bed.npy --out bed.npy
   strided scatter --rule lowest --inserted-window-dims 0,1 --scatter-dims-to-operand-dims 0,1 \\
-    --index-vector-dim 1 --starts at.npy --updates soundings.npy --grid bed.npy --out bed.npy")]
+    --index-vector-dim 1 --starts at.npy --updates soundings.npy --grid bed.npy --out bed.npy
+  strided scatter --chart design.npy --update-window-dims 1,2 --scatter-dims-to-operand-dims 0,1 \\
+    --index-vector-dim 1 --starts at.npy --updates cuts.npy --out bed.npy")]
+#[command(group(ArgGroup::new("base").args(["grid", "chart"]).required(true).multiple(true)))]
 pub struct ScatterArgs {
     /// The stored job; without it the axis lists are given
     #[arg(long, value_name = "JOB")]
@@ -213,9 +220,9 @@ pub struct ScatterArgs {
     /// The updates, of the grid's element
     #[arg(long, value_name = "NPY")]
     pub updates: PathBuf,
-    /// The grid that they are put on, i32 or f64, as the job is
+    /// The grid that they are put on, i32 or f64, as the job is; where --chart is given, it may be left out
     #[arg(long, value_name = "NPY")]
-    pub grid: PathBuf,
+    pub grid: Option<PathBuf>,
     /// The grid afterwards; it may be the file of --grid
     #[arg(long, value_name = "NPY")]
     pub out: PathBuf,

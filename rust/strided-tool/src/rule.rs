@@ -100,8 +100,8 @@ impl RuleName {
     /// What has been done.
     pub fn done(self, updates: &str, grid: &str) -> String {
         match self.0 {
-            RuleF64::Add => format!("added {updates} to the grid {grid}"),
-            _ => format!("put {updates} on the grid {grid} by {self}"),
+            RuleF64::Add => format!("added {updates} to {grid}"),
+            _ => format!("put {updates} on {grid} by {self}"),
         }
     }
 }
@@ -183,13 +183,13 @@ mod tests {
         let add = RuleName::default();
         assert_eq!(add.doing("3 updates"), "adding 3 updates");
         assert_eq!(
-            add.done("3 updates", "x.npy"),
+            add.done("3 updates", "the grid x.npy"),
             "added 3 updates to the grid x.npy"
         );
         let other = RuleName(RuleF64::Ceiling(-2.5));
         let doing = "putting 3 updates on the grid by ceiling:-2.5";
         assert_eq!(other.doing("3 updates"), doing);
         let done = "put 3 updates on the grid x.npy by ceiling:-2.5";
-        assert_eq!(other.done("3 updates", "x.npy"), done);
+        assert_eq!(other.done("3 updates", "the grid x.npy"), done);
     }
 }

@@ -4,13 +4,14 @@ use std::path::Path;
 
 use strided::{Element, ElementType, GatherJob, GatherSpec, Job, ViewLayout};
 
+use super::fresh::fresh;
 use super::lent::{fit, Lent};
-use super::packed::{layout_of, packed_order};
+use super::packed::layout_of;
 use super::stored::Stored;
-use super::{element_of, Report};
+use super::Report;
 use crate::cli::GatherArgs;
 use crate::failure::{Failure, Outcome};
-use crate::npy::{self, cells, shape_in_words, Grid, Item};
+use crate::npy::{self, cells, shape_in_words, Item};
 use crate::output::{self, Output};
 use crate::progress;
 use crate::refusal::{batch, others, pick};
@@ -67,7 +68,7 @@ impl<'a> Files<'a> {
     /// Refuses files that are not the call's.
     fn fit(&self, stored: &Stored, any_shape: bool) -> Outcome<()> {
         let files = [Some(&self.operand), Some(&self.starts), self.dest.as_ref()];
-        fit(stored, files, any_shape)
+        fit(stored, &files, any_shape)
     }
 
     /// The job of the axis lists, with extents and order from the files.
@@ -79,7 +80,7 @@ impl<'a> Files<'a> {
             None => self.result(&spec, &index)?,
         };
         let job = Job::Gather(GatherJob {
-            element: element_of(&args.operand, self.operand.header())?,
+            element: self.operand.element()?,
             operand: self.operand.layout()?,
             index,
             dest,
@@ -127,7 +128,7 @@ fn gather<T: Element + Item>(
     let starts = files.starts.load::<i64>()?;
     let mut dest = match files.dest {
         Some(file) => file.load()?,
-        None => fresh(stored, job)?,
+        None => fresh(stored, &job.dest)?,
     };
     let count = cells(&job.dest.dims).unwrap_or(0);
     let done = progress::timed(&format!("gathering {count} cells"), || {
@@ -138,12 +139,12 @@ fn gather<T: Element + Item>(
             Some(path) => path.display().to_string(),
             None => "the destination of zeros".to_owned(),
         };
-        let lent = [
+        let lent = vec![
             (args.operand.display().to_string(), operand.data.len()),
             (args.starts.display().to_string(), starts.data.len()),
             (dest_name, dest.data.len()),
         ];
-        stored.refused(error, Some(lent))
+        stored.refused(error, lent)
     })?;
     let moved = slid::told(done, &stored.job, &starts.data, args.verbose)?;
     let name = args.out.display().to_string();
@@ -154,32 +155,4 @@ fn gather<T: Element + Item>(
     ));
     report.say_all(&moved);
     Ok(())
-}
-
-/// A destination of zeros.
-fn fresh<T: Item>(stored: &Stored, job: &GatherJob) -> Outcome<Grid<T>> {
-    let order = packed_order(&job.dest).ok_or_else(|| {
-        let why = "its dest is not packed, so that there may be elements between its cells; give them with --dest";
-        stored.unusable(why)
-    })?;
-    Ok(Grid {
-        shape: job.dest.dims.clone(),
-        fortran_order: order.fortran_order(),
-        data: zeros(stored, &job.dest.dims)?,
-    })
-}
-
-fn zeros<T: Item>(stored: &Stored, dims: &[usize]) -> Outcome<Vec<T>> {
-    let mut data = Vec::new();
-    let count = cells(dims).filter(|count| data.try_reserve_exact(*count).is_ok());
-    match count {
-        Some(count) => {
-            data.resize(count, T::default());
-            Ok(data)
-        }
-        None => Err(stored.unusable(format_args!(
-            "there is no memory for its dest, {}",
-            shape_in_words(dims)
-        ))),
-    }
 }

@@ -95,6 +95,9 @@ fn in_words(job: &Job) -> String {
         strided::ElementType::I32 => "i32",
         strided::ElementType::F64 => "f64",
     };
-    let views = views(job).map(|(name, view)| format!("{name} {}", shape_in_words(&view.dims)));
+    let views: Vec<String> = views(job, None)
+        .iter()
+        .map(|(name, view)| format!("{name} {}", shape_in_words(&view.dims)))
+        .collect();
     format!("{kind} of {element} ({})", views.join(", "))
 }

@@ -1,5 +1,6 @@
 //! Files that lend their elements to a call.
 
+use std::fmt::Display;
 use std::path::Path;
 
 use strided::{ElementType, Job, ViewLayout};
@@ -9,7 +10,6 @@ use super::stored::Stored;
 use crate::failure::{Failure, Outcome};
 use crate::job_text::list;
 use crate::npy::{shape_in_words, Grid, Header, Item, Kind, Opened};
-use crate::refusal::views;
 
 /// A file whose header has been read.
 pub struct Lent<'a> {
@@ -22,6 +22,25 @@ impl<'a> Lent<'a> {
     pub fn open(path: &'a Path) -> Outcome<Lent<'a>> {
         let opened = Opened::open(path)?;
         Ok(Lent { path, opened })
+    }
+
+    /// Its name, as the user gave it.
+    pub fn name(&self) -> String {
+        self.path.display().to_string()
+    }
+
+    /// The element of a call that has no job, where this file is its grid.
+    pub fn element(&self) -> Outcome<ElementType> {
+        match self.header().kind {
+            Kind::I32 => Ok(ElementType::I32),
+            Kind::F64 => Ok(ElementType::F64),
+            Kind::I64 => Err(self.unusable("it holds i64; grids are of i32 or f64")),
+        }
+    }
+
+    /// The failure where the file cannot be used, and why.
+    pub fn unusable(&self, why: impl Display) -> Failure {
+        Failure::of_file(self.path, why)
     }
 
     /// What its header says.
@@ -38,10 +57,7 @@ impl<'a> Lent<'a> {
         } = self.header();
         layout_of(shape, *fortran_order).ok_or_else(|| {
             let shape = shape_in_words(shape);
-            Failure::of_file(
-                self.path,
-                format_args!("its shape {shape} has too many elements"),
-            )
+            self.unusable(format_args!("its shape {shape} has too many elements"))
         })
     }
 
@@ -50,17 +66,16 @@ impl<'a> Lent<'a> {
         self.opened.elements()
     }
 
-    /// Refuses elements of another type than the call's.
-    fn is_of(&self, wanted: Kind, name: &str, stored: &Stored) -> Outcome<()> {
+    /// Refuses elements of another type than the call's, which without a job are those of its grid.
+    fn is_of(&self, wanted: Kind, name: &str, stored: &Stored, grid: &str) -> Outcome<()> {
         let found = self.header().kind;
         if found == wanted {
             return Ok(());
         }
-        let asked = match (wanted, &stored.job) {
-            (Kind::I64, _) => "starts are i64".to_owned(),
+        let asked = match wanted {
+            Kind::I64 => "starts are i64".to_owned(),
             _ if stored.is_file => format!("the job's {name} is of {wanted}"),
-            (_, Job::Gather(_)) => format!("the operand is of {wanted}"),
-            (_, Job::Scatter(_)) => format!("the grid is of {wanted}"),
+            _ => format!("the {grid} is of {wanted}"),
         };
         let convert = format!("convert it in NumPy with .astype('{}')", wanted.descr());
         let other = match found {
@@ -69,10 +84,9 @@ impl<'a> Lent<'a> {
             }
             _ => String::new(),
         };
-        Err(Failure::of_file(
-            self.path,
-            format_args!("it holds {found}, and {asked}; {convert}{other}"),
-        ))
+        Err(self.unusable(format_args!(
+            "it holds {found}, and {asked}; {convert}{other}"
+        )))
     }
 
     /// Refuses a file that has another shape than the view, or another order.
@@ -94,39 +108,33 @@ impl<'a> Lent<'a> {
                 layout.offset
             ),
         };
-        Err(Failure::of_file(
-            self.path,
-            format_args!(
-                "its shape is {found}{order}, and the job's {name} is {wanted}; nothing was done\n--any-shape takes the file's elements in memory order by the job's layout"
-            ),
-        ))
+        Err(self.unusable(format_args!(
+            "its shape is {found}{order}, and the job's {name} is {wanted}; nothing was done\n--any-shape takes the file's elements in memory order by the job's layout"
+        )))
     }
 }
 
 /// Refuses files of other elements than the call's, and, unless any shape will do, of another shape or order than its views. They
 /// stand in the order of the views; a destination that is made has no file.
-pub fn fit(stored: &Stored, files: [Option<&Lent<'_>>; 3], any_shape: bool) -> Outcome<()> {
-    let views = views(&stored.job).into_iter();
-    for (((name, layout), kind), file) in views.zip(kinds(&stored.job)).zip(files) {
+pub fn fit(stored: &Stored, files: &[Option<&Lent<'_>>], any_shape: bool) -> Outcome<()> {
+    let element = match stored.job.element() {
+        ElementType::I32 => Kind::I32,
+        ElementType::F64 => Kind::F64,
+    };
+    let grid = match (&stored.job, files.last()) {
+        (Job::Gather(_), _) => "operand",
+        (Job::Scatter(_), Some(None)) => "chart",
+        (Job::Scatter(_), _) => "grid",
+    };
+    for ((name, layout), file) in stored.views().into_iter().zip(files) {
         let Some(file) = file else {
             continue;
         };
-        file.is_of(kind, name, stored)?;
+        let kind = if name == "index" { Kind::I64 } else { element };
+        file.is_of(kind, name, stored, grid)?;
         if !any_shape {
             file.is_view(name, layout)?;
         }
     }
     Ok(())
-}
-
-/// The types of the three views.
-fn kinds(job: &Job) -> [Kind; 3] {
-    let element = match job.element() {
-        ElementType::I32 => Kind::I32,
-        ElementType::F64 => Kind::F64,
-    };
-    match job {
-        Job::Gather(_) => [element, Kind::I64, element],
-        Job::Scatter(_) => [Kind::I64, element, element],
-    }
 }

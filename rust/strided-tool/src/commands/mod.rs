@@ -1,6 +1,8 @@
 //! The commands.
 
+mod base;
 mod compare;
+mod fresh;
 mod gather;
 mod job;
 mod lent;
@@ -14,11 +16,8 @@ use std::io::{self, ErrorKind, Write};
 use std::path::Path;
 use std::process::ExitCode;
 
-use strided::ElementType;
-
 use crate::cli::Command;
 use crate::failure::{Failure, Outcome};
-use crate::npy::{Header, Kind};
 
 /// Where a command tells what it has done.
 pub struct Report {
@@ -62,18 +61,6 @@ pub fn run(command: &Command, report: &mut Report) -> Outcome<ExitCode> {
         Command::Print(args) => print::run(args),
     };
     done.map(|()| ExitCode::SUCCESS)
-}
-
-/// The element of a call that has no job: that of its grid.
-fn element_of(path: &Path, header: &Header) -> Outcome<ElementType> {
-    match header.kind {
-        Kind::I32 => Ok(ElementType::I32),
-        Kind::F64 => Ok(ElementType::F64),
-        Kind::I64 => Err(Failure::of_file(
-            path,
-            "it holds i64; grids are of i32 or f64",
-        )),
-    }
 }
 
 /// Prints to standard output. A reader that has gone wants no more, and that is no failure.

@@ -4,12 +4,13 @@ use std::path::Path;
 
 use strided::{Done, Element, ElementType, Job, ScatterJob};
 
+use super::base::Base;
 use super::lent::{fit, Lent};
-use super::stored::Stored;
-use super::{element_of, Report};
+use super::stored::{charted, Stored};
+use super::Report;
 use crate::cli::ScatterArgs;
 use crate::failure::{Failure, Outcome};
-use crate::npy::{self, shape_in_words, Item};
+use crate::npy::{self, shape_in_words, Grid, Item};
 use crate::output::{self, Output};
 use crate::progress;
 use crate::rule::{RuleName, TypedRule};
@@ -20,20 +21,25 @@ const MANY: u128 = 1 << 36;
 
 pub fn run(args: &ScatterArgs, report: &mut Report) -> Outcome<()> {
     let rule = rule_of(args)?;
+    no_chart_by_a_job(args)?;
     let mut inputs = vec![
         ("--starts", args.starts.as_path()),
         ("--updates", &args.updates),
     ];
     inputs.extend(args.job.iter().map(|job| ("--job", job.as_path())));
+    let chart = args.lists.chart.iter();
+    inputs.extend(chart.map(|chart| ("--chart", chart.as_path())));
     output::is_apart(&args.out, &inputs)?;
     let output = Output::claim(&args.out, args.lock.patience())?;
     let stored = args.job.as_deref().map(stored_scatter).transpose()?;
     let files = Files::open(args)?;
     let element = match &stored {
         Some(stored) => stored.job.element(),
-        None => element_of(&args.grid, files.grid.header())?,
+        None => files.base.model().element()?,
     };
-    let typed = rule.of(element).ok_or_else(|| not_of_i32(args, rule))?;
+    let typed = rule
+        .of(element)
+        .ok_or_else(|| not_of_i32(files.base.model(), rule))?;
     let stored = stored.map_or_else(|| files.by_lists(args, element), Ok)?;
     let Job::Scatter(job) = &stored.job else {
         return Err(stored.unusable("it is not a scatter"));
@@ -62,11 +68,19 @@ fn rule_of(args: &ScatterArgs) -> Outcome<RuleName> {
     }
 }
 
-fn not_of_i32(args: &ScatterArgs, rule: RuleName) -> Failure {
-    Failure::of_file(
-        &args.grid,
-        format_args!("it holds i32, and {rule} is a rule for f64 alone; nothing was done\ngive another rule, or convert grid and updates in NumPy with .astype('<f8')"),
-    )
+/// Refuses a chart beside a stored job, which has none.
+fn no_chart_by_a_job(args: &ScatterArgs) -> Outcome<()> {
+    match (&args.job, &args.lists.chart) {
+        (Some(job), Some(_)) => Err(Failure::of_file(
+            job,
+            "a stored job copies no chart, and --chart cannot be used with --job; nothing was done\ngive the axis lists in place of the job: `strided job show` prints them",
+        )),
+        _ => Ok(()),
+    }
+}
+
+fn not_of_i32(grid: &Lent<'_>, rule: RuleName) -> Failure {
+    grid.unusable(format_args!("it holds i32, and {rule} is a rule for f64 alone; nothing was done\ngive another rule, or convert it and the updates in NumPy with .astype('<f8')"))
 }
 
 /// A stored scatter that the library would run.
@@ -80,11 +94,11 @@ fn stored_scatter(path: &Path) -> Outcome<Stored> {
     Ok(stored)
 }
 
-/// The three files.
+/// The files.
 struct Files<'a> {
     starts: Lent<'a>,
     updates: Lent<'a>,
-    grid: Lent<'a>,
+    base: Base<'a>,
 }
 
 impl<'a> Files<'a> {
@@ -92,26 +106,69 @@ impl<'a> Files<'a> {
         Ok(Files {
             starts: Lent::open(&args.starts)?,
             updates: Lent::open(&args.updates)?,
-            grid: Lent::open(&args.grid)?,
+            base: Base::open(args)?,
         })
     }
 
     /// Refuses files that are not the call's.
     fn fit(&self, stored: &Stored, any_shape: bool) -> Outcome<()> {
-        let files = [Some(&self.starts), Some(&self.updates), Some(&self.grid)];
-        fit(stored, files, any_shape)
+        let mut files = Vec::from_iter(self.base.chart().map(Some));
+        files.extend([Some(&self.starts), Some(&self.updates), self.base.grid()]);
+        fit(stored, &files, any_shape)
     }
 
     /// The job of the axis lists, with extents and order from the files.
     fn by_lists(&self, args: &ScatterArgs, element: ElementType) -> Outcome<Stored> {
-        let job = Job::Scatter(ScatterJob {
+        let job = ScatterJob {
             element,
             index: self.starts.layout()?,
             updates: self.updates.layout()?,
-            dest: self.grid.layout()?,
+            dest: self.base.model().layout()?,
             spec: args.lists.spec(),
-        });
-        Stored::of_call(job)
+        };
+        match self.base.chart() {
+            Some(chart) => Stored::with_chart(job, chart.layout()?),
+            None => Stored::of_call(Job::Scatter(job)),
+        }
+    }
+
+    fn load<T: Item>(self, call: &Call<'_>) -> Outcome<Elements<T>> {
+        let starts = self.starts.load()?;
+        let updates = self.updates.load()?;
+        let (chart, grid) = self.base.load(call.stored, &call.job.dest)?;
+        Ok(Elements {
+            chart,
+            starts,
+            updates,
+            grid,
+        })
+    }
+}
+
+/// The elements of the files.
+struct Elements<T> {
+    chart: Option<Grid<T>>,
+    starts: Grid<i64>,
+    updates: Grid<T>,
+    grid: Grid<T>,
+}
+
+impl<T> Elements<T> {
+    /// For the views in order, the file that lends the elements and how many they are.
+    fn lent(&self, args: &ScatterArgs) -> Vec<(String, usize)> {
+        let name = |path: &Path| path.display().to_string();
+        let chart = args.lists.chart.as_deref().zip(self.chart.as_ref());
+        let grid = match &args.grid {
+            Some(path) => name(path),
+            None => "the copy of the chart".to_owned(),
+        };
+        let mut lent = Vec::from_iter(chart.map(|(path, chart)| (name(path), chart.data.len())));
+        lent.extend([
+            (name(&args.starts), self.starts.data.len()),
+            (name(&args.updates), self.updates.data.len()),
+            (grid, self.grid.data.len()),
+        ]);
+        lent
     }
 }
 
@@ -151,23 +208,25 @@ struct Call<'a> {
 }
 
 impl Call<'_> {
-    /// Runs a stored job by its bytes, which add, and a call by lists by its rule.
-    fn run<T: Element>(
-        &self,
-        starts: &[i64],
-        updates: &[T],
-        grid: &mut [T],
-        rule: T::Rule,
-    ) -> strided::Result<Done> {
+    /// Runs a stored job by its bytes, which add, and a call by lists by its rule, after the copy of a chart if it has one.
+    fn run<T: Element>(&self, elements: &mut Elements<T>, rule: T::Rule) -> strided::Result<Done> {
+        let starts = &elements.starts.data;
+        let updates = &elements.updates.data;
+        let grid = &mut elements.grid.data;
         if self.stored.is_file {
             return strided::scatter_job(&self.stored.bytes, starts, updates, grid);
         }
-        self.job.compile()?.execute_updates(
-            &mut self.job.dest.view_mut(grid),
-            &self.job.index.view(starts),
-            &self.job.updates.view(updates),
-            rule,
-        )
+        let job = self.job;
+        let dest = &mut job.dest.view_mut(grid);
+        let index = &job.index.view(starts);
+        let updates = &job.updates.view(updates);
+        match self.stored.chart.as_ref().zip(elements.chart.as_ref()) {
+            Some((layout, chart)) => {
+                let chart = layout.view(&chart.data);
+                charted(job, layout)?.execute_by(dest, &chart, index, updates, rule)
+            }
+            None => job.compile()?.execute_updates(dest, index, updates, rule),
+        }
     }
 }
 
@@ -179,27 +238,17 @@ fn scatter<T: Element + Item>(
     output: Output,
     report: &mut Report,
 ) -> Outcome<()> {
-    let starts = files.starts.load::<i64>()?;
-    let changes = files.updates.load::<T>()?;
-    let mut grid = files.grid.load::<T>()?;
     let count = updates(call.job);
-    let done = progress::timed(&call.rule.doing(&format!("{count} updates")), || {
-        call.run(&starts.data, &changes.data, &mut grid.data, rule)
-    })
-    .map_err(|error| {
-        let lent = [
-            (args.starts.display().to_string(), starts.data.len()),
-            (args.updates.display().to_string(), changes.data.len()),
-            (args.grid.display().to_string(), grid.data.len()),
-        ];
-        call.stored.refused(error, Some(lent))
-    })?;
-    let moved = slid::told(done, &call.stored.job, &starts.data, args.verbose)?;
-    let name = args.out.display().to_string();
-    output.write(|file| npy::write(&grid, &name, file))?;
     let shape = shape_in_words(&call.job.updates.dims);
-    let updates = format!("{count} updates ({shape})");
-    let put = call.rule.done(&updates, &args.grid.display().to_string());
+    let doing = files.base.doing(call.rule, &format!("{count} updates"));
+    let put = (files.base).done(call.rule, &format!("{count} updates ({shape})"));
+    let mut elements = files.load::<T>(call)?;
+    let done = progress::timed(&doing, || call.run(&mut elements, rule))
+        .map_err(|error| call.stored.refused(error, elements.lent(args)))?;
+    let starts = &elements.starts.data;
+    let moved = slid::told(done, &call.stored.job, starts, args.verbose)?;
+    let name = args.out.display().to_string();
+    output.write(|file| npy::write(&elements.grid, &name, file))?;
     report.say(&format!("{put}; it is in {name}"));
     report.say_all(&moved);
     Ok(())

@@ -5,10 +5,10 @@ use std::fs::File;
 use std::io::Read;
 use std::path::Path;
 
-use strided::{Done, Job, StridedError};
+use strided::{Done, Job, OperandScatterPlan, ScatterJob, StridedError, ViewLayout};
 
 use crate::failure::{Failure, Outcome};
-use crate::refusal::{refused, Known};
+use crate::refusal::{refused, views, Known, Named};
 
 /// Jobs and their texts are some hundred bytes; a file of more than this is neither.
 const LIMIT: u64 = 1 << 20;
@@ -19,10 +19,12 @@ pub struct Stored {
     pub about: String,
     /// Whether it was read from a file.
     pub is_file: bool,
-    /// The bytes, which the library has taken for a job or has written.
+    /// The bytes, which the library has taken for a job or has written; none with a chart.
     pub bytes: Vec<u8>,
     /// The job.
     pub job: Job,
+    /// The layout of the chart that a scatter copies first. No stored job has one.
+    pub chart: Option<ViewLayout>,
 }
 
 impl Stored {
@@ -36,6 +38,7 @@ impl Stored {
                 is_file: true,
                 bytes,
                 job,
+                chart: None,
             }),
             Err(error) => {
                 let known = Known {
@@ -61,6 +64,20 @@ impl Stored {
             is_file: false,
             bytes,
             job,
+            chart: None,
+        };
+        stored.can_run()?;
+        Ok(stored)
+    }
+
+    /// A scatter that copies a chart first, and that the library would run.
+    pub fn with_chart(job: ScatterJob, chart: ViewLayout) -> Outcome<Stored> {
+        let stored = Stored {
+            about: "the call".to_owned(),
+            is_file: false,
+            bytes: Vec::new(),
+            job: Job::Scatter(job),
+            chart: Some(chart),
         };
         stored.can_run()?;
         Ok(stored)
@@ -68,7 +85,16 @@ impl Stored {
 
     /// Refuses a job that the library refuses to compile.
     pub fn can_run(&self) -> Outcome<()> {
-        compile(&self.job).map_err(|error| self.refused(error, None))
+        let answer = match (&self.job, &self.chart) {
+            (Job::Scatter(job), Some(chart)) => charted(job, chart).map(drop),
+            (job, _) => compile(job),
+        };
+        answer.map_err(|error| self.refused(error, Vec::new()))
+    }
+
+    /// Its views in order.
+    pub fn views(&self) -> Vec<Named<'_>> {
+        views(&self.job, self.chart.as_ref())
     }
 
     /// A failure that is not a refusal by the library.
@@ -77,9 +103,10 @@ impl Stored {
     }
 
     /// The failure where the library refuses the job; `lent` as in `Known`.
-    pub fn refused(&self, error: StridedError, lent: Option<[(String, usize); 3]>) -> Failure {
+    pub fn refused(&self, error: StridedError, lent: Vec<(String, usize)>) -> Failure {
         let known = Known {
             job: Some(&self.job),
+            chart: self.chart.as_ref(),
             bytes: Some(&self.bytes),
             lent,
         };
@@ -91,7 +118,7 @@ impl Stored {
         let hint = format!("run it with `strided {command}`");
         match answer {
             Ok(_) => self.unusable(hint),
-            Err(error) => match self.refused(error, None) {
+            Err(error) => match self.refused(error, Vec::new()) {
                 Failure::Refused(text) => Failure::Refused(format!("{text}; {hint}")),
                 other => other,
             },
@@ -105,6 +132,21 @@ pub fn compile(job: &Job) -> strided::Result<()> {
         Job::Gather(job) => job.compile().map(drop),
         Job::Scatter(job) => job.compile().map(drop),
     }
+}
+
+/// The plan of a scatter that copies a chart first.
+pub fn charted(job: &ScatterJob, chart: &ViewLayout) -> strided::Result<OperandScatterPlan> {
+    OperandScatterPlan::compile(
+        &chart.dims,
+        &chart.strides,
+        &job.index.dims,
+        &job.index.strides,
+        &job.updates.dims,
+        &job.updates.strides,
+        &job.dest.dims,
+        &job.dest.strides,
+        job.spec.clone(),
+    )
 }
 
 /// The whole of a file that is small if it is what it should be.

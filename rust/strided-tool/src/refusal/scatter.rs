@@ -1,16 +1,24 @@
 //! What a refusal says of a scatter. The library decides; here its a and b are found again in the job, in the order in which it asks.
 
-use strided::{ScatterJob, StridedError};
+use strided::{ScatterJob, StridedError, ViewLayout};
 
 use super::counts::{batch, components, first, long_list, others, pick, Candidate};
 use crate::job_text::list;
+use crate::npy::shape_in_words;
 
-pub fn explanation(job: &ScatterJob, error: StridedError) -> Option<String> {
+pub fn explanation(
+    job: &ScatterJob,
+    chart: Option<&ViewLayout>,
+    error: StridedError,
+) -> Option<String> {
     let found = (error.a(), error.b());
     match error {
         StridedError::RankMismatch { .. } => counts(job, found),
         StridedError::InvalidAxis { .. } => axes(job, found),
-        StridedError::ShapeMismatch { .. } => Some(shape(job)),
+        StridedError::ShapeMismatch { .. } => Some(match chart {
+            Some(chart) if chart.dims != job.dest.dims => other_chart(job, chart),
+            _ => shape(job),
+        }),
         _ => None,
     }
 }
@@ -101,5 +109,13 @@ fn shape(job: &ScatterJob) -> String {
         "the updates have the extents {} outside update_window_dims, and the index has {} beside its vector axis; they must be equal",
         list(&pick(&job.updates.dims, &rest)),
         list(&batch(&job.index.dims, spec.index_vector_dim))
+    )
+}
+
+fn other_chart(job: &ScatterJob, chart: &ViewLayout) -> String {
+    format!(
+        "the chart is {}, and the grid is {}; give a chart of the grid's shape, or leave out --grid for a grid of the chart's",
+        shape_in_words(&chart.dims),
+        shape_in_words(&job.dest.dims)
     )
 }
