@@ -23,8 +23,8 @@ use Rattle.scatter_checks.specs.Examine.{Examines}
 use Rattle.operand_checks.specs.Refusals.{layoutsRefusal, extentsRefusal, numbersRefusal, sizesRefusal, sizesOf, refusalOf}
 use Rattle.operand_checks.specs.Examine.{ExaminesOn}
 
--- of answers that are done the first is the second
-both-done : (x y : Answer) → isDone x ≡ true → isDone y ≡ true → isDone (orElse x y) ≡ true
+-- two answers that are done are done in turn
+pub both-done : (x y : Answer) → isDone x ≡ true → isDone y ≡ true → isDone (orElse x y) ≡ true
 both-done x y e f = ap (λ (t : Bool). isDone (cond t y x)) e ∙ f
 
 pub extents-same : (de oe : List ℕ) → isDone (extentsRefusal de oe) ≡ true → de ≡ oe

@@ -37,7 +37,7 @@ done-updates true us e = refl
 done-updates false us e = absurd (true≢false (sym e))
 
 -- what is told where it is done
-done-told : (x : Answer) (number : ℕ) → isDone x ≡ true → answerWith x number ≡ doneWith number
+pub done-told : (x : Answer) (number : ℕ) → isDone x ≡ true → answerWith x number ≡ doneWith number
 done-told x number e = ap₂ (λ (y : Answer) (t : Bool). record { answer = y; reported = cond t number 0 }) (done-is x e) e
 
 -- the cells of a grid, where two Adds were put on it
@@ -52,7 +52,7 @@ module _ {B : Type 0} (says : CallAnswer → B) where
   abbrev Does : Rule → ScatterCall ℤ → List ℤ → List ℤ → B → Type 0
   Does r c grid after handed = Scatters (pos 0) (ruleI32 r) says c grid after handed
 
-  does-put : (r : Rule) (c : ScatterCall ℤ) (grid after : List ℤ) (handed : B) → Does r c grid after handed → after ≡ putOn r (putBy c (length grid)) grid
+  pub does-put : (r : Rule) (c : ScatterCall ℤ) (grid after : List ℤ) (handed : B) → Does r c grid after handed → after ≡ putOn r (putBy c (length grid)) grid
   does-put r c grid after handed w = w .left ∙ as-updates r (isDone (c .answer (length grid))) (c .scatter) (c .starts) (c .updates) grid
 
   same-length : (r : Rule) (c : ScatterCall ℤ) (grid after : List ℤ) (handed : B) → Does r c grid after handed → length after ≡ length grid

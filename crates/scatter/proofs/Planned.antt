@@ -19,6 +19,7 @@ use Rattle.layout.specs.declared.View.{View}
 use Rattle.layout.specs.Answers.{isDone, orElse}
 use Rattle.layout.specs.Layouts.{rankLimit, padded, extentsOf}
 use Rattle.layout.specs.Reach.{bufferBounds}
+use Rattle.layout.proofs.First.{done-is}
 use Rattle.axis_lists.specs.Held.{numbersOf}
 use Rattle.axis_lists.proofs.Filling.{read-back}
 use Rattle.replay.specs.declared.CompiledReplay.{CompiledReplay}
@@ -38,11 +39,12 @@ use Rattle.scatter_plan.specs.Plan.{planOf, heldScatter}
 use Rattle.scatter_plan.proofs.Accepted.{Accepted, accepted}
 use Rattle.scatter_same.specs.Same.{isCompiled}
 use Rattle.scatter_same.proofs.Compiled.{compiled-is}
-use Rattle.scatter_move.specs.Prepared.{stepsAt, batchRows, windowRows, scatterNumbers, startBase, Ready}
+use Rattle.scatter_move.specs.Prepared.{stepsAt, batchRows, windowRows, scatterNumbers, Ready, Prepares}
 use Rattle.scatter_move.specs.declared.ScatterNumbers.{ScatterNumbers}
 use Rattle.scatter_move.specs.declared.PreparedScatter.{PreparedScatter}
 use Rattle.scatter_move.proofs.Numbers.{dest-many}
 use Rattle.scatter.specs.Calls.{scatterOf, planFits, callAnswer}
+use Rattle.scatter.specs.Ready.{preparedBy}
 
 -- ---- a compiled plan's numbers are those of its scatter
 module _ (p : ScatterPlan) (b w : List (List ℤ)) (ok : isCompiled p b w ≡ true) where
@@ -194,15 +196,23 @@ module _ (p : ScatterPlan) (b w : List (List ℤ)) (i u d : View) (sn un dn : �
   unfolding batchWalk batchShape scatterDims updateBatchSteps
   at-batch = refl
 
-  pub ready : (r : PreparedScatter) → r .reach ≡ reachIn (h .result) dn → r .numbers ≡ scatterNumbers held → r .«batch_axes» ≡ axesFrom (p .batch .extents) b → r .index ≡ startBase h → r .updates ≡ u .offset → r .dest ≡ d .offset → Ready r h sn un dn
-  ready r er en eb ei eu ed =
+  pub ready : (reach : Reach) → reach ≡ reachIn (h .result) dn → Ready (preparedBy p b i u d reach) h sn un dn
+  ready reach er =
       record {
         accepted = subst (λ (x : Scatter). isDone (refusalOf A.Done x) ≡ true) (sym scatter-is) at-done;
         bounds = tests .1;
         reach = er;
-        numbers = en ∙ at-numbers ∙ ap scatterNumbers (sym scatter-is);
-        batch-axes = eb ∙ batch-axes p b w compiled ∙ at-batch ∙ ap (λ (x : Scatter). batchWalk x .axes) (sym scatter-is);
-        index = ei;
-        updates = eu;
-        dest = ed;
+        numbers = at-numbers ∙ ap scatterNumbers (sym scatter-is);
+        batch-axes = batch-axes p b w compiled ∙ at-batch ∙ ap (λ (x : Scatter). batchWalk x .axes) (sym scatter-is);
+        index = refl;
+        updates = refl;
+        dest = refl;
+      }
+
+  -- what is prepared of it
+  pub prepared : (r : PreparedScatter) (x : Answer) (reach : Reach) → r ≡ preparedBy p b i u d reach → x ≡ callAnswer p b w h sn un dn → reach ≡ reachIn (h .result) dn → Prepares r (callAnswer p b w h sn un dn) h sn un dn
+  prepared r x reach e f g =
+      record {
+        answered = ap (λ (q : PreparedScatter). q .answer) e ∙ sym (done-is (callAnswer p b w h sn un dn) ok);
+        ready = λ t. subst (λ (q : PreparedScatter). Ready q h sn un dn) (sym e) (ready reach g);
       }

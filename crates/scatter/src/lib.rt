@@ -11,9 +11,11 @@ ghost use Rattle.scatter_plan.specs.Plan.{heldScatter};
 ghost use Rattle.scatter_same.specs.Same.{isCompiled};
 ghost use Rattle.scatter_move.specs.Prepared.{scatterNumbers, Prepares};
 ghost use Rattle.scatter.specs.Calls.{scatterOf, planFits, callAnswer, byPlan};
+ghost use Rattle.scatter.specs.Ready.{preparedBy};
 use layout::Answer;
 use layout::CallAnswer;
 use layout::RAW_FUSED_RANK_LIMIT;
+use layout::Reach;
 use layout::View;
 use rules::Rule;
 use rules::RuleF64;
@@ -92,6 +94,35 @@ fn plan_fits(
     }
 }
 
+// What is ready to be moved, by a plan that is what compile gives, where the views pass the test of 9.
+pub fn prepared_by(
+    plan: ScatterPlan,
+    batch_rows: [[i64; 4]; RAW_FUSED_RANK_LIMIT],
+    window_rows: [[i64; 4]; RAW_FUSED_RANK_LIMIT],
+    index: View,
+    updates: View,
+    dest: View,
+    reach: Reach,
+) -> PreparedScatter
+    requires { ⌜ isCompiled plan «batch_rows» «window_rows» ≡ true ⌝ }
+    ensures { λ r. ⌜ r ≡ preparedBy plan «batch_rows» index updates dest reach ⌝ }
+{
+    let numbers = numbers_of(plan, batch_rows, window_rows);
+    let base = components::start_base(numbers.count, index.offset);
+    let batch = plan.batch;
+    let extents = batch.extents;
+    let batch_axes = replay::axes_from(extents, batch_rows);
+    PreparedScatter {
+        answer: Answer::Done,
+        reach,
+        numbers,
+        batch_axes,
+        index: base,
+        updates: updates.offset,
+        dest: dest.offset,
+    }
+}
+
 // What a call decides before it touches an element, given the lengths of the three slices.
 fn prepare(
     plan: ScatterPlan,
@@ -116,20 +147,7 @@ fn prepare(
     if !layout::is_done(answer) {
         return scatter_move::refused(answer);
     }
-    let numbers = numbers_of(plan, batch_rows, window_rows);
-    let base = components::start_base(numbers.count, index.offset);
-    let batch = plan.batch;
-    let extents = batch.extents;
-    let batch_axes = replay::axes_from(extents, batch_rows);
-    PreparedScatter {
-        answer,
-        reach: z,
-        numbers,
-        batch_axes,
-        index: base,
-        updates: updates.offset,
-        dest: dest.offset,
-    }
+    prepared_by(plan, batch_rows, window_rows, index, updates, dest, z)
 }
 
 // The scatter of a plan on these views: the updates are put on the destination by the rule.

@@ -187,7 +187,7 @@ fn plan_of(
 }
 
 // What compile gives, by what its checks found.
-fn compiled_from(
+pub fn compiled_from(
     found: Examined,
     index_extents: &[u64],
     index_strides: &[i64],

@@ -6,6 +6,7 @@ use Prim.Native.Nat.{ℕ}
 use lib.ListN.{length}
 use Rattle.indexing.specs.Gather.{gathered}
 use Rattle.indexing.specs.Scatter.{scattered}
+use Rattle.indexing.specs.Operand.{operandCopied}
 use Rattle.indexing.specs.Slid.{slidGather, slidScatter}
 use Rattle.layout.specs.declared.Answer.{Answer}
 use Rattle.layout.specs.declared.CallAnswer.{CallAnswer}
@@ -18,8 +19,12 @@ use Rattle.gather_move.proofs.Parts as gather-parts
 use Rattle.scatter_move.specs.Prepared as scatters
 use Rattle.scatter_move.specs.declared.PreparedScatter.{PreparedScatter}
 use Rattle.scatter_move.proofs.Parts as scatter-parts
+use Rattle.operand_calls.specs.Calls.{Operand, ScattersOn}
+use Rattle.operand_calls.specs.Prepared as operands
+use Rattle.operand_calls.specs.declared.PreparedOperand.{PreparedOperand}
+use Rattle.operand_calls.proofs.Four as operand-parts
 use Rattle.strided.specs.Words.{words, bare}
-use Rattle.strided.specs.Named.{ruleRefusal, named}
+use Rattle.strided.specs.Named.{ruleRefusal}
 
 pub gather-handed : {A : Type 0} (z : A) (call : GatherCall) (p : PreparedGather) (operand before after : List A) (r : CallAnswer) (handed : List ℕ)
     → gathers.Prepares p (call .answer (length operand) (length before)) (call .gather) (length operand) (length (call .starts)) (length before)
@@ -33,28 +38,24 @@ pub scatter-handed : {A : Type 0} (z : A) (rule : A → A → A) (call : Scatter
     → handed ≡ words r → Scatters z rule words call before after handed
 scatter-handed z rule call p before after r handed q m w = said words w (by-answer (q .answered) (m (scatter-parts.movable q)))
 
+pub operand-handed : {A : Type 0} (z : A) (rule : A → A → A) (o : Operand A) (call : ScatterCall A) (p : PreparedOperand) (before after : List A) (r : CallAnswer) (handed : List ℕ)
+    → operands.Prepares p (call .answer (length before)) (o .view) (call .scatter) (length (o .elements)) (length (call .starts)) (length (call .updates)) (length before)
+    → ((k : operands.Movable p (length (o .elements)) (length (call .starts)) (length (call .updates)) (length before))
+    → Does asIs (p .scatter .answer) (slidScatter (k .scatter) (call .starts)) (scattered rule z (k .scatter) (call .starts) (call .updates) (operandCopied z (k .operand) (k .scatter .result) (o .elements) before)) before after r)
+    → handed ≡ words r → ScattersOn z rule words o call before after handed
+operand-handed z rule o call p before after r handed q m w = said words w (by-answer (q .answered) (m (operand-parts.movable q)))
+
 -- ---- a call that names its rule by a number
-module _ {A : Type 0} (z : A) (rule : A → A → A) (most n : ℕ) (call : ScatterCall A) (before after : List A) (handed : List ℕ) where
-  abbrev leaves : List A
-  leaves = scattered rule z (call .scatter) (call .starts) (call .updates) before
-
-  abbrev number : ℕ
-  number = slidScatter (call .scatter) (call .starts)
-
+module _ {A : Type 0} (most n : ℕ) (answer : Answer) (number : ℕ) (leaves before after : List A) (handed : List ℕ) where
   -- one that is not listed
-  pub named-refused : isDone (ruleRefusal most n) ≡ false → after ≡ before → handed ≡ words (bare (ruleRefusal most n)) → Scatters z rule words (named most n call) before after handed
+  pub named-refused : isDone (ruleRefusal most n) ≡ false → after ≡ before → handed ≡ words (bare (ruleRefusal most n)) → Does words (orElse (ruleRefusal most n) answer) number leaves before after handed
   named-refused d b w =
-      let e : ruleRefusal most n ≡ orElse (ruleRefusal most n) (call .answer (length before)) = ap (λ (t : Bool). cond t (call .answer (length before)) (ruleRefusal most n)) (sym d) in
+      let e : ruleRefusal most n ≡ orElse (ruleRefusal most n) answer = ap (λ (t : Bool). cond t answer (ruleRefusal most n)) (sym d) in
       record {
         answered = w ∙ ap (λ (t : Bool). words (record { answer = ruleRefusal most n; reported = cond t number 0 })) (sym d) ∙ ap (λ (x : Answer). words (answerWith x number)) e;
         left = b ∙ ap (λ (t : Bool). cond t leaves before) (sym d) ∙ ap (λ (x : Answer). cond (isDone x) leaves before) e;
       }
 
   -- one that is
-  pub named-listed : isDone (ruleRefusal most n) ≡ true → Scatters z rule words call before after handed → Scatters z rule words (named most n call) before after handed
-  named-listed d k =
-      let e : call .answer (length before) ≡ orElse (ruleRefusal most n) (call .answer (length before)) = ap (λ (t : Bool). cond t (call .answer (length before)) (ruleRefusal most n)) (sym d) in
-      record {
-        answered = k .answered ∙ ap (λ (x : Answer). words (answerWith x number)) e;
-        left = k .left ∙ ap (λ (x : Answer). cond (isDone x) leaves before) e;
-      }
+  pub named-listed : isDone (ruleRefusal most n) ≡ true → Does words answer number leaves before after handed → Does words (orElse (ruleRefusal most n) answer) number leaves before after handed
+  named-listed d k = by-answer (ap (λ (t : Bool). cond t answer (ruleRefusal most n)) (sym d)) k

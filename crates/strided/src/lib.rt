@@ -4,12 +4,17 @@ ghost use mathlib.Core.Path.{_≡_};
 ghost use mathlib.Core.List.{[]};
 ghost use lib.Ieee.{nan};
 ghost use lib.IntN.{pos};
+ghost use lib.ListN.{length};
 ghost use Rattle.indexing.specs.Scatter.{addI32, addF64};
+ghost use Rattle.checks.specs.Checks.{viewFrom};
 ghost use Rattle.calls.specs.Calls.{viewWith, Gathers, Scatters};
 ghost use Rattle.gather_checks.specs.Refusals.{gatherFrom, compileRefusal as compileGather};
 ghost use Rattle.scatter_checks.specs.Refusals.{scatterFrom, compileRefusal as compileScatter};
 ghost use Rattle.gather_lists.specs.Lists as gathers;
 ghost use Rattle.scatter_lists.specs.Lists as scatters;
+ghost use Rattle.operand_checks.specs.Refusals.{compileRefusal as compileOperand};
+ghost use Rattle.operand_calls.specs.Calls.{ScattersOn};
+ghost use Rattle.operand_lists.specs.Lists as operands;
 ghost use Rattle.job.specs.declared.Kind.the-variants as K;
 ghost use Rattle.job.specs.declared.Element.the-variants as E;
 ghost use Rattle.job.specs.Jobs.{jobFrom};
@@ -29,12 +34,12 @@ use rules::RuleF64;
 
 // Of these exports, as strided.h has it: it grows with every change of them. It is in the name below too, so that a program made
 // for another version finds no such function when it is linked.
-pub const VERSION: u64 = 3;
+pub const VERSION: u64 = 4;
 
 // The version of the exports.
 #[no_mangle]
-pub extern "C" fn strided_version_3() -> u64
-    ensures { λ r. ⌜ r ≡ 3 ⌝ }
+pub extern "C" fn strided_version_4() -> u64
+    ensures { λ r. ⌜ r ≡ 4 ⌝ }
 {
     VERSION
 }
@@ -425,6 +430,199 @@ pub extern "C" fn strided_raw_scatter_f64(
     );
     let by = rule_f64_of(rule, limit);
     let r = scatter_move::move_f64(by, p, starts, updates, dest);
+    *answer = words_of(r);
+}
+
+// ---- scatters with an operand
+
+// The first refusal of the compile of a scatter with an operand as number, a, b and 0; zeros where compile gives a plan.
+#[no_mangle]
+pub extern "C" fn strided_scatter_operand_refusal(
+    operand_extents: &[u64],
+    operand_strides: &[i64],
+    index_extents: &[u64],
+    index_strides: &[i64],
+    updates_extents: &[u64],
+    updates_strides: &[i64],
+    dest_extents: &[u64],
+    dest_strides: &[i64],
+    update_window_dims: &[u64],
+    inserted_window_dims: &[u64],
+    scatter_dims_to_operand_dims: &[u64],
+    index_vector_dim: u64,
+    answer: &mut [u64; 4],
+)
+    ensures { λ _. ⌜ now (answer .exit) ≡ words (bare (compileOperand (viewFrom (now («operand_extents» .entry)) (now («operand_strides» .entry))) (scatterFrom (now («index_extents» .entry)) (now («index_strides» .entry)) (now («updates_extents» .entry)) (now («updates_strides» .entry)) (now («dest_extents» .entry)) (now («dest_strides» .entry)) (now («update_window_dims» .entry)) (now («inserted_window_dims» .entry)) (now («scatter_dims_to_operand_dims» .entry)) «index_vector_dim»))) ⌝ }
+{
+    let r = operand_checks::operand_refusal(
+        operand_extents,
+        operand_strides,
+        index_extents,
+        index_strides,
+        updates_extents,
+        updates_strides,
+        dest_extents,
+        dest_strides,
+        update_window_dims,
+        inserted_window_dims,
+        scatter_dims_to_operand_dims,
+        index_vector_dim,
+    );
+    *answer = bare_words(r);
+}
+
+// A scatter of i32 with an operand, by the rule of a number: compile by the next twelve arguments, and the call on the four views and
+// their slices: the operand is copied into the destination, and the updates are put on that. The answer as number, a, b and how many
+// windows slid: 18 before all others for a number that is not listed.
+#[no_mangle]
+pub extern "C" fn strided_raw_scatter_operand_i32(
+    rule: u64,
+    operand_extents: &[u64],
+    operand_strides: &[i64],
+    index_extents: &[u64],
+    index_strides: &[i64],
+    updates_extents: &[u64],
+    updates_strides: &[i64],
+    dest_extents: &[u64],
+    dest_strides: &[i64],
+    update_window_dims: &[u64],
+    inserted_window_dims: &[u64],
+    scatter_dims_to_operand_dims: &[u64],
+    index_vector_dim: u64,
+    operand_view_extents: &[u64],
+    operand_view_strides: &[i64],
+    operand_offset: i64,
+    index_view_extents: &[u64],
+    index_view_strides: &[i64],
+    index_offset: i64,
+    updates_view_extents: &[u64],
+    updates_view_strides: &[i64],
+    updates_offset: i64,
+    dest_view_extents: &[u64],
+    dest_view_strides: &[i64],
+    dest_offset: i64,
+    operand: &[i32],
+    starts: &[i64],
+    updates: &[i32],
+    dest: &mut [i32],
+    answer: &mut [u64; 4],
+)
+    ensures { λ _. ⌜ ScattersOn (pos 0) (ruleI32 (ruleOf rule)) words (record { view = (viewWith (now («operand_view_extents» .entry)) (now («operand_view_strides» .entry)) «operand_offset»); elements = now (operand .entry) }) (named rulesI32 rule (operands.byLists (viewFrom (now («operand_extents» .entry)) (now («operand_strides» .entry))) (scatterFrom (now («index_extents» .entry)) (now («index_strides» .entry)) (now («updates_extents» .entry)) (now («updates_strides» .entry)) (now («dest_extents» .entry)) (now («dest_strides» .entry)) (now («update_window_dims» .entry)) (now («inserted_window_dims» .entry)) (now («scatter_dims_to_operand_dims» .entry)) «index_vector_dim») (viewWith (now («operand_view_extents» .entry)) (now («operand_view_strides» .entry)) «operand_offset») (viewWith (now («index_view_extents» .entry)) (now («index_view_strides» .entry)) «index_offset») (viewWith (now («updates_view_extents» .entry)) (now («updates_view_strides» .entry)) «updates_offset») (viewWith (now («dest_view_extents» .entry)) (now («dest_view_strides» .entry)) «dest_offset») (length (now (operand .entry))) (now (starts .entry)) (now (updates .entry)))) (now (dest .entry)) (now (dest .exit)) (now (answer .exit)) ⌝ }
+{
+    let listed = check_rule(RULES_I32, rule);
+    if !layout::is_done(listed) {
+        *answer = bare_words(listed);
+        return;
+    }
+    let p = operand_lists::prepare_views(
+        operand_extents,
+        operand_strides,
+        index_extents,
+        index_strides,
+        updates_extents,
+        updates_strides,
+        dest_extents,
+        dest_strides,
+        update_window_dims,
+        inserted_window_dims,
+        scatter_dims_to_operand_dims,
+        index_vector_dim,
+        operand_view_extents,
+        operand_view_strides,
+        operand_offset,
+        index_view_extents,
+        index_view_strides,
+        index_offset,
+        updates_view_extents,
+        updates_view_strides,
+        updates_offset,
+        dest_view_extents,
+        dest_view_strides,
+        dest_offset,
+        operand.len(),
+        starts.len(),
+        updates.len(),
+        dest.len(),
+    );
+    let by = rule_of(rule);
+    let r = operand_move::move_i32(by, p, operand, starts, updates, dest);
+    *answer = words_of(r);
+}
+
+// A scatter of f64 with an operand, by the rule of a number, whose limit Ceiling alone reads.
+#[no_mangle]
+pub extern "C" fn strided_raw_scatter_operand_f64(
+    rule: u64,
+    limit: f64,
+    operand_extents: &[u64],
+    operand_strides: &[i64],
+    index_extents: &[u64],
+    index_strides: &[i64],
+    updates_extents: &[u64],
+    updates_strides: &[i64],
+    dest_extents: &[u64],
+    dest_strides: &[i64],
+    update_window_dims: &[u64],
+    inserted_window_dims: &[u64],
+    scatter_dims_to_operand_dims: &[u64],
+    index_vector_dim: u64,
+    operand_view_extents: &[u64],
+    operand_view_strides: &[i64],
+    operand_offset: i64,
+    index_view_extents: &[u64],
+    index_view_strides: &[i64],
+    index_offset: i64,
+    updates_view_extents: &[u64],
+    updates_view_strides: &[i64],
+    updates_offset: i64,
+    dest_view_extents: &[u64],
+    dest_view_strides: &[i64],
+    dest_offset: i64,
+    operand: &[f64],
+    starts: &[i64],
+    updates: &[f64],
+    dest: &mut [f64],
+    answer: &mut [u64; 4],
+)
+    ensures { λ _. ⌜ ScattersOn nan (ruleF64 (ruleF64Of rule limit)) words (record { view = (viewWith (now («operand_view_extents» .entry)) (now («operand_view_strides» .entry)) «operand_offset»); elements = now (operand .entry) }) (named rulesF64 rule (operands.byLists (viewFrom (now («operand_extents» .entry)) (now («operand_strides» .entry))) (scatterFrom (now («index_extents» .entry)) (now («index_strides» .entry)) (now («updates_extents» .entry)) (now («updates_strides» .entry)) (now («dest_extents» .entry)) (now («dest_strides» .entry)) (now («update_window_dims» .entry)) (now («inserted_window_dims» .entry)) (now («scatter_dims_to_operand_dims» .entry)) «index_vector_dim») (viewWith (now («operand_view_extents» .entry)) (now («operand_view_strides» .entry)) «operand_offset») (viewWith (now («index_view_extents» .entry)) (now («index_view_strides» .entry)) «index_offset») (viewWith (now («updates_view_extents» .entry)) (now («updates_view_strides» .entry)) «updates_offset») (viewWith (now («dest_view_extents» .entry)) (now («dest_view_strides» .entry)) «dest_offset») (length (now (operand .entry))) (now (starts .entry)) (now (updates .entry)))) (now (dest .entry)) (now (dest .exit)) (now (answer .exit)) ⌝ }
+{
+    let listed = check_rule(RULES_F64, rule);
+    if !layout::is_done(listed) {
+        *answer = bare_words(listed);
+        return;
+    }
+    let p = operand_lists::prepare_views(
+        operand_extents,
+        operand_strides,
+        index_extents,
+        index_strides,
+        updates_extents,
+        updates_strides,
+        dest_extents,
+        dest_strides,
+        update_window_dims,
+        inserted_window_dims,
+        scatter_dims_to_operand_dims,
+        index_vector_dim,
+        operand_view_extents,
+        operand_view_strides,
+        operand_offset,
+        index_view_extents,
+        index_view_strides,
+        index_offset,
+        updates_view_extents,
+        updates_view_strides,
+        updates_offset,
+        dest_view_extents,
+        dest_view_strides,
+        dest_offset,
+        operand.len(),
+        starts.len(),
+        updates.len(),
+        dest.len(),
+    );
+    let by = rule_f64_of(rule, limit);
+    let r = operand_move::move_f64(by, p, operand, starts, updates, dest);
     *answer = words_of(r);
 }
 

@@ -1,0 +1,104 @@
+// Scatter with an operand: the operand's copy and then the scatter's move, for i32 and for f64.
+ghost use mathlib.Core.Path.{_≡_};
+ghost use lib.Ieee.{nan};
+ghost use lib.IntN.{pos};
+ghost use lib.ListN.{length};
+ghost use Rattle.indexing.specs.Operand.{operandCopied};
+ghost use Rattle.indexing.specs.Scatter.{scattered};
+ghost use Rattle.indexing.specs.Slid.{slidScatter};
+ghost use Rattle.rules.specs.Rules.{ruleI32, ruleF64};
+ghost use Rattle.calls.specs.Calls.{Does, asIs};
+ghost use Rattle.operand_calls.specs.Prepared.{Movable};
+ghost use Rattle.operand_move.specs.Copying.{Copying};
+use layout::CallAnswer;
+use operand_calls::PreparedOperand;
+use rules::Rule;
+use rules::RuleF64;
+
+// The operand's copy into the destination.
+fn copy_i32(p: PreparedOperand, operand: &[i32], into: &mut [i32])
+    requires { ⌜ Copying p (length (now operand)) (length (now into)) ⌝ }
+    ensures { λ _. ⌜ ((k : Copying p (length (now (operand .entry))) (length (now (into .entry)))) → now (into .exit) ≡ operandCopied (pos 0) (k .operand) (k .scatter .result) (now (operand .entry)) (now (into .entry))) ⌝ }
+{
+    let scatter = p.scatter;
+    let layout = p.layout;
+    let extents = layout.extents;
+    let ss = layout.strides;
+    let ds = p.strides;
+    operand_copy::copy_operand(
+        operand,
+        into,
+        extents,
+        ss,
+        ds,
+        layout.rank,
+        p.offset,
+        scatter.dest,
+    );
+}
+
+// A scatter of i32 with an operand that is prepared: the operand is copied, and the updates are put on it; where it is refused nothing is
+// done.
+pub fn move_i32(
+    rule: Rule,
+    p: PreparedOperand,
+    operand: &[i32],
+    starts: &[i64],
+    source: &[i32],
+    into: &mut [i32],
+) -> CallAnswer
+    requires { ⌜ Movable p (length (now operand)) (length (now starts)) (length (now source)) (length (now into)) ⌝ }
+    ensures { λ r. ⌜ ((k : Movable p (length (now (operand .entry))) (length (now (starts .entry))) (length (now (source .entry))) (length (now (into .entry)))) → Does asIs (p .scatter .answer) (slidScatter (k .scatter) (now (starts .entry))) (scattered (ruleI32 rule) (pos 0) (k .scatter) (now (starts .entry)) (now (source .entry)) (operandCopied (pos 0) (k .operand) (k .scatter .result) (now (operand .entry)) (now (into .entry)))) (now (into .entry)) (now (into .exit)) r) ⌝ }
+{
+    let scatter = p.scatter;
+    let answer = scatter.answer;
+    if !layout::is_done(answer) {
+        return layout::refused_call(answer);
+    }
+    copy_i32(p, operand, into);
+    scatter_move::move_i32(rule, scatter, starts, source, into)
+}
+
+// The operand's copy into the destination.
+fn copy_f64(p: PreparedOperand, operand: &[f64], into: &mut [f64])
+    requires { ⌜ Copying p (length (now operand)) (length (now into)) ⌝ }
+    ensures { λ _. ⌜ ((k : Copying p (length (now (operand .entry))) (length (now (into .entry)))) → now (into .exit) ≡ operandCopied nan (k .operand) (k .scatter .result) (now (operand .entry)) (now (into .entry))) ⌝ }
+{
+    let scatter = p.scatter;
+    let layout = p.layout;
+    let extents = layout.extents;
+    let ss = layout.strides;
+    let ds = p.strides;
+    operand_copy_f64::copy_operand(
+        operand,
+        into,
+        extents,
+        ss,
+        ds,
+        layout.rank,
+        p.offset,
+        scatter.dest,
+    );
+}
+
+// A scatter of f64 with an operand that is prepared: the operand is copied, and the updates are put on it; where it is refused nothing is
+// done.
+pub fn move_f64(
+    rule: RuleF64,
+    p: PreparedOperand,
+    operand: &[f64],
+    starts: &[i64],
+    source: &[f64],
+    into: &mut [f64],
+) -> CallAnswer
+    requires { ⌜ Movable p (length (now operand)) (length (now starts)) (length (now source)) (length (now into)) ⌝ }
+    ensures { λ r. ⌜ ((k : Movable p (length (now (operand .entry))) (length (now (starts .entry))) (length (now (source .entry))) (length (now (into .entry)))) → Does asIs (p .scatter .answer) (slidScatter (k .scatter) (now (starts .entry))) (scattered (ruleF64 rule) nan (k .scatter) (now (starts .entry)) (now (source .entry)) (operandCopied nan (k .operand) (k .scatter .result) (now (operand .entry)) (now (into .entry)))) (now (into .entry)) (now (into .exit)) r) ⌝ }
+{
+    let scatter = p.scatter;
+    let answer = scatter.answer;
+    if !layout::is_done(answer) {
+        return layout::refused_call(answer);
+    }
+    copy_f64(p, operand, into);
+    scatter_move::move_f64(rule, scatter, starts, source, into)
+}
