@@ -277,12 +277,12 @@ pub fn gather_beside_on(
         grid,
     );
     let before = gather::gather_i32(plan, read, index, dest, grid, starts, one);
-    let scattered = scatter_by(south, batch_s, window_s, starts_s, updates_s, grid);
+    let updated = scatter_by(south, batch_s, window_s, starts_s, updates_s, grid);
     let after = gather::gather_i32(plan, read, index, dest, grid, starts, other);
     AroundOn {
         first: copied,
         before,
-        south: scattered,
+        south: updated,
         after,
     }
 }
