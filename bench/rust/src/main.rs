@@ -142,29 +142,29 @@ fn scatters(rounds: usize, some: &str) {
 fn charts(rounds: usize, some: &str) {
     let windows = || Job::windows(&[1000, 1000], &[64, 64], 256);
     let one = || Job::windows(&[1000, 1000], &[1, 1], 1);
-    let small = || Job::windows(&[4, 4], &[2, 2], 1);
-    for (name, job) in [
-        ("64×64, 256 starts, on a chart", windows().on_operand()),
-        (
-            "64×64, 256 starts, on a chart turned round",
-            windows().on_turned_operand(),
-        ),
-        ("1×1, 1 start, on a chart of 1000×1000", one().on_operand()),
-        (
-            "1×1, 1 start, on a chart of 1000×1000 turned round",
-            one().on_turned_operand(),
-        ),
-        ("2×2, 1 start, on a chart of 4×4", small().on_operand()),
-        (
-            "2×2, 1 start, on a chart of 4×4 turned round",
-            small().on_turned_operand(),
-        ),
-    ] {
-        let name = format!("scatter {name}");
-        if name.contains(some) {
-            measure::<i32, OperandScatter>(&name, &job, rounds);
-            measure::<f64, OperandScatter>(&name, &job, rounds);
-        }
+    let mut jobs: Vec<(String, [Job; 2])> = Vec::new();
+    let mut add = |name: String, job: &dyn Fn() -> Job| {
+        jobs.push((name, [job().on_operand(), job().on_turned_operand()]));
+    };
+    add("64×64, 256 starts, on a chart".to_string(), &windows);
+    add("1×1, 1 start, on a chart of 1000×1000".to_string(), &one);
+    // Up to 64 cells the copy goes over the axes as they are given.
+    for side in [2, 4, 8, 9, 16, 64] {
+        let small = || Job::windows(&[side, side], &[2, 2], 1);
+        let name = format!("2×2, 1 start, on a chart of {side}×{side}");
+        add(name, &small);
+    }
+    for (name, [straight, turned]) in jobs {
+        chart(&name, &straight, rounds, some);
+        chart(&format!("{name} turned round"), &turned, rounds, some);
+    }
+}
+
+fn chart(name: &str, job: &Job, rounds: usize, some: &str) {
+    let name = format!("scatter {name}");
+    if name.contains(some) {
+        measure::<i32, OperandScatter>(&name, job, rounds);
+        measure::<f64, OperandScatter>(&name, job, rounds);
     }
 }
 

@@ -13,9 +13,10 @@ use Rattle.checks.proofs.Made.{or-done}
 use Rattle.operand_checks.proofs.Sizes.{both-done}
 use Rattle.calls.specs.Calls.{reachIn}
 use Rattle.calls.specs.Calls as calls
-use Rattle.operand_calls.specs.declared.PreparedOperand.{PreparedOperand}
+use Rattle.scatter_move.specs.declared.PreparedScatter.{PreparedScatter}
+use Rattle.operand_calls.specs.declared.PreparedCopy.{PreparedCopy}
 use Rattle.operand_calls.specs.Calls.{boundsRefusal}
-use Rattle.operand_calls.specs.Prepared.{Prepares, Movable}
+use Rattle.operand_calls.specs.Prepared.{copyOf, Prepares, Movable}
 
 -- a view that passes the test of 9 passes it by any number
 by-number : (m n : ℕ) (r : Reach) → isDone (bufferBounds m r) ≡ true → isDone (bufferBounds n r) ≡ true
@@ -37,6 +38,6 @@ module _ (o : View) (s : Scatter) (on sn un dn : ℕ) (e : isDone (boundsRefusal
       (by-number 2 1 (reachIn (s .indices) sn) (b .0))
       (both-done (bufferBounds 2 (reachIn (s .updates) un)) (bufferBounds 3 (reachIn (s .result) dn)) (by-number 3 2 (reachIn (s .updates) un) (c .0)) (by-number 4 3 (reachIn (s .result) dn) (c .1)))
 
--- what was prepared can be moved
-abbrev pub movable : {p : PreparedOperand} {answer : Answer} {o : View} {s : Scatter} {on sn un dn : ℕ} → Prepares p answer o s on sn un dn → Movable p on sn un dn
-movable {o = o} {s = s} q = record { operand = o; scatter = s; ready = λ d. q .ready (ap isDone (sym (q .answered)) ∙ d) }
+-- what was prepared can be moved, with the copy of its operand
+abbrev pub movable : {p : PreparedScatter} {c : PreparedCopy} {answer : Answer} {o : View} {s : Scatter} {on sn un dn : ℕ} → Prepares p answer o s on sn un dn → (isDone answer ≡ true → c ≡ copyOf o s) → Movable p c on sn un dn
+movable {o = o} {s = s} q f = record { operand = o; scatter = s; ready = λ d. q .ready (ap isDone (sym (q .answered)) ∙ d); copy = λ d. f (ap isDone (sym (q .answered)) ∙ d) }

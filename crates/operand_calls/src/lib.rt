@@ -1,39 +1,40 @@
-// What the calls of a scatter with an operand share: what such a call has decided before it touches an element, and 9 for four views.
+// What the calls of a scatter with an operand share: what such a call copies, and 9 for four views.
 ghost use mathlib.Core.Path.{_≡_};
 ghost use Rattle.layout.specs.Answers.{orElse};
 ghost use Rattle.layout.specs.Reach.{bufferBounds};
+ghost use Rattle.operand_calls.specs.Prepared.{copyFrom};
 use layout::Answer;
 use layout::Layout;
 use layout::RAW_FUSED_RANK_LIMIT;
 use layout::Reach;
-use scatter_move::PreparedScatter;
 
-// What a call has decided: the scatter's own, with the answer; where that is Done, also the operand's layout, the destination's
-// strides and where the operand begins.
-pub struct PreparedOperand {
-    pub scatter: PreparedScatter,
+// What a call copies before its updates: the operand's layout, the destination's strides, and where the operand begins.
+pub struct PreparedCopy {
     pub layout: Layout,
     pub strides: [i64; RAW_FUSED_RANK_LIMIT],
     pub offset: i64,
 }
 
-// A call that is refused.
-pub fn refused(answer: Answer) -> PreparedOperand
-    ensures { λ r. ⌜ r .scatter .answer ≡ answer ⌝ }
+// The same from lent lists.
+pub fn copy_from(
+    extents: &[u64],
+    strides: &[i64],
+    dest_strides: &[i64],
+    offset: i64,
+) -> PreparedCopy
+    ensures { λ r. ⌜ r ≡ copyFrom (now (extents .entry)) (now (strides .entry)) (now («dest_strides» .entry)) offset ⌝ }
 {
-    let extents = [1u64; RAW_FUSED_RANK_LIMIT];
-    let strides = [0i64; RAW_FUSED_RANK_LIMIT];
-    let scatter = scatter_move::refused(answer);
-    let layout = Layout {
-        rank: 0,
-        extents,
-        strides,
-    };
-    PreparedOperand {
-        scatter,
-        layout,
-        strides,
-        offset: 0,
+    let held_extents = layout::padded_extents(extents);
+    let held_strides = layout::padded_strides(strides);
+    let held_dest = layout::padded_strides(dest_strides);
+    PreparedCopy {
+        layout: Layout {
+            rank: extents.len(),
+            extents: held_extents,
+            strides: held_strides,
+        },
+        strides: held_dest,
+        offset,
     }
 }
 

@@ -61,13 +61,26 @@ fn check_numbers(
     ensures { λ r. ⌜ r ≡ numbersRefusal (now (operand .entry)) (now («operand_strides» .entry)) (now (index .entry)) (now (updates .entry)) (now (dest .entry)) (now («dest_strides» .entry)) ⌝ }
 {
     let a = checks::check_total(operand);
+    if !layout::is_done(a) {
+        return a;
+    }
     let b = checks::check_total(index);
+    if !layout::is_done(b) {
+        return b;
+    }
     let c = checks::check_total(updates);
+    if !layout::is_done(c) {
+        return c;
+    }
     let d = check_extents(dest, operand);
+    if !layout::is_done(d) {
+        return d;
+    }
     let e = checks::check_span(dest, dest_strides);
-    let f = checks::check_span(operand, operand_strides);
-    let spans = checks::or_else(d, checks::or_else(e, f));
-    checks::or_else(a, checks::or_else(b, checks::or_else(c, spans)))
+    if !layout::is_done(e) {
+        return e;
+    }
+    checks::check_span(operand, operand_strides)
 }
 
 // What is asked before 4.

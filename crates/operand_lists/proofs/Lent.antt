@@ -3,16 +3,14 @@ use mathlib.Core.Path.{_≡_, refl, sym, ap, subst, _∙_}
 use mathlib.Core.Bool.{Bool, true, false, cond}
 use mathlib.Core.List.{List}
 use Prim.Native.Nat.{ℕ}
-use lib.IntN.{ℤ, pos}
+use lib.IntN.{ℤ}
 use Rattle.integer.specs.Tests.{and-true, and-both}
 use Rattle.indexing.specs.Coordinates.{View}
 use Rattle.indexing.specs.Scatter.{Scatter}
 use Rattle.layout.specs.declared.Answer.{Answer}
 use Rattle.layout.specs.declared.Answer.the-variants as A
-use Rattle.layout.specs.declared.Layout.{Layout}
 use Rattle.layout.specs.declared.Reach.{Reach}
 use Rattle.layout.specs.Answers.{isDone, orElse}
-use Rattle.layout.specs.Layouts.{rankLimit, padded, layoutOf}
 use Rattle.layout.specs.Reach.{bufferBounds}
 use Rattle.layout.proofs.First.{done-is}
 use Rattle.replay.specs.declared.CompiledReplay.{CompiledReplay}
@@ -34,9 +32,16 @@ use Rattle.scatter_lists.specs.Lists as scatter-lists
 use Rattle.scatter_lists.proofs.Lent.{ready-at, same-placed, views-are, refuses}
 use Rattle.operand_calls.specs.Calls.{sameFour, boundsRefusal}
 use Rattle.operand_calls.specs.Prepared.{Prepares}
-use Rattle.operand_calls.specs.declared.PreparedOperand.{PreparedOperand}
 use Rattle.operand_calls.proofs.Four.{operand-bounds, scatter-bounds}
 use Rattle.operand_lists.specs.Lists.{listsAnswer}
+
+-- where one of two answers refuses, those after it are not asked
+first-two : (x y w : Answer) → isDone (orElse x y) ≡ false → orElse x (orElse y w) ≡ orElse x y
+first-two x y w n = go (isDone x) refl n
+  where
+    go : (t : Bool) → isDone x ≡ t → isDone (cond t y x) ≡ false → orElse x (orElse y w) ≡ orElse x y
+    go true e m = ap (λ (t : Bool). cond t (orElse y w) x) e ∙ ap (λ (t : Bool). cond t w y) m ∙ sym (ap (λ (t : Bool). cond t y x) e)
+    go false e m = ap (λ (t : Bool). cond t (orElse y w) x) e ∙ sym (ap (λ (t : Bool). cond t y x) e)
 
 -- ---- views that have the layouts compiled for
 module _ (o : View) (s : Scatter) (e a b c : ℤ) where
@@ -53,13 +58,6 @@ module _ (o : View) (s : Scatter) (e a b c : ℤ) where
     answer-placed : orElse (compileRefusal o s) (boundsRefusal v h on sn un dn) ≡ listsAnswer o s v h on sn un dn
     answer-placed = sym (ap (λ (t : Bool). orElse (compileRefusal o s) (orElse (planRefusal t) (boundsRefusal v h on sn un dn))) same-four)
 
-    -- compile refuses
-    pub first-refusal : (r : PreparedOperand) (x : Answer) → r .scatter .answer ≡ x → x ≡ compileRefusal o s → isDone x ≡ false → Prepares r (listsAnswer o s v h on sn un dn) v h on sn un dn
-    first-refusal r x q f n =
-        let k : isDone (compileRefusal o s) ≡ false = ap isDone (sym f) ∙ n in
-        let l : listsAnswer o s v h on sn un dn ≡ compileRefusal o s = ap (λ (t : Bool). cond t (orElse (planRefusal (sameFour v h o s)) (boundsRefusal v h on sn un dn)) (compileRefusal o s)) k in
-        record { answered = q ∙ f ∙ sym l; ready = λ d. never (sym d ∙ ap isDone l ∙ k) }
-
     -- compile does not, and the four views have these reaches
     module _ {first nine : Answer} {w x y z : Reach} (ef : first ≡ compileRefusal o s) (td : isDone first ≡ true) (ew : w ≡ reachIn v on) (ex : x ≡ reachIn (h .indices) sn) (ey : y ≡ reachIn (h .updates) un) (ez : z ≡ reachIn (h .result) dn)
         (en : nine ≡ orElse (bufferBounds 1 w) (orElse (bufferBounds 2 x) (orElse (bufferBounds 3 y) (bufferBounds 4 z)))) where
@@ -69,12 +67,11 @@ module _ (o : View) (s : Scatter) (e a b c : ℤ) where
       answer-is : nine ≡ listsAnswer o s v h on sn un dn
       answer-is = bounds-are ∙ sym (ap (λ (t : Bool). cond t (boundsRefusal v h on sn un dn) (compileRefusal o s)) (ap isDone (sym ef) ∙ td)) ∙ answer-placed
 
-      pub second-refusal : (r : PreparedOperand) → r .scatter .answer ≡ nine → isDone nine ≡ false → Prepares r (listsAnswer o s v h on sn un dn) v h on sn un dn
+      pub second-refusal : (r : PreparedScatter) → r .answer ≡ nine → isDone nine ≡ false → Prepares r (listsAnswer o s v h on sn un dn) v h on sn un dn
       second-refusal r q n = record { answered = q ∙ answer-is; ready = λ d. never (sym d ∙ ap isDone (sym answer-is) ∙ n) }
 
-      pub prepared : {batch window : CompiledReplay} → FoundOn o s batch window → isDone nine ≡ true → (r : PreparedOperand) → r .scatter ≡ preparedAt s a b c z → r .layout ≡ layoutOf (o .extents) (o .strides) → r .strides ≡ padded rankLimit (pos 0) (s .result .strides) → r .offset ≡ e
-          → Prepares r (listsAnswer o s v h on sn un dn) v h on sn un dn
-      prepared q d r es el et eo =
+      pub prepared : {batch window : CompiledReplay} → FoundOn o s batch window → isDone nine ≡ true → (r : PreparedScatter) → r ≡ preparedAt s a b c z → Prepares r (listsAnswer o s v h on sn un dn) v h on sn un dn
+      prepared q d r es =
           let p = ap isDone (sym bounds-are) ∙ d in
           record {
             answered = ap (λ (x : PreparedScatter). x .answer) es ∙ sym (done-is nine d) ∙ answer-is;
@@ -82,15 +79,12 @@ module _ (o : View) (s : Scatter) (e a b c : ℤ) where
               scatter = subst (λ (x : PreparedScatter). scatters.Ready x h sn un dn) (sym es) (ready-at s a b c (q .scatter .accepted) sn un dn z ez (scatter-bounds v h on sn un dn p));
               sizes = q .sizes;
               bounds = operand-bounds v h on sn un dn p;
-              layout = el;
-              strides = et;
-              offset = eo;
             };
           }
 
 -- ---- any views
 module _ (o : View) (s : Scatter) (v x y z : View) (on sn un dn : ℕ) where
-  pub same-views : (r : PreparedOperand) {t : Bool} → t ≡ sameFour v (onViews s x y z) o s → t ≡ true
+  pub same-views : (r : PreparedScatter) {t : Bool} → t ≡ sameFour v (onViews s x y z) o s → t ≡ true
       → Prepares r (listsAnswer o s (viewWith (o .extents) (o .strides) (v .offset)) (placed s (x .offset) (y .offset) (z .offset)) on sn un dn) (viewWith (o .extents) (o .strides) (v .offset)) (placed s (x .offset) (y .offset) (z .offset)) on sn un dn
       → Prepares r (listsAnswer o s v (onViews s x y z) on sn un dn) v (onViews s x y z) on sn un dn
   same-views r e d p =
@@ -100,11 +94,18 @@ module _ (o : View) (s : Scatter) (v x y z : View) (on sn un dn : ℕ) where
       subst (λ (u : View). Prepares r (listsAnswer o s u (onViews s x y z) on sn un dn) u (onViews s x y z) on sn un dn) k
       (subst (λ (h : Scatter). Prepares r (listsAnswer o s (viewWith (o .extents) (o .strides) (v .offset)) h on sn un dn) (viewWith (o .extents) (o .strides) (v .offset)) h on sn un dn) (views-are s x y z sn un dn (t .1)) p)
 
-  pub other-views : (r : PreparedOperand) {t : Bool} {first answer : Answer} → t ≡ sameFour v (onViews s x y z) o s → t ≡ false → first ≡ compileRefusal o s → answer ≡ orElse first A.PlanLayoutMismatch → r .scatter .answer ≡ answer
-      → Prepares r (listsAnswer o s v (onViews s x y z) on sn un dn) v (onViews s x y z) on sn un dn
-  other-views r {first = first} e d f k m =
-      let l : listsAnswer o s v (onViews s x y z) on sn un dn ≡ orElse (compileRefusal o s) A.PlanLayoutMismatch = ap (λ (b : Bool). orElse (compileRefusal o s) (orElse (planRefusal b) (boundsRefusal v (onViews s x y z) on sn un dn))) (sym e ∙ d) in
-      record { answered = m ∙ k ∙ ap (λ (w : Answer). orElse w A.PlanLayoutMismatch) f ∙ sym l; ready = λ t. never (sym t ∙ ap isDone l ∙ refuses (compileRefusal o s)) }
+  -- whether they have the layouts, what compile answers, 8, and the first of the two that refuses
+  module _ {t : Bool} {first eight answer : Answer} (e : t ≡ sameFour v (onViews s x y z) o s) (ef : first ≡ compileRefusal o s) (ee : eight ≡ planRefusal t) (ea : answer ≡ orElse first eight) where
+    answer-is-first : answer ≡ orElse (compileRefusal o s) (planRefusal (sameFour v (onViews s x y z) o s))
+    answer-is-first = ea ∙ λ i. orElse (ef i) ((ee ∙ ap planRefusal e) i)
+
+    pub refused-first : (r : PreparedScatter) → r .answer ≡ answer → isDone answer ≡ false → Prepares r (listsAnswer o s v (onViews s x y z) on sn un dn) v (onViews s x y z) on sn un dn
+    refused-first r q n =
+        let l : listsAnswer o s v (onViews s x y z) on sn un dn ≡ answer = first-two (compileRefusal o s) (planRefusal (sameFour v (onViews s x y z) o s)) _ (ap isDone (sym answer-is-first) ∙ n) ∙ sym answer-is-first in
+        record { answered = q ∙ sym l; ready = λ d. never (sym d ∙ ap isDone l ∙ n) }
+
+    pub passed-first : isDone answer ≡ true → (isDone first ≡ true) × (t ≡ true)
+    passed-first d = let p = or-done first eight (ap isDone (sym ea) ∙ d) in (p .0, plan-done t (ap isDone (sym ee) ∙ p .1))
 
 -- ---- a call that is accepted with the operand is accepted without it
 pub alone-done : (o : View) (s : Scatter) (v : View) (h : Scatter) (on sn un dn : ℕ) → isDone (listsAnswer o s v h on sn un dn) ≡ true → isDone (scatter-lists.listsAnswer s h sn un dn) ≡ true

@@ -7,12 +7,12 @@ use Rattle.indexing.specs.Coordinates.{View}
 use Rattle.indexing.specs.Scatter.{Scatter}
 use Rattle.layout.specs.declared.Answer.{Answer}
 use Rattle.layout.specs.Answers.{orElse}
-use Rattle.calls.specs.Calls.{viewWith, planRefusal, ScatterCall}
+use Rattle.calls.specs.Calls.{planRefusal, ScatterCall}
 use Rattle.operand_checks.specs.Refusals.{compileRefusal}
-use Rattle.scatter_lists.specs.Lists.{onViews, placed}
+use Rattle.scatter_move.specs.declared.PreparedScatter.{PreparedScatter}
+use Rattle.scatter_lists.specs.Lists.{onViews}
 use Rattle.operand_calls.specs.Calls.{sameFour, boundsRefusal}
 use Rattle.operand_calls.specs.Prepared.{Prepares}
-use Rattle.operand_calls.specs.declared.PreparedOperand.{PreparedOperand}
 
 -- compile's refusal; then 8 where a view has another layout than was compiled for; then 9 for the views in turn, given the lengths of their slices
 abbrev pub listsAnswer : View → Scatter → View → Scatter → ℕ → ℕ → ℕ → ℕ → Answer
@@ -23,10 +23,6 @@ abbrev pub byLists : {A : Type 0} → View → Scatter → View → View → Vie
 byLists o s v x y z n starts updates =
     record { answer = λ m. listsAnswer o s v (onViews s x y z) n (length starts) (length updates) m; scatter = onViews s x y z; starts = starts; updates = updates }
 
--- what is prepared for such a call: on any views, and on views that begin at e, a, b and c
-abbrev pub ListedOn : PreparedOperand → View → Scatter → View → View → View → View → ℕ → ℕ → ℕ → ℕ → Type 0
+-- what is prepared for such a call
+abbrev pub ListedOn : PreparedScatter → View → Scatter → View → View → View → View → ℕ → ℕ → ℕ → ℕ → Type 0
 ListedOn r o s v x y z on sn un dn = Prepares r (listsAnswer o s v (onViews s x y z) on sn un dn) v (onViews s x y z) on sn un dn
-
-abbrev pub ListedAt : PreparedOperand → View → Scatter → ℤ → ℤ → ℤ → ℤ → ℕ → ℕ → ℕ → ℕ → Type 0
-ListedAt r o s e a b c on sn un dn =
-    Prepares r (listsAnswer o s (viewWith (o .extents) (o .strides) e) (placed s a b c) on sn un dn) (viewWith (o .extents) (o .strides) e) (placed s a b c) on sn un dn

@@ -15,9 +15,8 @@ use Rattle.indexing.specs.Scatter.{Scatter}
 use Rattle.indexing.specs.Operand.{operandCopied}
 use Rattle.layout.specs.declared.Answer.{Answer}
 use Rattle.layout.specs.declared.CallAnswer.{CallAnswer}
-use Rattle.layout.specs.declared.Layout.{Layout}
 use Rattle.layout.specs.Answers.{isDone, orElse}
-use Rattle.layout.specs.Layouts.{rankLimit, padded, layoutOf}
+use Rattle.layout.specs.Layouts.{rankLimit, padded}
 use Rattle.layout.specs.Reach.{viewReach, bufferBounds}
 use Rattle.layout.proofs.Fill.{padded-back}
 use Rattle.checks.proofs.Made.{or-done}
@@ -29,10 +28,11 @@ use Rattle.calls.specs.Calls.{reachIn, Does, asIs}
 use Rattle.runs.proofs.Place.{read}
 use Rattle.operand_checks.proofs.Sizes.{Sized, sized-on}
 use Rattle.operand_copy.specs.Views.{heldView}
-use Rattle.operand_calls.specs.declared.PreparedOperand.{PreparedOperand}
-use Rattle.operand_calls.specs.Prepared.{Ready}
+use Rattle.scatter_move.specs.declared.PreparedScatter.{PreparedScatter}
+use Rattle.operand_calls.specs.declared.PreparedCopy.{PreparedCopy}
+use Rattle.operand_calls.specs.Prepared.{copyOf, Ready}
 
-module _ (p : PreparedOperand) (o : View) (s : Scatter) (on sn un dn : ℕ) (r : Ready p o s on sn un dn) where
+module _ (p : PreparedScatter) (c : PreparedCopy) (o : View) (s : Scatter) (on sn un dn : ℕ) (r : Ready p o s on sn un dn) (e : c ≡ copyOf o s) where
   k : Sized (o .extents) (o .strides) (s .indices .extents) (s .indices .strides) (s .updates .extents) (s .updates .strides) (s .result .extents) (s .result .strides)
   k = sized-on o s (r .sizes)
 
@@ -79,28 +79,27 @@ module _ (p : PreparedOperand) (o : View) (s : Scatter) (on sn un dn : ℕ) (r :
       }
 
   -- THE CELLS OF THE COPY lie in the slices
-  pub copy-window : SFits w64 (p .offset) → SFits w64 (p .scatter .dest) → Window (read (p .offset)) (read (p .scatter .dest)) (p .layout .extents) (p .layout .strides) (p .strides) (p .layout .rank) on dn
+  pub copy-window : SFits w64 (c .offset) → SFits w64 (p .dest) → Window (read (c .offset)) (read (p .dest)) (c .layout .extents) (c .layout .strides) (c .strides) (c .layout .rank) on dn
   copy-window fo fd =
-      subst (λ (x : ℤ). Window x (read (p .scatter .dest)) (p .layout .extents) (p .layout .strides) (p .strides) (p .layout .rank) on dn) (sym (back fo ∙ r .offset))
-      (subst (λ (x : ℤ). Window (o .offset) x (p .layout .extents) (p .layout .strides) (p .strides) (p .layout .rank) on dn) (sym (back fd ∙ r .scatter .dest))
-      (subst (λ (l : List ℤ). Window (o .offset) (s .result .offset) (p .layout .extents) (p .layout .strides) l (p .layout .rank) on dn) (sym (r .strides))
-      (subst (λ (l : Layout). Window (o .offset) (s .result .offset) (l .extents) (l .strides) (padded rankLimit (pos 0) (s .result .strides)) (l .rank) on dn) (sym (r .layout)) held)))
+      subst (λ (x : ℤ). Window x (read (p .dest)) (c .layout .extents) (c .layout .strides) (c .strides) (c .layout .rank) on dn) (sym (back fo))
+      (subst (λ (x : ℤ). Window (c .offset) x (c .layout .extents) (c .layout .strides) (c .strides) (c .layout .rank) on dn) (sym (back fd ∙ r .scatter .dest))
+      (subst (λ (k : PreparedCopy). Window (k .offset) (s .result .offset) (k .layout .extents) (k .layout .strides) (k .strides) (k .layout .rank) on dn) (sym e) held))
 
-  operand-is : heldView (p .layout .extents) (p .layout .strides) (p .layout .rank) (p .offset) ≡ o
+  operand-is : heldView (c .layout .extents) (c .layout .strides) (c .layout .rank) (c .offset) ≡ o
   operand-is =
-      ap₂ (λ (l : Layout) (x : ℤ). heldView (l .extents) (l .strides) (l .rank) x) (r .layout) (r .offset)
+      ap (λ (k : PreparedCopy). heldView (k .layout .extents) (k .layout .strides) (k .layout .rank) (k .offset)) e
       ∙ λ i. record { extents = extents-back i; strides = operand-back i; offset = o .offset }
 
-  result-is : heldView (p .layout .extents) (p .strides) (p .layout .rank) (p .scatter .dest) ≡ s .result
+  result-is : heldView (c .layout .extents) (c .strides) (c .layout .rank) (p .dest) ≡ s .result
   result-is =
-      ap₂ (λ (l : Layout) (m : List ℤ). heldView (l .extents) m (l .rank) (p .scatter .dest)) (r .layout) (r .strides)
+      ap (λ (k : PreparedCopy). heldView (k .layout .extents) (k .strides) (k .layout .rank) (p .dest)) e
       ∙ λ i. record { extents = (extents-back ∙ sym (k .same)) i; strides = dest-back i; offset = r .scatter .dest i }
 
   -- and what it leaves is the operand's copy
-  pub copy-leaves : {A : Type 0} (z : A) (from into : List A) → SFits w64 (p .offset) → SFits w64 (p .scatter .dest)
-      → operandCopied z (heldView (p .layout .extents) (p .layout .strides) (p .layout .rank) (read (p .offset))) (heldView (p .layout .extents) (p .strides) (p .layout .rank) (read (p .scatter .dest))) from into ≡ operandCopied z o (s .result) from into
+  pub copy-leaves : {A : Type 0} (z : A) (from into : List A) → SFits w64 (c .offset) → SFits w64 (p .dest)
+      → operandCopied z (heldView (c .layout .extents) (c .layout .strides) (c .layout .rank) (read (c .offset))) (heldView (c .layout .extents) (c .strides) (c .layout .rank) (read (p .dest))) from into ≡ operandCopied z o (s .result) from into
   copy-leaves z from into fo fd =
-      ap₂ (λ (x y : ℤ). operandCopied z (heldView (p .layout .extents) (p .layout .strides) (p .layout .rank) x) (heldView (p .layout .extents) (p .strides) (p .layout .rank) y) from into) (back fo) (back fd)
+      ap₂ (λ (x y : ℤ). operandCopied z (heldView (c .layout .extents) (c .layout .strides) (c .layout .rank) x) (heldView (c .layout .extents) (c .strides) (c .layout .rank) y) from into) (back fo) (back fd)
       ∙ ap₂ (λ (v w : View). operandCopied z v w from into) operand-is result-is
 
 -- the scatter's move on what the copy left

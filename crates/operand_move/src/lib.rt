@@ -9,22 +9,34 @@ ghost use Rattle.indexing.specs.Slid.{slidScatter};
 ghost use Rattle.rules.specs.Rules.{ruleI32, ruleF64};
 ghost use Rattle.calls.specs.Calls.{Does, asIs};
 ghost use Rattle.operand_calls.specs.Prepared.{Movable};
-ghost use Rattle.operand_move.specs.Copying.{Copying};
 use layout::CallAnswer;
-use operand_calls::PreparedOperand;
+use operand_calls::PreparedCopy;
 use rules::Rule;
 use rules::RuleF64;
+use scatter_move::PreparedScatter;
 
-// The operand's copy into the destination.
-fn copy_i32(p: PreparedOperand, operand: &[i32], into: &mut [i32])
-    requires { ⌜ Copying p (length (now operand)) (length (now into)) ⌝ }
-    ensures { λ _. ⌜ ((k : Copying p (length (now (operand .entry))) (length (now (into .entry)))) → now (into .exit) ≡ operandCopied (pos 0) (k .operand) (k .scatter .result) (now (operand .entry)) (now (into .entry))) ⌝ }
+// A scatter of i32 with an operand that is prepared: the operand is copied, and the updates are put on it; where it is refused nothing is
+// done.
+pub fn move_i32(
+    rule: Rule,
+    p: PreparedScatter,
+    c: PreparedCopy,
+    operand: &[i32],
+    starts: &[i64],
+    source: &[i32],
+    into: &mut [i32],
+) -> CallAnswer
+    requires { ⌜ Movable p c (length (now operand)) (length (now starts)) (length (now source)) (length (now into)) ⌝ }
+    ensures { λ r. ⌜ ((k : Movable p c (length (now (operand .entry))) (length (now (starts .entry))) (length (now (source .entry))) (length (now (into .entry)))) → Does asIs (p .answer) (slidScatter (k .scatter) (now (starts .entry))) (scattered (ruleI32 rule) (pos 0) (k .scatter) (now (starts .entry)) (now (source .entry)) (operandCopied (pos 0) (k .operand) (k .scatter .result) (now (operand .entry)) (now (into .entry)))) (now (into .entry)) (now (into .exit)) r) ⌝ }
 {
-    let scatter = p.scatter;
-    let layout = p.layout;
+    let answer = p.answer;
+    if !layout::is_done(answer) {
+        return layout::refused_call(answer);
+    }
+    let layout = c.layout;
     let extents = layout.extents;
     let ss = layout.strides;
-    let ds = p.strides;
+    let ds = c.strides;
     operand_copy::copy_operand(
         operand,
         into,
@@ -32,43 +44,34 @@ fn copy_i32(p: PreparedOperand, operand: &[i32], into: &mut [i32])
         ss,
         ds,
         layout.rank,
-        p.offset,
-        scatter.dest,
+        c.offset,
+        p.dest,
     );
+    scatter_move::move_i32(rule, p, starts, source, into)
 }
 
-// A scatter of i32 with an operand that is prepared: the operand is copied, and the updates are put on it; where it is refused nothing is
+// A scatter of f64 with an operand that is prepared: the operand is copied, and the updates are put on it; where it is refused nothing is
 // done.
-pub fn move_i32(
-    rule: Rule,
-    p: PreparedOperand,
-    operand: &[i32],
+pub fn move_f64(
+    rule: RuleF64,
+    p: PreparedScatter,
+    c: PreparedCopy,
+    operand: &[f64],
     starts: &[i64],
-    source: &[i32],
-    into: &mut [i32],
+    source: &[f64],
+    into: &mut [f64],
 ) -> CallAnswer
-    requires { ⌜ Movable p (length (now operand)) (length (now starts)) (length (now source)) (length (now into)) ⌝ }
-    ensures { λ r. ⌜ ((k : Movable p (length (now (operand .entry))) (length (now (starts .entry))) (length (now (source .entry))) (length (now (into .entry)))) → Does asIs (p .scatter .answer) (slidScatter (k .scatter) (now (starts .entry))) (scattered (ruleI32 rule) (pos 0) (k .scatter) (now (starts .entry)) (now (source .entry)) (operandCopied (pos 0) (k .operand) (k .scatter .result) (now (operand .entry)) (now (into .entry)))) (now (into .entry)) (now (into .exit)) r) ⌝ }
+    requires { ⌜ Movable p c (length (now operand)) (length (now starts)) (length (now source)) (length (now into)) ⌝ }
+    ensures { λ r. ⌜ ((k : Movable p c (length (now (operand .entry))) (length (now (starts .entry))) (length (now (source .entry))) (length (now (into .entry)))) → Does asIs (p .answer) (slidScatter (k .scatter) (now (starts .entry))) (scattered (ruleF64 rule) nan (k .scatter) (now (starts .entry)) (now (source .entry)) (operandCopied nan (k .operand) (k .scatter .result) (now (operand .entry)) (now (into .entry)))) (now (into .entry)) (now (into .exit)) r) ⌝ }
 {
-    let scatter = p.scatter;
-    let answer = scatter.answer;
+    let answer = p.answer;
     if !layout::is_done(answer) {
         return layout::refused_call(answer);
     }
-    copy_i32(p, operand, into);
-    scatter_move::move_i32(rule, scatter, starts, source, into)
-}
-
-// The operand's copy into the destination.
-fn copy_f64(p: PreparedOperand, operand: &[f64], into: &mut [f64])
-    requires { ⌜ Copying p (length (now operand)) (length (now into)) ⌝ }
-    ensures { λ _. ⌜ ((k : Copying p (length (now (operand .entry))) (length (now (into .entry)))) → now (into .exit) ≡ operandCopied nan (k .operand) (k .scatter .result) (now (operand .entry)) (now (into .entry))) ⌝ }
-{
-    let scatter = p.scatter;
-    let layout = p.layout;
+    let layout = c.layout;
     let extents = layout.extents;
     let ss = layout.strides;
-    let ds = p.strides;
+    let ds = c.strides;
     operand_copy_f64::copy_operand(
         operand,
         into,
@@ -76,29 +79,8 @@ fn copy_f64(p: PreparedOperand, operand: &[f64], into: &mut [f64])
         ss,
         ds,
         layout.rank,
-        p.offset,
-        scatter.dest,
+        c.offset,
+        p.dest,
     );
-}
-
-// A scatter of f64 with an operand that is prepared: the operand is copied, and the updates are put on it; where it is refused nothing is
-// done.
-pub fn move_f64(
-    rule: RuleF64,
-    p: PreparedOperand,
-    operand: &[f64],
-    starts: &[i64],
-    source: &[f64],
-    into: &mut [f64],
-) -> CallAnswer
-    requires { ⌜ Movable p (length (now operand)) (length (now starts)) (length (now source)) (length (now into)) ⌝ }
-    ensures { λ r. ⌜ ((k : Movable p (length (now (operand .entry))) (length (now (starts .entry))) (length (now (source .entry))) (length (now (into .entry)))) → Does asIs (p .scatter .answer) (slidScatter (k .scatter) (now (starts .entry))) (scattered (ruleF64 rule) nan (k .scatter) (now (starts .entry)) (now (source .entry)) (operandCopied nan (k .operand) (k .scatter .result) (now (operand .entry)) (now (into .entry)))) (now (into .entry)) (now (into .exit)) r) ⌝ }
-{
-    let scatter = p.scatter;
-    let answer = scatter.answer;
-    if !layout::is_done(answer) {
-        return layout::refused_call(answer);
-    }
-    copy_f64(p, operand, into);
-    scatter_move::move_f64(rule, scatter, starts, source, into)
+    scatter_move::move_f64(rule, p, starts, source, into)
 }

@@ -35,10 +35,10 @@ use Rattle.operand_plan.specs.declared.OperandPlan.{OperandPlan}
 use Rattle.operand_plan.specs.Plan.{heldOperand, heldScatter, isCompiled}
 use Rattle.operand_plan.proofs.Compiled.{parts-are}
 use Rattle.operand_calls.specs.Calls.{sameFour, boundsRefusal}
-use Rattle.operand_calls.specs.Prepared.{Prepares}
-use Rattle.operand_calls.specs.declared.PreparedOperand.{PreparedOperand}
+use Rattle.operand_calls.specs.Prepared.{copyOf, Prepares}
 use Rattle.operand_calls.proofs.Four.{operand-bounds, scatter-bounds}
 use Rattle.operand_scatter.specs.Calls.{planFits, callAnswer}
+use Rattle.operand_scatter.specs.Copies.{copyBy}
 
 -- ---- the answer of a call
 pub answer-is : (p : OperandPlan) (b w : List (List ℤ)) (v : C.View) (s : Scatter) (on sn un dn : ℕ) {fits : Bool} {k x y z : Reach} {eight nine answer : Answer} → fits ≡ planFits p b w v s → eight ≡ planRefusal fits
@@ -95,16 +95,22 @@ module _ (p : OperandPlan) (b w : List (List ℤ)) (o i u d : View) (on sn un dn
       let (ed, sd) = result-same in
       (λ j. isDone (sizesRefusal (eo j) (so j) (a .0 j) (a .1 j) (c .0 j) (c .1 j) (ed j) (sd j))) ∙ parts .0
 
-  pub prepared : (r : PreparedOperand) (reach : Reach) → r .scatter ≡ preparedBy (p .scatter) b i u d reach → reach ≡ reachIn (h .result) dn → r .layout ≡ p .operand → r .strides ≡ p .scatter .dest .strides → r .offset ≡ o .offset → Prepares r (callAnswer p b w v h on sn un dn) v h on sn un dn
-  prepared r reach e g el et eo =
+  pub prepared : (r : PreparedScatter) (reach : Reach) → r ≡ preparedBy (p .scatter) b i u d reach → reach ≡ reachIn (h .result) dn → Prepares r (callAnswer p b w v h on sn un dn) v h on sn un dn
+  prepared r reach e g =
       record {
         answered = ap (λ (q : PreparedScatter). q .answer) e ∙ sym (done-is (callAnswer p b w v h on sn un dn) ok);
         ready = λ t. record {
           scatter = subst (λ (q : PreparedScatter). scatters.Ready q h sn un dn) (sym e) (scatter-planned.ready (p .scatter) b w i u d sn un dn scatter-done reach g);
           sizes = sizes;
           bounds = operand-bounds v h on sn un dn (tests .1);
-          layout = el ∙ parts .1 ∙ ap₂ layoutOf (sym (operand-same .0)) (sym (operand-same .1));
-          strides = et ∙ ap (λ (q : ScatterPlan). q .dest .strides) (scatter-compiled.compiled-is (p .scatter) b w compiled .1) ∙ ap (λ (l : List ℤ). padded rankLimit (pos 0) l) (sym (result-same .1));
-          offset = eo;
         };
+      }
+
+  -- the plan's layouts are those of the copy
+  pub copy-is : copyBy p (o .offset) ≡ copyOf v h
+  copy-is j =
+      record {
+        layout = (parts .1 ∙ ap₂ layoutOf (sym (operand-same .0)) (sym (operand-same .1))) j;
+        strides = (ap (λ (q : ScatterPlan). q .dest .strides) (scatter-compiled.compiled-is (p .scatter) b w compiled .1) ∙ ap (λ (l : List ℤ). padded rankLimit (pos 0) l) (sym (result-same .1))) j;
+        offset = o .offset;
       }

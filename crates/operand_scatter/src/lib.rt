@@ -11,13 +11,15 @@ ghost use Rattle.scatter.specs.Calls.{scatterOf};
 ghost use Rattle.operand_calls.specs.Calls.{ScattersOn};
 ghost use Rattle.operand_calls.specs.Prepared.{Prepares};
 ghost use Rattle.operand_scatter.specs.Calls.{planFits, callAnswer, byPlan};
+ghost use Rattle.operand_scatter.specs.Copies.{copyBy};
 use layout::CallAnswer;
 use layout::RAW_FUSED_RANK_LIMIT;
 use layout::View;
-use operand_calls::PreparedOperand;
+use operand_calls::PreparedCopy;
 use operand_plan::OperandPlan;
 use rules::Rule;
 use rules::RuleF64;
+use scatter_move::PreparedScatter;
 
 // Whether the views have the plan's layouts, and plan and rows are what compile gives.
 fn plan_fits(
@@ -65,7 +67,7 @@ fn prepare(
     starts_len: usize,
     updates_len: usize,
     dest_len: usize,
-) -> PreparedOperand
+) -> PreparedScatter
     ensures { λ r. ⌜ Prepares r (callAnswer plan «batch_rows» «window_rows» (viewOf operand) (scatterOf (plan .scatter) index updates dest) «operand_len» «starts_len» «updates_len» «dest_len») (viewOf operand) (scatterOf (plan .scatter) index updates dest) «operand_len» «starts_len» «updates_len» «dest_len» ⌝ }
 {
     let fits = plan_fits(plan, batch_rows, window_rows, operand, index, updates, dest);
@@ -77,18 +79,24 @@ fn prepare(
     let nine = operand_calls::check_bounds(w, x, y, z);
     let answer = checks::or_else(eight, nine);
     if !layout::is_done(answer) {
-        return operand_calls::refused(answer);
+        return scatter_move::refused(answer);
     }
     let inner = plan.scatter;
-    let scatter = scatter::prepared_by(inner, batch_rows, window_rows, index, updates, dest, z);
+    scatter::prepared_by(inner, batch_rows, window_rows, index, updates, dest, z)
+}
+
+// What a call copies, by the plan's layouts.
+fn copy_by(plan: OperandPlan, offset: i64) -> PreparedCopy
+    ensures { λ r. ⌜ r ≡ copyBy plan offset ⌝ }
+{
+    let inner = plan.scatter;
     let layout = plan.operand;
     let to = inner.dest;
     let strides = to.strides;
-    PreparedOperand {
-        scatter,
+    PreparedCopy {
         layout,
         strides,
-        offset: operand.offset,
+        offset,
     }
 }
 
@@ -122,7 +130,8 @@ pub fn scatter_i32(
         source.len(),
         into.len(),
     );
-    operand_move::move_i32(rule, p, from, starts, source, into)
+    let c = copy_by(plan, operand.offset);
+    operand_move::move_i32(rule, p, c, from, starts, source, into)
 }
 
 // The same for f64.
@@ -155,5 +164,6 @@ pub fn scatter_f64(
         source.len(),
         into.len(),
     );
-    operand_move::move_f64(rule, p, from, starts, source, into)
+    let c = copy_by(plan, operand.offset);
+    operand_move::move_f64(rule, p, c, from, starts, source, into)
 }

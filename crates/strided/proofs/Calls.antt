@@ -21,7 +21,7 @@ use Rattle.scatter_move.specs.declared.PreparedScatter.{PreparedScatter}
 use Rattle.scatter_move.proofs.Parts as scatter-parts
 use Rattle.operand_calls.specs.Calls.{Operand, ScattersOn}
 use Rattle.operand_calls.specs.Prepared as operands
-use Rattle.operand_calls.specs.declared.PreparedOperand.{PreparedOperand}
+use Rattle.operand_calls.specs.declared.PreparedCopy.{PreparedCopy}
 use Rattle.operand_calls.proofs.Four as operand-parts
 use Rattle.strided.specs.Words.{words, bare}
 use Rattle.strided.specs.Named.{ruleRefusal}
@@ -38,12 +38,13 @@ pub scatter-handed : {A : Type 0} (z : A) (rule : A → A → A) (call : Scatter
     → handed ≡ words r → Scatters z rule words call before after handed
 scatter-handed z rule call p before after r handed q m w = said words w (by-answer (q .answered) (m (scatter-parts.movable q)))
 
-pub operand-handed : {A : Type 0} (z : A) (rule : A → A → A) (o : Operand A) (call : ScatterCall A) (p : PreparedOperand) (before after : List A) (r : CallAnswer) (handed : List ℕ)
+pub operand-handed : {A : Type 0} (z : A) (rule : A → A → A) (o : Operand A) (call : ScatterCall A) (p : PreparedScatter) (c : PreparedCopy) (before after : List A) (r : CallAnswer) (handed : List ℕ)
     → operands.Prepares p (call .answer (length before)) (o .view) (call .scatter) (length (o .elements)) (length (call .starts)) (length (call .updates)) (length before)
-    → ((k : operands.Movable p (length (o .elements)) (length (call .starts)) (length (call .updates)) (length before))
-    → Does asIs (p .scatter .answer) (slidScatter (k .scatter) (call .starts)) (scattered rule z (k .scatter) (call .starts) (call .updates) (operandCopied z (k .operand) (k .scatter .result) (o .elements) before)) before after r)
+    → c ≡ operands.copyOf (o .view) (call .scatter)
+    → ((k : operands.Movable p c (length (o .elements)) (length (call .starts)) (length (call .updates)) (length before))
+    → Does asIs (p .answer) (slidScatter (k .scatter) (call .starts)) (scattered rule z (k .scatter) (call .starts) (call .updates) (operandCopied z (k .operand) (k .scatter .result) (o .elements) before)) before after r)
     → handed ≡ words r → ScattersOn z rule words o call before after handed
-operand-handed z rule o call p before after r handed q m w = said words w (by-answer (q .answered) (m (operand-parts.movable q)))
+operand-handed z rule o call p c before after r handed q e m w = said words w (by-answer (q .answered) (m (operand-parts.movable q (λ d. e))))
 
 -- ---- a call that names its rule by a number
 module _ {A : Type 0} (most n : ℕ) (answer : Answer) (number : ℕ) (leaves before after : List A) (handed : List ℕ) where

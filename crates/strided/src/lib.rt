@@ -545,7 +545,13 @@ pub extern "C" fn strided_raw_scatter_operand_i32(
         dest.len(),
     );
     let by = rule_of(rule);
-    let r = operand_move::move_i32(by, p, operand, starts, updates, dest);
+    let c = operand_calls::copy_from(
+        operand_view_extents,
+        operand_view_strides,
+        dest_view_strides,
+        operand_offset,
+    );
+    let r = operand_move::move_i32(by, p, c, operand, starts, updates, dest);
     *answer = words_of(r);
 }
 
@@ -622,7 +628,13 @@ pub extern "C" fn strided_raw_scatter_operand_f64(
         dest.len(),
     );
     let by = rule_f64_of(rule, limit);
-    let r = operand_move::move_f64(by, p, operand, starts, updates, dest);
+    let c = operand_calls::copy_from(
+        operand_view_extents,
+        operand_view_strides,
+        dest_view_strides,
+        operand_offset,
+    );
+    let r = operand_move::move_f64(by, p, c, operand, starts, updates, dest);
     *answer = words_of(r);
 }
 

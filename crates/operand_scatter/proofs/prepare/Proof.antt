@@ -1,9 +1,5 @@
-use mathlib.Core.Path.{refl, sym, ap, _∙_}
-use borrow.Author.Needs.{needs}
+use mathlib.Core.Path.{sym, ap, _∙_}
 use borrow.Author.Tests.{not-true, not-false}
-use mir.Syntax.{w64}
-use mir.Val.{SFits}
-use Rattle.integer.specs.Z.{back}
 use Rattle.layout.specs.Answers.{isDone}
 use Rattle.checks.proofs.Held.{never}
 use Rattle.calls.specs.Calls.{viewOf}
@@ -32,8 +28,7 @@ returns-2 c =
     let i = p .before .before in
     let s = i .before .before .before .before .before .before .before .before .before .before in
     let a = answer-is (s .args .plan) (s .args .batch-rows) (s .args .window-rows) (viewOf (s .args .operand)) (scatterOf (s .args .plan .scatter) (s .args .index) (s .args .updates) (s .args .dest)) (s .args .operand-len) (s .args .starts-len) (s .args .updates-len) (s .args .dest-len) (i .before .before .before .before .before .before .before .before .before .plan-fits .ensures) (i .before .before .before .before .before .before .before .before .check-plan .ensures) (i .before .before .before .before .before .before .before .view-reach .ensures) (i .before .before .before .before .before .before .view-reach2 .ensures) (i .before .before .before .before .before .view-reach3 .ensures) (i .before .before .before .before .view-reach4 .ensures) (i .before .before .before .check-bounds .ensures) (i .before .before .or-else .ensures) in
-    let f : SFits w64 (s .args .operand .offset) = search needs in
-    prepared (s .args .plan) (s .args .batch-rows) (s .args .window-rows) (s .args .operand) (s .args .index) (s .args .updates) (s .args .dest) (s .args .operand-len) (s .args .starts-len) (s .args .updates-len) (s .args .dest-len) (ap isDone (sym a) ∙ sym (i .before .is-done .ensures) ∙ not-false _ (i .if1 .left)) _ _ (p .prepared-by .ensures) (i .before .before .before .before .view-reach4 .ensures) refl refl (back f)
+    prepared (s .args .plan) (s .args .batch-rows) (s .args .window-rows) (s .args .operand) (s .args .index) (s .args .updates) (s .args .dest) (s .args .operand-len) (s .args .starts-len) (s .args .updates-len) (s .args .dest-len) (ap isDone (sym a) ∙ sym (i .before .is-done .ensures) ∙ not-false _ (i .if1 .left)) _ _ (p .prepared-by .ensures) (i .before .before .before .before .view-reach4 .ensures)
 
 pub prepare-spec : {M : Type 1} → statement M
 prepare-spec =
