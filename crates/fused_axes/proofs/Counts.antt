@@ -17,7 +17,7 @@ use Rattle.layout.specs.Nested.{hasZero, nested}
 use Rattle.layout.proofs.Fill.{padded-back}
 use Rattle.checks.proofs.Held.{length-padded, take-map}
 use Rattle.fused_axes.specs.declared.FusedAxis.{FusedAxis}
-use Rattle.fused_axes.specs.Fusing.{theAxis, axesOf, longAxes, sorted, mergedDim, mergedBy, mergedFrom, merged, unitAxis, zeroAxis, fused, kept, copyAxes}
+use Rattle.fused_axes.specs.Fusing.{theAxis, axesOf, longAxes, sorted, mergedDim, mergedBy, mergedFrom, merged, unitAxis, zeroAxis, fused, kept, sorts, copyAxes}
 use Rattle.fused_axes.specs.Same.{merged-count}
 use Rattle.fused_axes.proofs.Turns.{axes-count, long-count, sorted-count}
 
@@ -55,7 +55,7 @@ merged-most (a ∷ l) n h k = omega (arith, merged-count l a)
 -- at least one, and no more than were given
 pub chosen-some : (ds : List ℕ) (ts ss : List ℤ) → 0 < length (copyAxes ds ts ss)
 unfolding copyAxes fused kept
-chosen-some ds ts ss = go (nested ds ts) (hasZero ds)
+chosen-some ds ts ss = go (sorts ds ts) (hasZero ds)
   where
     go : (t u : Bool) → 0 < length (cond t (cond u (zeroAxis ∷ []) (merged (sorted (longAxes (axesOf ds ts ss))))) (merged (longAxes (axesOf ds ts ss))))
     go true true = omega arith
@@ -64,7 +64,7 @@ chosen-some ds ts ss = go (nested ds ts) (hasZero ds)
 
 pub chosen-count : (ds : List ℕ) (ts ss : List ℤ) → length ds ≤ rankLimit → length (copyAxes ds ts ss) ≤ rankLimit
 unfolding copyAxes fused kept
-chosen-count ds ts ss h = go (nested ds ts) (hasZero ds)
+chosen-count ds ts ss h = go (sorts ds ts) (hasZero ds)
   where
     go : (t u : Bool) → length (cond t (cond u (zeroAxis ∷ []) (merged (sorted (longAxes (axesOf ds ts ss))))) (merged (longAxes (axesOf ds ts ss)))) ≤ rankLimit
     go true true = omega arith

@@ -1,12 +1,13 @@
 -- The copy over the fused axes is the operand's copy where no two cells of the destination share a place, and in general it is not; over the axes in their order it always is. For any rank and any element type. Assumes nothing.
 use mathlib.Core.Path.{_≡_, refl, sym, ap, ap₂, _∙_, subst}
-use mathlib.Core.Bool.{Bool, true, false, cond}
+use mathlib.Core.Bool.{Bool, true, false, cond, not}
 use mathlib.Core.List.{List, [], _∷_}
 use Prim.Native.Nat.{ℕ, _<_}
 use native.Mathlib.Nat.{zero-mul}
 use native.Mathlib.Omega.{arith}
 use lib.ListN.{length}
 use lib.IntN.{ℤ, _+ℤ_, +ℤ-comm}
+use Rattle.integer.specs.Tests.{and-true}
 use Rattle.integer.specs.Laws.{+ℤ-cancel-r}
 use Rattle.indexing.specs.Coordinates.{View, product, unravel, dot, Within, elementAt, store}
 use Rattle.indexing.specs.Odometer.{offsetAt}
@@ -18,10 +19,15 @@ use Rattle.layout.specs.Nested.{hasZero, nested}
 use Rattle.layout.specs.Distinct.{nested-distinct}
 use Rattle.layout.specs.Laws.{no-cells}
 use Rattle.fused_axes.specs.declared.FusedAxis.{FusedAxis}
-use Rattle.fused_axes.specs.Fusing.{copyTurn, cellsCopied, axesCopied, dims, dsts, srcs, axesOf, longAxes, sorted, merged, zeroAxis, fused, kept, copyAxes}
+use Rattle.fused_axes.specs.Fusing.{copyTurn, cellsCopied, axesCopied, dims, dsts, srcs, axesOf, longAxes, sorted, merged, zeroAxis, fused, kept, rising, sorts, copyAxes}
 use Rattle.fused_axes.specs.Copies.{Has}
 use Rattle.fused_axes.specs.Same.{Same, long-same, merged-same, same-copied}
 use Rattle.fused_axes.specs.Orders.{readAt, writeAt, Once, has-cell, sorted-alike, product-sorted, alike-copied}
+
+-- axes are put into another order only where they are nested
+sorts-nested : (ds : List ℕ) (ts : List ℤ) → sorts ds ts ≡ true → nested ds ts ≡ true
+unfolding sorts
+sorts-nested ds ts e = and-true (not (rising ts)) (nested ds ts) e .1
 
 -- no two coordinates share an offset
 abbrev pub Apart : List ℕ → List ℤ → Type 0
@@ -118,10 +124,10 @@ module _ (ds : List ℕ) (ts ss : List ℤ) (lt : length ts ≡ length ds) (ls :
     -- and so over the axes chosen
     pub chosen-copied : {A : Type 0} (z : A) (from into : List A) → axesCopied z from o d (copyAxes ds ts ss) into ≡ cellsCopied z from o d ds ss ts into
     unfolding copyAxes
-    chosen-copied z from into = go (nested ds ts) refl
+    chosen-copied z from into = go (sorts ds ts) refl
       where
-        go : (t : Bool) → nested ds ts ≡ t → axesCopied z from o d (cond t (fused ds ts ss) (kept ds ts ss)) into ≡ cellsCopied z from o d ds ss ts into
-        go true n = fused-copied z from into (nested-apart ds ts lt n)
+        go : (t : Bool) → sorts ds ts ≡ t → axesCopied z from o d (cond t (fused ds ts ss) (kept ds ts ss)) into ≡ cellsCopied z from o d ds ss ts into
+        go true n = fused-copied z from into (nested-apart ds ts lt (sorts-nested ds ts n))
         go false n = kept-copied z from into
 
     -- ---- where the cells are
@@ -147,7 +153,7 @@ module _ (ds : List ℕ) (ts ss : List ℤ) (lt : length ts ≡ length ds) (ls :
     -- every cell over the chosen axes is a cell of the extents
     pub chosen-has : (k : ℕ) → k < product (dims (copyAxes ds ts ss)) → Has (λ j. offsetAt o ds ss j) (λ j. offsetAt d ds ts j) (product ds) (readAt o d (copyAxes ds ts ss) k) (writeAt o d (copyAxes ds ts ss) k)
     unfolding copyAxes fused kept given long product
-    chosen-has k = go (nested ds ts) (hasZero ds) k
+    chosen-has k = go (sorts ds ts) (hasZero ds) k
       where
         go : (t u : Bool) (k : ℕ)
             → let l = cond t (cond u (zeroAxis ∷ []) (merged (sorted long))) (merged long) in
@@ -159,7 +165,7 @@ module _ (ds : List ℕ) (ts ss : List ℤ) (lt : length ts ≡ length ds) (ls :
   -- and there are as many
   pub chosen-total : product (dims (copyAxes ds ts ss)) ≡ product ds
   unfolding copyAxes fused kept given long product
-  chosen-total = go (nested ds ts) (hasZero ds) refl
+  chosen-total = go (sorts ds ts) (hasZero ds) refl
     where
       back : product (dims given) ≡ product ds
       back = as-given (λ x y w. product (dims given) ≡ product x) refl
