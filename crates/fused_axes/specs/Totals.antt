@@ -2,7 +2,7 @@
 use mathlib.Core.Path.{_≡_, refl, sym, ap, _∙_}
 use mathlib.Core.Bool.{Bool, true, false, cond, true≢false}
 use mathlib.Core.List.{List, [], _∷_}
-use Prim.Native.Nat.{ℕ, zero, suc, _*_, _<_, _≤_, _^_}
+use Prim.Native.Nat.{ℕ, zero, suc, _*_, _/_, _<_, _≤_, _^_}
 use native.Mathlib.Nat.{mul-assoc, mul-one, one-mul, mul-le-mul-left}
 use native.Mathlib.Omega.{arith}
 use borrow.Author.Tests.{ne-eqb, leb-true}
@@ -18,7 +18,7 @@ use Rattle.indexing.specs.Fusion.{product-pos}
 use Rattle.layout.specs.Nested.{hasZero}
 use Rattle.layout.specs.Laws.{no-cells, some-cells}
 use Rattle.layout.specs.Spans.{andThenU, totalFrom, totalOf}
-use Rattle.fused_axes.specs.Fusing.{totalLen, fewCells, fusionPays}
+use Rattle.fused_axes.specs.Fusing.{totalLen, fewCells, fewRows, fusionPays}
 
 -- left to right, each step in u64: where no extent is 0 no step is greater than the whole
 total-from : (ds : List ℕ) (acc : ℕ) → acc < 2 ^ 64 → AllPos ds → totalFrom acc ds ≡ checkedU (acc * product ds)
@@ -58,17 +58,18 @@ many-axes zero ds h = absurd (omega arith)
 many-axes (suc rank) ds h = omega arith
 
 -- fusion pays: no more cells than a run counts
-pub pays-few : (rank n : ℕ) (ds : List ℕ) → fusionPays n rank ≡ true → product (take rank ds) ≡ n → n ≤ 2 ^ 63
+pub pays-few : (rank n first : ℕ) (ds : List ℕ) → fusionPays n first rank ≡ true → product (take rank ds) ≡ n → n ≤ 2 ^ 63
 unfolding fusionPays product
-pays-few zero n ds e h = omega arith
-pays-few (suc rank) n ds e h = go (leb n fewCells) (rw (ne-eqb (suc rank) 0 (λ q. omega arith)) at e)
+pays-few zero n first ds e h = omega arith
+pays-few (suc rank) n first ds e h = go (leb n fewCells) (leb (n / fewRows) first) (rw (ne-eqb (suc rank) 0 (λ q. omega arith)) at e)
   where
-    go : (t : Bool) → cond t false (leb n (2 ^ 63)) ≡ true → n ≤ 2 ^ 63
-    go true f = absurd (true≢false (sym f))
-    go false f = leb-true n (2 ^ 63) f
+    go : (t u : Bool) → cond t false (cond u false (leb n (2 ^ 63))) ≡ true → n ≤ 2 ^ 63
+    go true u f = absurd (true≢false (sym f))
+    go false true f = absurd (true≢false (sym f))
+    go false false f = leb-true n (2 ^ 63) f
 
 -- it does not: there are axes
-pub pays-not : (rank n : ℕ) → fusionPays n rank ≡ false → 0 < rank
+pub pays-not : (rank n first : ℕ) → fusionPays n first rank ≡ false → 0 < rank
 unfolding fusionPays
-pays-not zero n e = absurd (true≢false e)
-pays-not (suc rank) n e = omega arith
+pays-not zero n first e = absurd (true≢false e)
+pays-not (suc rank) n first e = omega arith

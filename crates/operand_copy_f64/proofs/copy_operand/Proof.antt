@@ -33,7 +33,7 @@ over-fused-requires c κs =
     let f : tie.After-copy-axes = search in
     let a = start k in
     cells-by _ _ _ _ _ _ (a .fits .s) (a .fits .d) _ _ _ refl refl refl _ _
-    (chosen-cells _ _ _ _ _ _ _ _ (a .pre) (omega (arith, counted k)) (omega (arith, counted k, pays-few (a .args .rank) _ (a .args .extents) (sym (p .pays .ensures) ∙ q .if2 .taken) (counted k))) _ (f .copy-axes .ensures))
+    (chosen-cells _ _ _ _ _ _ _ _ (a .pre) (omega (arith, counted k)) (omega (arith, counted k, pays-few (a .args .rank) _ _ (a .args .extents) (sym (p .pays .ensures) ∙ q .if2 .taken) (counted k))) _ (f .copy-axes .ensures))
 
 same-length : tie.Need-same-length
 same-length c = search needs
@@ -53,7 +53,7 @@ over-axes-requires c κs =
     let q : tie.Else2 = search in
     let a = start k in
     cells-by _ _ _ _ _ _ (a .fits .s) (a .fits .d) _ _ _ refl refl refl _ _
-    (given-cells _ _ _ _ _ _ _ _ (a .pre) (pays-not (a .args .rank) _ (sym (p .pays .ensures) ∙ q .if2 .left)) (omega (arith, counted k)))
+    (given-cells _ _ _ _ _ _ _ _ (a .pre) (pays-not (a .args .rank) _ _ (sym (p .pays .ensures) ∙ q .if2 .left)) (omega (arith, counted k)))
 
 enum-told : tie.Need-enum-told
 enum-told c = search needs
