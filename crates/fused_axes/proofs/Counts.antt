@@ -13,7 +13,7 @@ use Rattle.indexing.specs.Coordinates.{product}
 use Rattle.indexing.specs.Odometer.{AllPos}
 use Rattle.indexing.specs.Fusion.{product-pos}
 use Rattle.layout.specs.Layouts.{rankLimit, padded}
-use Rattle.layout.specs.Nested.{hasZero, nested}
+use Rattle.layout.specs.Nested.{hasZero}
 use Rattle.layout.proofs.Fill.{padded-back}
 use Rattle.checks.proofs.Held.{length-padded, take-map}
 use Rattle.fused_axes.specs.declared.FusedAxis.{FusedAxis}

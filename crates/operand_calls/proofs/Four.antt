@@ -1,6 +1,6 @@
 -- What the answer of a call with an operand tells, and what is prepared by it. Assumes nothing.
-use mathlib.Core.Path.{_≡_, refl, sym, ap, _∙_}
-use mathlib.Core.Bool.{Bool, true, cond}
+use mathlib.Core.Path.{_≡_, sym, ap, _∙_}
+use mathlib.Core.Bool.{true}
 use Prim.Native.Nat.{ℕ}
 use Rattle.indexing.specs.Coordinates.{View}
 use Rattle.indexing.specs.Scatter.{Scatter}

@@ -1,14 +1,12 @@
 -- What a call by lists of a scatter with an operand decides. Assumes nothing.
 use mathlib.Core.Path.{_≡_, refl, sym, ap, subst, _∙_}
 use mathlib.Core.Bool.{Bool, true, false, cond}
-use mathlib.Core.List.{List}
 use Prim.Native.Nat.{ℕ}
 use lib.IntN.{ℤ}
 use Rattle.integer.specs.Tests.{and-true, and-both}
 use Rattle.indexing.specs.Coordinates.{View}
 use Rattle.indexing.specs.Scatter.{Scatter}
 use Rattle.layout.specs.declared.Answer.{Answer}
-use Rattle.layout.specs.declared.Answer.the-variants as A
 use Rattle.layout.specs.declared.Reach.{Reach}
 use Rattle.layout.specs.Answers.{isDone, orElse}
 use Rattle.layout.specs.Reach.{bufferBounds}

@@ -1,5 +1,4 @@
 // Scatter with an operand: the operand's copy and then the scatter's move, for i32 and for f64.
-ghost use mathlib.Core.Path.{_≡_};
 ghost use lib.Ieee.{nan};
 ghost use lib.IntN.{pos};
 ghost use lib.ListN.{length};
