@@ -27,6 +27,14 @@ use Rattle.operand_checks.specs.Examine.{ExaminesOn}
 pub both-done : (x y : Answer) → isDone x ≡ true → isDone y ≡ true → isDone (orElse x y) ≡ true
 both-done x y e f = ap (λ (t : Bool). isDone (cond t y x)) e ∙ f
 
+-- the first refusal of three does not depend on which two are asked first
+pub or-assoc : (x y w : Answer) → orElse (orElse x y) w ≡ orElse x (orElse y w)
+or-assoc x y w = go (isDone x) refl
+  where
+    go : (t : Bool) → isDone x ≡ t → orElse (orElse x y) w ≡ orElse x (orElse y w)
+    go true e = ap (λ (t : Bool). orElse (cond t y x) w) e ∙ sym (ap (λ (t : Bool). cond t (orElse y w) x) e)
+    go false e = ap (λ (t : Bool). orElse (cond t y x) w) e ∙ ap (λ (t : Bool). cond t w x) e ∙ sym (ap (λ (t : Bool). cond t (orElse y w) x) e)
+
 pub extents-same : (de oe : List ℕ) → isDone (extentsRefusal de oe) ≡ true → de ≡ oe
 extents-same de oe e = go (sameBy eqb de oe) refl e
   where

@@ -2,7 +2,9 @@
 // the scatter's without an operand.
 ghost use mathlib.Core.Path.{_≡_};
 ghost use lib.ListN.{length};
-ghost use Rattle.checks.specs.Checks.{viewFrom, nestedRefusal};
+ghost use Rattle.layout.specs.Answers.{orElse};
+ghost use Rattle.layout.specs.Spans.{totalOf, spanned};
+ghost use Rattle.checks.specs.Checks.{viewFrom, nestedRefusal, totalFits, spanFits};
 ghost use Rattle.scatter_checks.specs.Refusals.{scatterFrom};
 ghost use Rattle.operand_checks.specs.Refusals.{layoutsRefusal, extentsRefusal, numbersRefusal, sizesRefusal, compileRefusal};
 ghost use Rattle.operand_checks.specs.Examine.{ExaminesOn};
@@ -48,7 +50,43 @@ fn check_extents(dest: &[u64], operand: &[u64]) -> Answer
     }
 }
 
-// 3 for the products, 7, then 3 for the destination's span and for the operand's.
+// 3 for the products.
+fn check_products(operand: &[u64], index: &[u64], updates: &[u64]) -> Answer
+    ensures { λ r. ⌜ r ≡ orElse (totalFits (totalOf (now (operand .entry)))) (orElse (totalFits (totalOf (now (index .entry)))) (totalFits (totalOf (now (updates .entry))))) ⌝ }
+{
+    let a = checks::check_total(operand);
+    if !layout::is_done(a) {
+        return a;
+    }
+    let b = checks::check_total(index);
+    if !layout::is_done(b) {
+        return b;
+    }
+    checks::check_total(updates)
+}
+
+// 7, then 3 for the destination's span and for the operand's.
+fn check_spans(
+    operand: &[u64],
+    operand_strides: &[i64],
+    dest: &[u64],
+    dest_strides: &[i64],
+) -> Answer
+    requires { ⌜ (length (now «operand_strides») ≡ length (now operand)) × (length (now «dest_strides») ≡ length (now dest)) ⌝ }
+    ensures { λ r. ⌜ r ≡ orElse (extentsRefusal (now (dest .entry)) (now (operand .entry))) (orElse (spanFits (spanned (now (dest .entry)) (now («dest_strides» .entry)))) (spanFits (spanned (now (operand .entry)) (now («operand_strides» .entry))))) ⌝ }
+{
+    let a = check_extents(dest, operand);
+    if !layout::is_done(a) {
+        return a;
+    }
+    let b = checks::check_span(dest, dest_strides);
+    if !layout::is_done(b) {
+        return b;
+    }
+    checks::check_span(operand, operand_strides)
+}
+
+// 3 for the products, 7, then 3 for the spans.
 fn check_numbers(
     operand: &[u64],
     operand_strides: &[i64],
@@ -60,27 +98,9 @@ fn check_numbers(
     requires { ⌜ (length (now «operand_strides») ≡ length (now operand)) × (length (now «dest_strides») ≡ length (now dest)) ⌝ }
     ensures { λ r. ⌜ r ≡ numbersRefusal (now (operand .entry)) (now («operand_strides» .entry)) (now (index .entry)) (now (updates .entry)) (now (dest .entry)) (now («dest_strides» .entry)) ⌝ }
 {
-    let a = checks::check_total(operand);
-    if !layout::is_done(a) {
-        return a;
-    }
-    let b = checks::check_total(index);
-    if !layout::is_done(b) {
-        return b;
-    }
-    let c = checks::check_total(updates);
-    if !layout::is_done(c) {
-        return c;
-    }
-    let d = check_extents(dest, operand);
-    if !layout::is_done(d) {
-        return d;
-    }
-    let e = checks::check_span(dest, dest_strides);
-    if !layout::is_done(e) {
-        return e;
-    }
-    checks::check_span(operand, operand_strides)
+    let products = check_products(operand, index, updates);
+    let spans = check_spans(operand, operand_strides, dest, dest_strides);
+    checks::or_else(products, spans)
 }
 
 // What is asked before 4.

@@ -22,7 +22,7 @@ use Rattle.calls.proofs.Does.{plan-done}
 use Rattle.scatter_checks.specs.Refusals as scatter-refusals
 use Rattle.operand_checks.specs.Refusals.{compileRefusal}
 use Rattle.operand_checks.specs.Examine.{FoundOn}
-use Rattle.operand_checks.proofs.Sizes.{both-done, without-operand}
+use Rattle.operand_checks.proofs.Sizes.{both-done, or-assoc, without-operand}
 use Rattle.scatter_move.specs.Prepared as scatters
 use Rattle.scatter_move.specs.declared.PreparedScatter.{PreparedScatter}
 use Rattle.scatter_lists.specs.Lists.{onViews, placed, preparedAt}
@@ -35,11 +35,7 @@ use Rattle.operand_lists.specs.Lists.{listsAnswer}
 
 -- where one of two answers refuses, those after it are not asked
 first-two : (x y w : Answer) → isDone (orElse x y) ≡ false → orElse x (orElse y w) ≡ orElse x y
-first-two x y w n = go (isDone x) refl n
-  where
-    go : (t : Bool) → isDone x ≡ t → isDone (cond t y x) ≡ false → orElse x (orElse y w) ≡ orElse x y
-    go true e m = ap (λ (t : Bool). cond t (orElse y w) x) e ∙ ap (λ (t : Bool). cond t w y) m ∙ sym (ap (λ (t : Bool). cond t y x) e)
-    go false e m = ap (λ (t : Bool). cond t (orElse y w) x) e ∙ sym (ap (λ (t : Bool). cond t y x) e)
+first-two x y w n = sym (or-assoc x y w) ∙ ap (λ (t : Bool). cond t w (orElse x y)) n
 
 -- ---- views that have the layouts compiled for
 module _ (o : View) (s : Scatter) (e a b c : ℤ) where
