@@ -30,7 +30,8 @@ use Rattle.operand_checks.proofs.Sizes.{Sized, sized-on}
 use Rattle.operand_copy.specs.Views.{heldView}
 use Rattle.scatter_move.specs.declared.PreparedScatter.{PreparedScatter}
 use Rattle.operand_calls.specs.declared.PreparedCopy.{PreparedCopy}
-use Rattle.operand_calls.specs.Prepared.{copyOf, Ready}
+use Rattle.scatter_move.specs.Prepared as scatters
+use Rattle.operand_calls.specs.Prepared.{copyOf, Ready, Movable}
 
 module _ (p : PreparedScatter) (c : PreparedCopy) (o : View) (s : Scatter) (on sn un dn : ℕ) (r : Ready p o s on sn un dn) (e : c ≡ copyOf o s) where
   k : Sized (o .extents) (o .strides) (s .indices .extents) (s .indices .strides) (s .updates .extents) (s .updates .strides) (s .result .extents) (s .result .strides)
@@ -110,3 +111,7 @@ module _ {A : Type 0} (x : Answer) (m : ℕ) (f : List A → List A) (before mid
         answered = d .answered;
         left = d .left ∙ ap (λ (b : Bool). cond b (f mid) mid) t ∙ ap f e ∙ sym (ap (λ (b : Bool). cond b (f copied) before) t);
       }
+
+-- what the scatter's own move asks, on a slice of as many elements
+abbrev pub moving : {p : PreparedScatter} {c : PreparedCopy} {on sn un dn : ℕ} (n : ℕ) → n ≡ dn → (k : Movable p c on sn un dn) → scatters.Movable p sn un n
+moving {p = p} {sn = sn} {un = un} n l k = record { scatter = k .scatter; ready = λ d. subst (λ (m : ℕ). scatters.Ready p (k .scatter) sn un m) (sym l) (k .ready d .scatter) }
