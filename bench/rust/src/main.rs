@@ -148,7 +148,7 @@ fn charts(rounds: usize, some: &str) {
     };
     add("64×64, 256 starts, on a chart".to_string(), &windows);
     add("1×1, 1 start, on a chart of 1000×1000".to_string(), &one);
-    // Up to 64 cells the copy goes over the axes as they are given.
+    // Up to 64 cells, or sixteen rows, the library copies over the axes as they are given.
     for side in [2, 4, 8, 9, 16, 64] {
         let small = || Job::windows(&[side, side], &[2, 2], 1);
         let name = format!("2×2, 1 start, on a chart of {side}×{side}");
