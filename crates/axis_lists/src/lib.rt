@@ -1,6 +1,8 @@
 // Lists by value, with as many entries as a layout can have axes, and what compile makes of a spec's axis lists: picking,
 // spreading, leaving out. Every function answers for all its arguments: of a list, the first `count` entries count, or all where
 // `count` is larger.
+#![tactic(auto)]
+
 ghost use Rattle.std.specs.Prelude.{◌≡◌, cond, ◌+◌, ◌-◌, ◌<◌, min, ltb, pos, get_or, replicate};
 ghost use Rattle.indexing.specs.Coordinates.{has, pick, spread, others};
 ghost use Rattle.indexing.specs.Start.{without};

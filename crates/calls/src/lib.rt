@@ -1,4 +1,6 @@
 // What the calls share: whether a view has a layout, 8, and 9 for three views in turn.
+#![tactic(auto)]
+
 ghost use Rattle.std.specs.Prelude.{◌≡◌, ◌&&◌, eqb};
 ghost use Rattle.integer.specs.Defs.{eq_z};
 ghost use Rattle.layout.specs.Answers.{or_else};

@@ -1,4 +1,6 @@
 // Plans of a gather with one field changed, and what the calls with changed plans come to.
+#![tactic(auto)]
+
 pub mod counts;
 
 use axis_lists::{Numbers, Steps};

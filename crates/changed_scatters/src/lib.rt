@@ -1,4 +1,6 @@
 // Plans of a scatter with one field changed, and rows of a walk with one number changed.
+#![tactic(auto)]
+
 use changed_plans::{other_i64, other_if, other_u64, other_usize};
 use layout::RAW_FUSED_RANK_LIMIT;
 use replay::{ReplaySpans, WindowReplay};

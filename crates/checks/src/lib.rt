@@ -1,4 +1,6 @@
 // The checks that gather's compile and scatter's share. Each answers Done or its refusal; `or_else` takes the first that refuses.
+#![tactic(auto)]
+
 ghost use Rattle.std.specs.Prelude.{◌≡◌, ◌+◌, length};
 ghost use Rattle.layout.specs.Answers.{or_else};
 ghost use Rattle.layout.specs.Spans.{total_of, spanned};

@@ -1,4 +1,6 @@
 // The components of a start: where in the index view each is read, which stride it moves by, and the last start on its axis.
+#![tactic(auto)]
+
 ghost use Rattle.std.specs.Prelude.{◌≡◌, ◌-◌, min, take, replicate, pos};
 ghost use Rattle.indexing.specs.Coordinates.{pick, tabulate};
 ghost use Rattle.layout.specs.Layouts.{rank_limit, padded, extents_of};

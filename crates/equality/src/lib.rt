@@ -1,4 +1,6 @@
 // Whether two layouts, or two lists by value, are the same.
+#![tactic(auto)]
+
 ghost use Rattle.std.specs.Prelude.{◌≡◌, ◌&&◌, eqb};
 ghost use Rattle.integer.specs.Defs.{eq_z};
 ghost use Rattle.equality.specs.Same.{same_by, same_layout, same_numbers, same_steps};

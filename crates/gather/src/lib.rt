@@ -1,5 +1,7 @@
 // Gather: the calls with a plan. A call takes a plan by value, made by compile or by anyone, the three views and their slices. It
 // answers 8 where the plan or a layout does not fit, then 9 for each view in turn; otherwise it is done.
+#![tactic(auto)]
+
 ghost use Rattle.std.specs.Prelude.{◌≡◌, true, cond, get_or, pos};
 ghost use Rattle.indexing.specs.Coordinates.{tabulate, has};
 ghost use Rattle.layout.specs.Layouts.{rank_limit};

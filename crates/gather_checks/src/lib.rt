@@ -1,4 +1,6 @@
 // Gather: compile's checks in the order of document 01, over lent lists, and the steps of the destination's axes.
+#![tactic(auto)]
+
 ghost use Rattle.std.specs.Prelude.{◌≡◌, true, ◌&&◌, ◌≤◌, length};
 ghost use Rattle.layout.specs.declared.Answer.TheVariants as Ans;
 ghost use Rattle.layout.specs.Answers.{is_done};

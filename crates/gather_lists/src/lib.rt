@@ -1,4 +1,6 @@
 // Gather: what a call by lists decides before it touches an element, with no plan by value: compile and the call in one.
+#![tactic(auto)]
+
 ghost use Rattle.std.specs.Prelude.{◌≡◌};
 ghost use Rattle.calls.specs.Calls.{view_with};
 ghost use Rattle.gather_checks.specs.Refusals.{gather_from};

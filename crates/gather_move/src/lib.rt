@@ -1,4 +1,6 @@
 // Gather: what a call has decided before it touches an element, and the move of elements by it, for i32 and for f64.
+#![tactic(auto)]
+
 ghost use Rattle.std.specs.Prelude.{◌≡◌, cond, pos, length, get_or, take};
 ghost use Rattle.std.specs.Float.{nan};
 ghost use Rattle.indexing.specs.Coordinates.{product, tabulate, has};

@@ -1,4 +1,6 @@
 // The plan of a gather by value, and compile.
+#![tactic(auto)]
+
 ghost use Rattle.std.specs.Prelude.{◌≡◌, true, ◌≤◌, length};
 ghost use Rattle.layout.specs.Answers.{is_done};
 ghost use Rattle.layout.specs.Layouts.{rank_limit};

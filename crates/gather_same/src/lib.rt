@@ -1,4 +1,6 @@
 // Whether a plan of a gather is what compile gives: the test for the same plan, and compiling again what a plan holds.
+#![tactic(auto)]
+
 ghost use Rattle.std.specs.Prelude.{◌≡◌};
 ghost use Rattle.equality.specs.Same.{same_by};
 ghost use Rattle.gather_plan.specs.Plan.{compiled_again, held_gather};

@@ -2,6 +2,8 @@
 // The cells of a gather: all cells of up to eight axes, where the source's place is moved by a start that is read at a place of its
 // own. What each leaves is the plain loop over every linear index, first axis fastest; it hands back how many batch coordinates have a
 // start that the clamp moves.
+#![tactic(auto)]
+
 ghost use Rattle.std.specs.Prelude.{◌≡◌, cond, length, take};
 ghost use Rattle.std.specs.Float.{nan};
 ghost use Rattle.indexing.specs.Loops.{in_order};

@@ -1,4 +1,6 @@
 // Runs document 01's harbour cases through the code, and prints each with its answer.
+#![tactic(auto)]
+
 use integer::{Checked, CheckedU};
 
 fn put_i32(n: i32) {

@@ -1,5 +1,7 @@
 // Runs whose places on one side are given by starts, each clamped: windows of one cell, whose start changes with each cell. Each hands
 // back how many of its starts the clamp moved; a take that is told not to count, 0.
+#![tactic(auto)]
+
 ghost use Rattle.std.specs.Prelude.{◌≡◌, cond, ◌&&◌, ◌+◌, ◌*◌, ◌-◌, ◌<◌, ◌≤◌, ◌^◌, pos, nat_abs, ◌+ℤ◌, ◌≤ℤ◌, length};
 ghost use Rattle.integer.specs.Z.{up};
 ghost use Rattle.integer.specs.Defs.{min_ℤ};

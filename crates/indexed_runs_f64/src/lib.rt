@@ -1,6 +1,8 @@
 // Written by tests/twins from crates/indexed_runs/src/lib.rt.
 // Runs whose places on one side are given by starts, each clamped: windows of one cell, whose start changes with each cell. Each hands
 // back how many of its starts the clamp moved; a take that is told not to count, 0.
+#![tactic(auto)]
+
 ghost use Rattle.std.specs.Prelude.{◌≡◌, cond, ◌&&◌, ◌+◌, ◌*◌, ◌-◌, ◌<◌, ◌≤◌, pos, nat_abs, length};
 ghost use Rattle.std.specs.Float.{nan};
 ghost use Rattle.indexing.specs.Slid.{how_many};

@@ -1,1 +1,3 @@
 // Definitions and laws alone: see `specs/`.
+#![tactic(auto)]
+

@@ -1,5 +1,7 @@
 // Checked and wrapping arithmetic on machine integers. Each function answers for all its arguments; its contract is a
 // definition of `specs/Defs.antt`.
+#![tactic(auto)]
+
 ghost use Rattle.std.specs.Prelude.{◌≡◌, ◌+◌, ◌*◌, pos, nat_abs, neg_ℤ, ◌+ℤ◌, ◌*ℤ◌};
 ghost use Rattle.integer.specs.Defs.{checked, checked_u, sign_of, wrap32};
 

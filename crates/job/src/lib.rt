@@ -1,5 +1,7 @@
 // A job by value: kind, element, views and spec, made from lent slices. Every function answers for all its arguments: of an
 // array, the first entries count, as many as its rank or count says, or all where that is larger.
+#![tactic(auto)]
+
 ghost use Rattle.std.specs.Prelude.{◌≡◌, [], length, pos};
 ghost use Rattle.layout.specs.Answers.{or_else};
 ghost use Rattle.job.specs.declared.Kind.TheVariants as K;

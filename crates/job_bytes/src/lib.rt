@@ -1,5 +1,7 @@
 // The version of the format and its limits; the fields of a stored job: numbers and words as bytes, read from a lent slice and
 // written into one.
+#![tactic(auto)]
+
 ghost use Rattle.std.specs.Prelude.{◌≡◌, ◌+◌, ◌*◌, ◌/◌, ◌%◌, ◌^◌, ◌≤◌, ◌<◌, length, take, drop};
 ghost use Rattle.std.proofs.lemmas.List.Edits.{sets};
 ghost use Rattle.job_bytes.specs.Fields.{fault, bytes_of, words_of, number_from, word_of, signed_of, number_at, byte_at, words_at, held_number, held_words};

@@ -1,4 +1,6 @@
 // What a call by a stored job decides before it touches an element: the job is read, and its views and lists are a call by lists.
+#![tactic(auto)]
+
 ghost use Rattle.std.specs.Prelude.{◌≡◌, min};
 ghost use Rattle.job.specs.Format.{job_at};
 ghost use Rattle.job_bytes.specs.Version.{list_limit};

@@ -1,4 +1,6 @@
 // The views and the lists of a stored job, read, each with the place after it or that of the field at fault.
+#![tactic(auto)]
+
 ghost use Rattle.std.specs.Prelude.{◌≡◌, map, ◌≤◌, take, pos};
 ghost use Rattle.layout.specs.Layouts.{rank_limit, padded};
 ghost use Rattle.job_bytes.specs.Fields.{fault, signed_of};

@@ -1,4 +1,6 @@
 // The reader of a stored job: its head, its views and its spec, in order, and that no byte is left over.
+#![tactic(auto)]
+
 ghost use Rattle.std.specs.Prelude.{◌≡◌};
 ghost use Rattle.job_bytes.specs.Fields.{fault, held_number};
 ghost use Rattle.job.specs.Format.{kind_of, element_of, spec_at, views_at, count_at, head_at, job_at};

@@ -1,5 +1,7 @@
 // The writer of a stored job. Of an array, the first entries count, as many as its rank or count says; a job with more axes or
 // entries than are stored is refused.
+#![tactic(auto)]
+
 ghost use Rattle.std.specs.Prelude.{◌≡◌, map, ◌+◌, ◌*◌, ◌≤◌, min, length};
 ghost use Rattle.job_bytes.specs.Fields.{word_of};
 ghost use Rattle.job.specs.Format.{kind_byte, element_byte, view_bytes, list_bytes, sizes_bytes, spec_bytes, views_bytes, body_bytes, view_most, list_most, views_most, spec_most};

@@ -2,6 +2,8 @@
 // span, an offset, the nested test or a reach, and its reset; the offset of an index; the axis-list check; the clamp; the test
 // of 9. Products, spans, the nested test and the reach over all axes are in `spans`. Every function answers for all its
 // arguments: of an array, the first `rank` entries count, or all where `rank` is larger.
+#![tactic(auto)]
+
 ghost use Rattle.std.specs.Prelude.{◌≡◌, cond, ◌||◌, [], ◌+◌, ◌-◌, ◌<◌, min, take, pos, neg_ℤ, ◌+ℤ◌, ◌*ℤ◌};
 ghost use Rattle.integer.specs.Defs.{checked, checked_u};
 ghost use Rattle.indexing.specs.Start.{clamp};

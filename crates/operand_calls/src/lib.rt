@@ -1,4 +1,6 @@
 // What the calls of a scatter with an operand share: what such a call copies, and 9 for four views.
+#![tactic(auto)]
+
 ghost use Rattle.std.specs.Prelude.{◌≡◌};
 ghost use Rattle.layout.specs.Answers.{or_else};
 ghost use Rattle.layout.specs.Reach.{buffer_bounds};

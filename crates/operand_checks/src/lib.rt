@@ -1,5 +1,7 @@
 // Scatter with an operand of its own: compile's checks in the request's order, over lent extents and strides. What comes from 4 on is
 // the scatter's without an operand.
+#![tactic(auto)]
+
 ghost use Rattle.std.specs.Prelude.{◌≡◌, length};
 ghost use Rattle.layout.specs.Answers.{or_else};
 ghost use Rattle.layout.specs.Spans.{total_of, spanned};

@@ -1,5 +1,7 @@
 // The operand of a scatter copied into its result, cell by cell, first axis fastest: where cells of the result share an element, the
 // last one copied stays.
+#![tactic(auto)]
+
 ghost use Rattle.std.specs.Prelude.{◌≡◌, pos, length};
 ghost use Rattle.indexing.specs.Operand.{operand_copied};
 ghost use Rattle.rules.specs.Rules.{rule_i32};

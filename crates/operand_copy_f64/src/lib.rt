@@ -1,6 +1,8 @@
 // Written by tests/twins from crates/operand_copy/src/lib.rt.
 // The operand of a scatter copied into its result, cell by cell, first axis fastest: where cells of the result share an element, the
 // last one copied stays.
+#![tactic(auto)]
+
 ghost use Rattle.std.specs.Prelude.{◌≡◌, length};
 ghost use Rattle.std.specs.Float.{nan};
 ghost use Rattle.indexing.specs.Operand.{operand_copied};

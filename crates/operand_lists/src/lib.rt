@@ -1,4 +1,6 @@
 // Scatter with an operand: what a call by lists decides before it touches an element, with no plan by value: compile and the call in one.
+#![tactic(auto)]
+
 ghost use Rattle.checks.specs.Checks.{view_from};
 ghost use Rattle.std.specs.Prelude.{◌≡◌, ◌&&◌};
 ghost use Rattle.calls.specs.Calls.{view_with, same_view, same_views};

@@ -1,4 +1,6 @@
 // Scatter with an operand: the operand's copy and then the scatter's move, for i32 and for f64.
+#![tactic(auto)]
+
 ghost use Rattle.std.specs.Float.{nan};
 ghost use Rattle.std.specs.Prelude.{pos, length};
 ghost use Rattle.indexing.specs.Operand.{operand_copied};

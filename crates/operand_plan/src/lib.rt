@@ -1,4 +1,6 @@
 // The plan of a scatter with an operand by value, compile, and whether a plan is what compile gives. The rows of its walks stand beside it.
+#![tactic(auto)]
+
 ghost use Rattle.std.specs.Prelude.{◌≡◌, true, cond, length};
 ghost use Rattle.layout.specs.Answers.{is_done};
 ghost use Rattle.layout.specs.Layouts.{layout_of, extents_of, strides_of, stride_length, rank_at_most};

@@ -1,5 +1,7 @@
 // A scatter with an operand called with plans whose operand's layout is changed: operand [3,2] in the other order, destination [3,2] holding
 // 1 to 6, windows [2,1] whose second axis is inserted.
+#![tactic(auto)]
+
 use changed_plans::counts;
 use changed_plans::counts::Counts;
 use layout::{CallAnswer, Layout, View};

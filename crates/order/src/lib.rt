@@ -1,5 +1,7 @@
 // Two scatters on one grid, each by a rule of its own, and a gather beside a scatter: the runs of demand 3. What they leave is stated of the whole lent slice, for
 // every plan, view and slice.
+#![tactic(auto)]
+
 ghost use Rattle.std.specs.Prelude.{◌≡◌, pos, length};
 ghost use Rattle.rules.specs.Rules.{rule_i32};
 ghost use Rattle.calls.specs.Calls.{view_of, as_is, Scatters};

@@ -1,4 +1,6 @@
 // Numbers and lists on standard output, for the programs that print cases.
+#![tactic(auto)]
+
 
 pub fn put(text: &[u8]) {
     io::write_all(1, text);

@@ -2,6 +2,8 @@
 // plan that stands where compile refused. A call with such a plan is refused by 8 and leaves the destination as it was; so is one whose
 // operand has another layout, and 9 names the operand as view 1. Last, a plan whose two cells share an element, with 4 not tried: the last
 // cell copied stays, and both updates land on it.
+#![tactic(auto)]
+
 use changed_plans::counts;
 use layout::{RAW_FUSED_RANK_LIMIT, View};
 use operand_plan::CompiledOperand;

@@ -1,6 +1,8 @@
 // Forged plans: each field of a compiled plan changed in turn, arrays past their counts as well. A call with such a plan is
 // refused by 8 and leaves the destination as it was. The gather is document 01's: operand 10 20 30 40 50, windows of 2. Last, a
 // plan whose two cells share an element, compiled with 4 not tried: it is accepted, and the last cell stays.
+#![tactic(auto)]
+
 use changed_plans::counts::Counts;
 use changed_plans::{Field, counts};
 use gather_plan::{CompiledGather, GatherPlan};

@@ -1,6 +1,8 @@
 // Forged plans of a scatter: each field of a compiled plan changed in turn, arrays past their counts as well, and each number
 // of the rows of its two walks. A call with such a plan or such rows is refused by 8 and leaves the destination as it was. Last, a
 // plan whose two cells share an element, compiled with 4 not tried: it is accepted, and both updates land there.
+#![tactic(auto)]
+
 use changed_plans::counts;
 use changed_scatters::Field;
 use layout::RAW_FUSED_RANK_LIMIT;

@@ -1,5 +1,7 @@
 // The walk over a window on two sides, source and destination: `WindowReplay`, compiled with fusion of axes. Compile
 // answers for all its arguments: of an array, the first `rank` entries count, or all where `rank` is larger.
+#![tactic(auto)]
+
 ghost use Rattle.std.specs.Prelude.{◌≡◌, take, drop, ◌*◌};
 ghost use Rattle.replay.specs.Replays.{no_axis, axis_of, given_axes, walk_of, done_replay, refused_replay, compiled_replay, extents, rows_of, axes_from};
 ghost use Rattle.replay.specs.Parts.{past, checked_axis, as_merged, as_apart, joined_axis, walk_from};

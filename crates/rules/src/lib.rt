@@ -1,4 +1,6 @@
 // How an update is put on a cell: the combining rules of a scatter. A gather's copy is Replace, and a stored job's scatter is Add.
+#![tactic(auto)]
+
 ghost use Rattle.std.specs.Prelude.{◌≡◌};
 ghost use Rattle.rules.specs.Rules.{rule_i32, rule_f64};
 

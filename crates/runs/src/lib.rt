@@ -1,4 +1,6 @@
 // Runs along one axis of two strided slices. What each leaves is the plain loop, cell by cell: `in_order` of `cell_at`.
+#![tactic(auto)]
+
 ghost use Rattle.std.specs.Prelude.{◌≡◌, ◌<◌, ◌≤◌, pos, length};
 ghost use Rattle.indexing.specs.Loops.{in_order};
 ghost use Rattle.rules.specs.Rules.{rule_i32};

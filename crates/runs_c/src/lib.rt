@@ -1,5 +1,7 @@
 // The runs and the windows for the benchmark to call. Each export tests that there are cells and that every one lies inside its
 // slice, answers whether that is so, and if so makes the run or the window `times` times.
+#![tactic(auto)]
+
 ghost use Rattle.std.specs.Prelude.{◌≡◌, ◌≤◌, pos, length, take, replicate};
 ghost use Rattle.std.specs.Float.{nan};
 ghost use Rattle.indexing.specs.Loops.{in_order};

@@ -1,5 +1,7 @@
 // Written by tests/twins from crates/runs/src/lib.rt.
 // Runs along one axis of two strided slices. What each leaves is the plain loop, cell by cell: `in_order` of `cell_at`.
+#![tactic(auto)]
+
 ghost use Rattle.std.specs.Prelude.{◌≡◌, ◌<◌, ◌≤◌, pos, length};
 ghost use Rattle.std.specs.Float.{nan};
 ghost use Rattle.indexing.specs.Loops.{in_order};

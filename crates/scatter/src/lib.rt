@@ -1,6 +1,8 @@
 // Scatter: the calls with a plan. A call takes a plan by value with the rows of its two walks, made by compile or by anyone, the three
 // views and their slices. It answers 8 where the plan, its rows or a layout does not fit, then 9 for each view in turn; otherwise it
 // is done.
+#![tactic(auto)]
+
 ghost use Rattle.std.specs.Prelude.{◌≡◌, true, pos};
 ghost use Rattle.std.specs.Float.{nan};
 ghost use Rattle.rules.specs.Rules.{rule_i32, rule_f64};

@@ -1,4 +1,6 @@
 // Scatter: compile's checks in the order of document 01, over lent extents and strides, and the two walks of its plan.
+#![tactic(auto)]
+
 ghost use Rattle.std.specs.Prelude.{◌≡◌, true, cond, [], ◌-◌, ◌≤◌, min, length, pos};
 ghost use Rattle.indexing.specs.Coordinates.{pick, spread};
 ghost use Rattle.layout.specs.declared.Answer.TheVariants as Ans;

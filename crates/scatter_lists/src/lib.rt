@@ -1,4 +1,6 @@
 // Scatter: what a call by lists decides before it touches an element, with no plan by value: compile and the call in one.
+#![tactic(auto)]
+
 ghost use Rattle.std.specs.Prelude.{◌≡◌, ◌≤◌, length};
 ghost use Rattle.indexing.specs.Coordinates.{pick, spread, others, tabulate};
 ghost use Rattle.layout.specs.Layouts.{rank_limit};

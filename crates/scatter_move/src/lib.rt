@@ -1,4 +1,6 @@
 // Scatter: what a call has decided before it touches an element, and the move of elements by it, for i32 and for f64.
+#![tactic(auto)]
+
 ghost use Rattle.std.specs.Prelude.{◌≡◌, ◌<◌, pos, length};
 ghost use Rattle.std.specs.Float.{nan};
 ghost use Rattle.indexing.specs.Scatter.{scattered};

@@ -1,4 +1,6 @@
 // The plan of a scatter by value, and compile. The rows of its two walks stand beside it.
+#![tactic(auto)]
+
 ghost use Rattle.std.specs.Prelude.{◌≡◌, true, ◌≤◌, length};
 ghost use Rattle.indexing.specs.Coordinates.{pick, spread, others};
 ghost use Rattle.layout.specs.Answers.{is_done};

@@ -1,5 +1,7 @@
 // Whether a plan of a scatter is what compile gives, with the rows of its two walks: the test for the same plan, and compiling
 // again what a plan holds.
+#![tactic(auto)]
+
 ghost use Rattle.std.specs.Prelude.{◌≡◌};
 ghost use Rattle.integer.specs.Defs.{eq_z};
 ghost use Rattle.equality.specs.Same.{same_by};

@@ -1,5 +1,7 @@
 // A scatter called with plans and rows that are changed: destination [3,2] holding 1 to 6, windows [2,1] whose second axis is
 // inserted, starts [9,0] and [0,-1].
+#![tactic(auto)]
+
 use changed_plans::counts;
 use changed_plans::counts::Counts;
 use changed_scatters::Field;

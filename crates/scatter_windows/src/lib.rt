@@ -1,6 +1,8 @@
 // The batches of a scatter whose windows have one cell: each update is put on the destination by a rule, at a place that is moved
 // by a start, read at a place of the batch's own. What each leaves is the plain loop over every linear index, first axis fastest; it
 // hands back how many batches have a start that the clamp moves.
+#![tactic(auto)]
+
 ghost use Rattle.std.specs.Prelude.{◌≡◌, ◌≤◌, pos, length, take};
 ghost use Rattle.indexing.specs.Coordinates.{product};
 ghost use Rattle.indexing.specs.Loops.{in_order};

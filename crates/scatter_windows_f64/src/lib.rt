@@ -2,6 +2,8 @@
 // The batches of a scatter whose windows have one cell: each update is put on the destination by a rule, at a place that is moved
 // by a start, read at a place of the batch's own. What each leaves is the plain loop over every linear index, first axis fastest; it
 // hands back how many batches have a start that the clamp moves.
+#![tactic(auto)]
+
 ghost use Rattle.std.specs.Prelude.{◌≡◌, length, take};
 ghost use Rattle.std.specs.Float.{nan};
 ghost use Rattle.indexing.specs.Coordinates.{product};

@@ -1,5 +1,7 @@
 // The product, the span, the nested test and the reach of lent extents and strides, and of those that a layout holds: of an array,
 // the first `rank` entries count, or all where `rank` is larger.
+#![tactic(auto)]
+
 ghost use Rattle.std.specs.Prelude.{◌≡◌, ◌<◌, length, take};
 ghost use Rattle.integer.specs.Defs.{checked_u};
 ghost use Rattle.layout.specs.Layouts.{extents_of, strides_of};

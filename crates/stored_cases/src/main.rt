@@ -1,5 +1,7 @@
 // Replays the stored cases (data/README.md says what they are and how they were made) through the crates, and prints how
 // many of the stored answers came out again.
+#![tactic(auto)]
+
 mod outcomes;
 mod report;
 

@@ -1,4 +1,6 @@
 // A stored gather, whole: compile, then the call.
+#![tactic(auto)]
+
 use gather_plan::{CompiledGather, GatherPlan};
 use layout::CallAnswer;
 use stored_reader::packed::{list, signed_list};

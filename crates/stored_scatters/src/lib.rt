@@ -1,4 +1,6 @@
 // A stored scatter, whole: compile, then the call.
+#![tactic(auto)]
+
 use layout::CallAnswer;
 use rules::{Rule, RuleF64};
 use scatter_plan::CompiledScatter;

@@ -1,5 +1,7 @@
 // What the static library exports. A list is lent as a slice: to C and Rust a pointer, then a count. Every argument list
 // gets an answer: lists of extents and strides of unequal length, ranks above 8, lists of any length.
+#![tactic(auto)]
+
 ghost use Rattle.std.specs.Prelude.{◌≡◌, [], pos, length};
 ghost use Rattle.std.specs.Float.{nan};
 ghost use Rattle.indexing.specs.Scatter.{add_i32, add_f64};

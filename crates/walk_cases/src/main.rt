@@ -1,4 +1,6 @@
 // Runs walks of document 01 through the code, and prints each with its answer; small windows place by place.
+#![tactic(auto)]
+
 ghost use Rattle.walk.specs.Walks.{Walk};
 
 use integer::{Checked, CheckedU};

@@ -1,6 +1,8 @@
 // Windows: all cells of up to eight axes of two strided slices, a run at a time. What each leaves is the plain loop over every
 // linear index, first axis fastest. There are no coordinates and no resets: the last axis moves both bases, and below it stands
 // the window of the axes before it.
+#![tactic(auto)]
+
 ghost use Rattle.std.specs.Prelude.{◌≡◌, ◌<◌, ◌≤◌, pos, length};
 ghost use Rattle.layout.specs.Layouts.{rank_limit};
 ghost use Rattle.rules.specs.Rules.{rule_i32};
