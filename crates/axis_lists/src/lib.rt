@@ -12,14 +12,14 @@ ghost use Rattle.axis_lists.specs.Held.{numbers_of, steps_of, held_numbers, held
 use layout::{Layout, RAW_FUSED_RANK_LIMIT};
 
 // Axes, extents or window sizes. Past the count stand zeros.
-#[derive(Drop)]
+#[derive(Clone, Copy)]
 pub struct Numbers {
     pub count: usize,
     pub entries: [u64; RAW_FUSED_RANK_LIMIT],
 }
 
 // Strides or steps. Past the count stand zeros.
-#[derive(Drop)]
+#[derive(Clone, Copy)]
 pub struct Steps {
     pub count: usize,
     pub entries: [i64; RAW_FUSED_RANK_LIMIT],

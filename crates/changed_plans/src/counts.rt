@@ -2,7 +2,7 @@
 // the destination.
 use layout::CallAnswer;
 
-#[derive(Drop)]
+#[derive(Clone, Copy)]
 pub struct Counts {
     pub tried: u64,
     pub refused: u64,

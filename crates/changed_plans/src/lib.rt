@@ -11,7 +11,7 @@ use layout::{Layout, RAW_FUSED_RANK_LIMIT};
 // A field of a plan. A layout's are 0 for the rank, 1 for the extents, 2 for the strides; a list's are 0 for the count and 1
 // for the entries; an axis's are 0 for the role, then its six numbers. Before that stands which layout or list it is, in
 // declared order.
-#[derive(Drop)]
+#[derive(Clone, Copy)]
 pub enum Field {
     Layout(u64, u64),
     Numbers(u64, u64),

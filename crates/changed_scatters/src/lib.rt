@@ -9,7 +9,7 @@ use scatter_plan::ScatterPlan;
 // A field of a plan. A layout's are 0 for the rank, 1 for the extents, 2 for the strides; a list's are 0 for the count and 1
 // for the entries; a walk's are 0 for the rank, 1 for the extents, 2 for its four spans. Before that stands which layout, list, walk
 // or count it is, in declared order.
-#[derive(Drop)]
+#[derive(Clone, Copy)]
 pub enum Field {
     Layout(u64, u64),
     Numbers(u64, u64),

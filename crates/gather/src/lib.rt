@@ -19,14 +19,14 @@ use gather_plan::{GatherPlan, GatherReplayAxis, Role};
 use layout::{Answer, CallAnswer, RAW_FUSED_RANK_LIMIT, View};
 
 // What an axis adds to the place in the operand, and to the one in the index view.
-#[derive(Drop)]
+#[derive(Clone, Copy)]
 struct AxisMove {
     window: i64,
     batch: i64,
 }
 
 // The same of every axis.
-#[derive(Drop)]
+#[derive(Clone, Copy)]
 struct Moves {
     window: [i64; RAW_FUSED_RANK_LIMIT],
     batch: [i64; RAW_FUSED_RANK_LIMIT],

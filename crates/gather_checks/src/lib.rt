@@ -15,7 +15,7 @@ use layout::{Answer, RAW_FUSED_RANK_LIMIT};
 
 // What compile answers; where that is Done, what each axis of the destination adds to the place in the operand and in the index view,
 // and zeros past the last.
-#[derive(Drop)]
+#[derive(Clone, Copy)]
 pub struct Examined {
     pub answer: Answer,
     pub window: [i64; RAW_FUSED_RANK_LIMIT],

@@ -20,7 +20,7 @@ use layout::{Answer, CallAnswer, RAW_FUSED_RANK_LIMIT, Reach};
 
 // The numbers that the cells of a gather are moved with: the destination's axes, with the batch coordinates of each and its steps in
 // the operand, the index view and the destination, and the components of a start.
-#[derive(Drop)]
+#[derive(Clone, Copy)]
 pub struct GatherNumbers {
     pub rank: usize,
     pub extents: [u64; RAW_FUSED_RANK_LIMIT],
@@ -36,7 +36,7 @@ pub struct GatherNumbers {
 
 // What a call of a gather has decided: its answer; where that is Done, also where the destination's cells lie, the numbers, and
 // where the operand, the starts and the destination begin.
-#[derive(Drop)]
+#[derive(Clone, Copy)]
 pub struct PreparedGather {
     pub answer: Answer,
     pub reach: Reach,

@@ -17,14 +17,14 @@ use integer::{Checked, CheckedU};
 use layout::{Answer, Layout, RAW_FUSED_RANK_LIMIT};
 
 // A destination axis is a batch axis, or a window axis that shows one operand axis.
-#[derive(Drop)]
+#[derive(Clone, Copy)]
 pub enum Role {
     Batch,
     Window(u64),
 }
 
 // Steps and resets along one destination axis: in the destination, in the operand, in the index view.
-#[derive(Drop)]
+#[derive(Clone, Copy)]
 pub struct GatherReplayAxis {
     pub role: Role,
     pub dest_step: i64,
@@ -35,7 +35,7 @@ pub struct GatherReplayAxis {
     pub index_batch_reset: i64,
 }
 
-#[derive(Drop)]
+#[derive(Clone, Copy)]
 pub struct GatherPlan {
     pub operand: Layout,
     pub index: Layout,
@@ -52,7 +52,7 @@ pub struct GatherPlan {
 }
 
 // A plan; where the gather is refused, the one of no axes.
-#[derive(Drop)]
+#[derive(Clone, Copy)]
 pub struct CompiledGather {
     pub answer: Answer,
     pub plan: GatherPlan,

@@ -17,7 +17,7 @@ use layout::RAW_FUSED_RANK_LIMIT;
 use rules::Rule;
 
 // A place, and whether a start on the way to it was moved.
-#[derive(Drop)]
+#[derive(Clone, Copy)]
 pub struct StartPlace {
     pub at: i64,
     pub moved: bool,

@@ -6,14 +6,14 @@ ghost use Rattle.std.specs.Prelude.{◌≡◌, ◌+◌, ◌*◌, pos, nat_abs, n
 ghost use Rattle.integer.specs.Defs.{checked, checked_u, sign_of, wrap32};
 
 // An i64, or that none holds the number.
-#[derive(Drop)]
+#[derive(Clone, Copy)]
 pub enum Checked {
     Fits(i64),
     Overflow,
 }
 
 // A u64, or that none holds the number.
-#[derive(Drop)]
+#[derive(Clone, Copy)]
 pub enum CheckedU {
     Fits(u64),
     Overflow,

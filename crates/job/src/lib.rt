@@ -10,27 +10,27 @@ ghost use Rattle.job.specs.Jobs.{held_list, view_of, views_of, spec_of, no_job, 
 use job_bytes::{LIST_LIMIT, STORED_RANK_LIMIT};
 use layout::{Answer, Layout, RAW_FUSED_RANK_LIMIT, View};
 
-#[derive(Drop)]
+#[derive(Clone, Copy)]
 pub enum Kind {
     Gather,
     Scatter,
 }
 
-#[derive(Drop)]
+#[derive(Clone, Copy)]
 pub enum Element {
     I32,
     F64,
 }
 
 // A list of up to `LIST_LIMIT` entries. Past the count stand zeros.
-#[derive(Drop)]
+#[derive(Clone, Copy)]
 pub struct List16 {
     pub count: usize,
     pub entries: [u64; LIST_LIMIT],
 }
 
 // In view order. Gather: operand, index, destination; scatter: index, updates, destination.
-#[derive(Drop)]
+#[derive(Clone, Copy)]
 pub struct Views {
     pub first: View,
     pub second: View,
@@ -39,7 +39,7 @@ pub struct Views {
 
 // Gather: offset_dims, collapsed_slice_dims, start_index_map, index_vector_dim, slice_sizes. Scatter: update_window_dims,
 // inserted_window_dims, scatter_dims_to_operand_dims, index_vector_dim, and no sizes.
-#[derive(Drop)]
+#[derive(Clone, Copy)]
 pub struct Spec {
     pub window_dims: List16,
     pub unit_dims: List16,
@@ -48,7 +48,7 @@ pub struct Spec {
     pub slice_sizes: List16,
 }
 
-#[derive(Drop)]
+#[derive(Clone, Copy)]
 pub struct Job {
     pub kind: Kind,
     pub element: Element,
@@ -57,7 +57,7 @@ pub struct Job {
 }
 
 // A job; where it is refused, that of no axes and no entries.
-#[derive(Drop)]
+#[derive(Clone, Copy)]
 pub struct MadeJob {
     pub answer: Answer,
     pub job: Job,

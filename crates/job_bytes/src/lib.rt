@@ -15,7 +15,7 @@ pub const STORED_RANK_LIMIT: usize = 8;
 pub const LIST_LIMIT: usize = 16;
 
 // A number that was read, with the place after it. Where `ok` is false, the place is that of the field at fault.
-#[derive(Drop)]
+#[derive(Clone, Copy)]
 pub struct Number {
     pub ok: bool,
     pub at: usize,
@@ -23,7 +23,7 @@ pub struct Number {
 }
 
 // Words that were read, with the place after them. Past them stand zeros.
-#[derive(Drop)]
+#[derive(Clone, Copy)]
 pub struct Words {
     pub ok: bool,
     pub at: usize,

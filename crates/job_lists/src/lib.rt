@@ -13,14 +13,14 @@ use job_bytes::{LIST_LIMIT, STORED_RANK_LIMIT};
 use layout::{Layout, RAW_FUSED_RANK_LIMIT, View};
 
 // Parts that were read, with the place after them. Where `ok` is false, the place is that of the field at fault.
-#[derive(Drop)]
+#[derive(Clone, Copy)]
 pub struct ReadView {
     pub ok: bool,
     pub at: usize,
     pub view: View,
 }
 
-#[derive(Drop)]
+#[derive(Clone, Copy)]
 pub struct ReadList {
     pub ok: bool,
     pub at: usize,

@@ -10,28 +10,28 @@ use job::{Element, Job, Kind, Spec, Views};
 use job_bytes::{Number, VERSION};
 use layout::Answer;
 
-#[derive(Drop)]
+#[derive(Clone, Copy)]
 pub struct ReadJob {
     pub answer: Answer,
     pub job: Job,
 }
 
 // Parts that were read, with the place after them. Where `ok` is false, the place is that of the field at fault.
-#[derive(Drop)]
+#[derive(Clone, Copy)]
 pub struct ReadViews {
     pub ok: bool,
     pub at: usize,
     pub views: Views,
 }
 
-#[derive(Drop)]
+#[derive(Clone, Copy)]
 pub struct ReadSpec {
     pub ok: bool,
     pub at: usize,
     pub spec: Spec,
 }
 
-#[derive(Drop)]
+#[derive(Clone, Copy)]
 pub struct ReadHead {
     pub ok: bool,
     pub at: usize,

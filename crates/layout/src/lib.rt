@@ -22,7 +22,7 @@ use integer::{Checked, CheckedU};
 pub const RAW_FUSED_RANK_LIMIT: usize = 8;
 
 // An answer: that it is done, or one of the refusals.
-#[derive(Drop)]
+#[derive(Clone, Copy)]
 pub enum Answer {
     Done,
     StrideLengthMismatch,
@@ -118,7 +118,7 @@ pub fn is_done(answer: Answer) -> bool
 }
 
 // What a gather or a scatter hands back: its answer, and the number that it reports, 0 where it is refused.
-#[derive(Drop)]
+#[derive(Clone, Copy)]
 pub struct CallAnswer {
     pub answer: Answer,
     pub reported: u64,
@@ -135,7 +135,7 @@ pub fn refused_call(answer: Answer) -> CallAnswer
 }
 
 // Extents with strides. Past the rank stand extents of 1 with strides of 0.
-#[derive(Drop)]
+#[derive(Clone, Copy)]
 pub struct Layout {
     pub rank: usize,
     pub extents: [u64; RAW_FUSED_RANK_LIMIT],
@@ -143,14 +143,14 @@ pub struct Layout {
 }
 
 // A layout; where it is refused, the one of no axes.
-#[derive(Drop)]
+#[derive(Clone, Copy)]
 pub struct MadeLayout {
     pub answer: Answer,
     pub layout: Layout,
 }
 
 // A layout at an offset; the slice that it lies in is lent beside it.
-#[derive(Drop)]
+#[derive(Clone, Copy)]
 pub struct View {
     pub layout: Layout,
     pub offset: i64,
@@ -291,7 +291,7 @@ fn added(base: i64, x: Checked) -> Checked
 }
 
 // The lowest and the highest sum of stride times coordinate.
-#[derive(Drop)]
+#[derive(Clone, Copy)]
 pub enum OffsetSpan {
     Fits(i64, i64),
     Overflow,
@@ -423,7 +423,7 @@ pub fn validate_unique_axes(axes: &[u64], rank: u64) -> Answer
 }
 
 // A start that is moved inside the extent, and whether that is another start.
-#[derive(Drop)]
+#[derive(Clone, Copy)]
 pub struct ClampedStart {
     pub start: u64,
     pub moved: bool,
@@ -510,7 +510,7 @@ pub fn sum_with(sum: u64, x: CheckedU) -> CheckedU
 }
 
 // Where the cells of a view lie in its slice: from the lowest index to the highest; or that it has none; or that it fails the test of 9.
-#[derive(Drop)]
+#[derive(Clone, Copy)]
 pub enum Reach {
     Cells(usize, usize),
     NoCells,

@@ -9,7 +9,7 @@ ghost use Rattle.operand_calls.specs.Prepared.{copy_from};
 use layout::{Answer, Layout, RAW_FUSED_RANK_LIMIT, Reach};
 
 // What a call copies before its updates: the operand's layout, the destination's strides, and where the operand begins.
-#[derive(Drop)]
+#[derive(Clone, Copy)]
 pub struct PreparedCopy {
     pub layout: Layout,
     pub strides: [i64; RAW_FUSED_RANK_LIMIT],

@@ -14,14 +14,14 @@ use layout::{Answer, Layout, RAW_FUSED_RANK_LIMIT};
 use scatter_plan::{CompiledScatter, ScatterPlan};
 
 // The operand's layout, and the plan of the scatter without it.
-#[derive(Drop)]
+#[derive(Clone, Copy)]
 pub struct OperandPlan {
     pub operand: Layout,
     pub scatter: ScatterPlan,
 }
 
 // What compile gives: the answer is the scatter's; where it is refused, the operand's layout has no axes.
-#[derive(Drop)]
+#[derive(Clone, Copy)]
 pub struct CompiledOperand {
     pub operand: Layout,
     pub scatter: CompiledScatter,

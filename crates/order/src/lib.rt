@@ -19,7 +19,7 @@ use rules::Rule;
 use scatter_plan::ScatterPlan;
 
 // What a scatter goes by, besides the rows of the plan's walks and the lent slices.
-#[derive(Drop)]
+#[derive(Clone, Copy)]
 pub struct PlannedScatter {
     pub rule: Rule,
     pub plan: ScatterPlan,
@@ -29,7 +29,7 @@ pub struct PlannedScatter {
 }
 
 // What was answered, with the numbers reported: North and then South on one grid, South and then North on the other.
-#[derive(Drop)]
+#[derive(Clone, Copy)]
 pub struct Orders {
     pub north_first: CallAnswer,
     pub south_second: CallAnswer,
@@ -38,7 +38,7 @@ pub struct Orders {
 }
 
 // What a gather was answered before and after South's scatter, and that scatter.
-#[derive(Drop)]
+#[derive(Clone, Copy)]
 pub struct Around {
     pub before: CallAnswer,
     pub south: CallAnswer,
@@ -124,7 +124,7 @@ pub fn gather_beside(
 // ---- the same on a grid into which an operand is copied once
 
 // What a scatter with an operand goes by, besides the rows of the plan's walks, the operand's view and the lent slices.
-#[derive(Drop)]
+#[derive(Clone, Copy)]
 pub struct PlannedOperand {
     pub rule: Rule,
     pub plan: OperandPlan,
@@ -212,7 +212,7 @@ pub fn either_order_on(
 }
 
 // What was answered: the scatter that copies the operand first, then the gather, South's scatter and the gather again.
-#[derive(Drop)]
+#[derive(Clone, Copy)]
 pub struct AroundOn {
     pub first: CallAnswer,
     pub before: CallAnswer,

@@ -11,7 +11,7 @@ use layout::{Answer, OffsetSpan, RAW_FUSED_RANK_LIMIT};
 
 // An axis of a walk: its extent, and for each side the step along it and what takes it back from its last place to its
 // first.
-#[derive(Drop)]
+#[derive(Clone, Copy)]
 pub struct WindowReplayAxis {
     pub extent: u64,
     pub source_step: i64,
@@ -21,7 +21,7 @@ pub struct WindowReplayAxis {
 }
 
 // The lowest and the highest offset that the window reaches on each side, relative to its base.
-#[derive(Drop)]
+#[derive(Clone, Copy)]
 pub struct ReplaySpans {
     pub source_low: i64,
     pub source_high: i64,
@@ -30,7 +30,7 @@ pub struct ReplaySpans {
 }
 
 // The extents of the merged axes, 1 past the rank. The steps and resets are rows, held beside it.
-#[derive(Drop)]
+#[derive(Clone, Copy)]
 pub struct WindowReplay {
     pub rank: usize,
     pub extents: [u64; RAW_FUSED_RANK_LIMIT],
@@ -39,7 +39,7 @@ pub struct WindowReplay {
 
 // A walk with its merged axes, of which the rows are made; past the rank stand axes of extent 1 with steps and resets of 0. Where it is
 // refused, the walk of no axes with spans of 0.
-#[derive(Drop)]
+#[derive(Clone, Copy)]
 pub struct CompiledReplay {
     pub answer: Answer,
     pub replay: WindowReplay,
@@ -47,14 +47,14 @@ pub struct CompiledReplay {
 }
 
 // An axis with its resets, or that one of them does not fit.
-#[derive(Drop)]
+#[derive(Clone, Copy)]
 pub enum CheckedAxis {
     Fits(WindowReplayAxis),
     Overflow,
 }
 
 // An axis after another: one axis with it, or an axis of its own.
-#[derive(Drop)]
+#[derive(Clone, Copy)]
 pub enum JoinedAxis {
     Merged(WindowReplayAxis),
     Apart(WindowReplayAxis),

@@ -5,7 +5,7 @@ ghost use Rattle.std.specs.Prelude.{◌≡◌};
 ghost use Rattle.rules.specs.Rules.{rule_i32, rule_f64};
 
 // For i32 grids.
-#[derive(Drop)]
+#[derive(Clone, Copy)]
 pub enum Rule {
     Add,
     Lowest,
@@ -14,7 +14,7 @@ pub enum Rule {
 }
 
 // For f64 grids: Ceiling carries its limit.
-#[derive(Drop)]
+#[derive(Clone, Copy)]
 pub enum RuleF64 {
     Add,
     Lowest,

@@ -18,7 +18,7 @@ use layout::{Answer, RAW_FUSED_RANK_LIMIT};
 use replay::CompiledReplay;
 
 // What compile answers; where that is Done, the walks from batch to batch and from cell to cell of a window.
-#[derive(Drop)]
+#[derive(Clone, Copy)]
 pub struct Examined {
     pub answer: Answer,
     pub batch: CompiledReplay,

@@ -16,7 +16,7 @@ use rules::{Rule, RuleF64};
 
 // The numbers that the batches and the windows of a scatter are moved with: the merged axes of both walks, with the steps of each on
 // both sides, and the components of a start.
-#[derive(Drop)]
+#[derive(Clone, Copy)]
 pub struct ScatterNumbers {
     pub batch_rank: usize,
     pub batches: u64,
@@ -35,7 +35,7 @@ pub struct ScatterNumbers {
 
 // What a call of a scatter has decided: its answer; where that is Done, also where the destination's cells lie, the numbers, the axes
 // of the walk from batch to batch, and where the starts, the updates and the destination begin.
-#[derive(Drop)]
+#[derive(Clone, Copy)]
 pub struct PreparedScatter {
     pub answer: Answer,
     pub reach: Reach,

@@ -18,7 +18,7 @@ use replay::{CompiledReplay, WindowReplay, WindowReplayAxis};
 use scatter_checks::Examined;
 
 // `windows` is the window's extent on each operand axis, `batches` and `cells` how many batches and cells of a window there are.
-#[derive(Drop)]
+#[derive(Clone, Copy)]
 pub struct ScatterPlan {
     pub index: Layout,
     pub updates: Layout,
@@ -37,7 +37,7 @@ pub struct ScatterPlan {
 }
 
 // A plan, and the merged axes of its two walks, of which their rows are made; where the scatter is refused, the plan of no axes.
-#[derive(Drop)]
+#[derive(Clone, Copy)]
 pub struct CompiledScatter {
     pub answer: Answer,
     pub plan: ScatterPlan,

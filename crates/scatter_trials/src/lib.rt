@@ -105,7 +105,7 @@ fn try_call(
 // ---- changes
 
 // What is changed: a field of the plan, or the rows of its batches or of its windows.
-#[derive(Drop)]
+#[derive(Clone, Copy)]
 pub enum Change {
     Field(Field),
     BatchRows,

@@ -29,7 +29,7 @@ pub fn is_ended(fd: i32) -> bool {
 }
 
 // Bytes that were read: how many, their sum, the sum of the sums after each, and whether they end here.
-#[derive(Drop)]
+#[derive(Clone, Copy)]
 struct Sums {
     bytes: u64,
     sum: u64,
