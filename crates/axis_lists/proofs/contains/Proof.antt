@@ -8,47 +8,47 @@ use Rattle.axis_lists.proofs.Filling.{has_here, has-next, has-none}
 use Rattle.axis_lists.proofs.contains.Statement.{statement}
 use Rattle.axis_lists.proofs.contains.Tie as tie
 
-abbrev invariant-loop : tie.invariant-loop
+abbrev invariant-loop : tie.invariant-loop-i
 invariant-loop list axis i₀ i = (i ≤ length list) × (has (drop i list) axis ≡ has list axis)
 
-abbrev decreases-loop : tie.decreases-loop
+abbrev decreases-loop : tie.decreases-loop-i
 decreases-loop list axis i₀ i = length list - i
 
-loop-holds : tie.Need-loop-init invariant-loop decreases-loop
+loop-holds : tie.Need-loop-i-init invariant-loop decreases-loop
 loop-holds c = (zero-le, refl)
 
-mul-if1 : tie.Need-overflow-mul-if1 invariant-loop decreases-loop
+mul-if1 : tie.Need-offset_bounds-list-i invariant-loop decreases-loop
 mul-if1 c = search rules
 
-shared-slice-read-if1 : tie.Need-shared-slice-read-if1 invariant-loop decreases-loop
+shared-slice-read-if1 : tie.Need-bounds-list-i invariant-loop decreases-loop
 shared-slice-read-if1 c = search rules
 
-returns : tie.Need-returns invariant-loop decreases-loop
+returns : tie.Need-returns-then-list-i invariant-loop decreases-loop
 returns c =
-    let l = c.before.before.before in
-    let s = l.before in
-    has_here s.args.list.now l.loop.i s.args.axis (omega arith) c.if1.true ∙ l.loop.invariant.1
+    let l = c in
+    let s = l in
+    has_here s.args.list.now l.loop-i.i s.args.axis (omega arith) c.if-list-i.true ∙ l.loop-i.invariant.1
 
-add-i : tie.Need-overflow-add-i invariant-loop decreases-loop
+add-i : tie.Need-overflow_add-i invariant-loop decreases-loop
 add-i c = search rules
 
-loop-less : tie.Need-loop-smaller invariant-loop decreases-loop
+loop-less : tie.Need-loop-i-smaller invariant-loop decreases-loop
 loop-less c = search rules
 
-loop-again : tie.Need-loop-preserved invariant-loop decreases-loop
+loop-again : tie.Need-loop-i-preserved invariant-loop decreases-loop
 loop-again c =
-    let l = c.before.before.before in
-    let s = l.before in
-    (omega arith, has-next s.args.list.now l.loop.i s.args.axis (omega arith) c.if1.false ∙ l.loop.invariant.1)
+    let l = c in
+    let s = l in
+    (omega arith, has-next s.args.list.now l.loop-i.i s.args.axis (omega arith) c.if-list-i.false ∙ l.loop-i.invariant.1)
 
-returns-2 : tie.Need-returns-2 invariant-loop decreases-loop
+returns-2 : tie.Need-returns invariant-loop decreases-loop
 returns-2 c =
-    let l = c.before in
-    let s = l.before in
-    has-none s.args.list.now l.loop.i s.args.axis (omega arith) ∙ l.loop.invariant.1
+    let l = c in
+    let s = l in
+    has-none s.args.list.now l.loop-i.i s.args.axis (omega arith) ∙ l.loop-i.invariant.1
 
-pub contains-spec : {M : Type 1} → statement M
-contains-spec =
+pub contains_spec : {M : Type 1} → statement M
+contains_spec =
     tie.close
     (tie.spec
     invariant-loop

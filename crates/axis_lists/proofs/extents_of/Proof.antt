@@ -7,28 +7,28 @@ use borrow.Author.Rules.{rules}
 use Rattle.axis_lists.proofs.extents_of.Statement.{statement}
 use Rattle.axis_lists.proofs.extents_of.Tie as tie
 
-sub-numbers-from : tie.Need-overflow-sub-numbers-from
+sub-numbers-from : tie.Need-slice_bounds-numbers_from-count
 sub-numbers-from c = search rules
 
-part-numbers-from-start : tie.Need-slice-bounds-numbers-from-start
+part-numbers-from-start : tie.Need-slice_bounds-numbers_from-start
 part-numbers-from-start c = search rules
 
-part-numbers-from-end : tie.Need-slice-bounds-numbers-from-end
+part-numbers-from-end : tie.Need-slice_bounds-numbers_from-end
 part-numbers-from-end c =
-    let a = c.before in
-    let l = a.before.before.args.layout in
+    let a = c in
+    let l = a.args.layout in
     let e : length l.extents ≡ rank_limit = search rules in
-    part-fits a.axis-count.result l.rank rank_limit l.extents a.axis-count.ensures e
+    part-fits a.axis_count-n.result l.rank rank_limit l.extents a.axis_count-n.ensures e
 
 returns : tie.Need-returns
 returns c =
-    let a = c.before.before.before in
-    let l = a.before.before.args.layout in
+    let a = c in
+    let l = a.args.layout in
     let e : length l.extents ≡ rank_limit = search rules in
-    c.numbers-from.ensures ∙ ap held_numbers (part-read a.axis-count.result l.rank rank_limit l.extents a.axis-count.ensures e)
+    c.numbers_from.ensures ∙ ap held_numbers (part-read a.axis_count-n.result l.rank rank_limit l.extents a.axis_count-n.ensures e)
 
-pub extents-of-spec : {M : Type 1} → statement M
-extents-of-spec =
+pub extents_of_spec : {M : Type 1} → statement M
+extents_of_spec =
     tie.close
     (tie.spec
     (λ c κs. tt)

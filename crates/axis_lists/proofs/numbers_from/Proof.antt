@@ -4,7 +4,7 @@ use Rattle.axis_lists.proofs.numbers_from.Statement.{statement}
 use Rattle.axis_lists.proofs.numbers_from.Tie as tie
 
 returns : tie.Need-returns
-returns c = numbers-are _ _ c.before.before.args.list.now refl c.padded-numbers.ensures
+returns c = numbers-are _ _ c.args.list.now refl c.padded_numbers-out.ensures
 
-pub numbers-from-spec : {M : Type 1} → statement M
-numbers-from-spec = tie.close (tie.spec (λ c κs. tt) returns)
+pub numbers_from_spec : {M : Type 1} → statement M
+numbers_from_spec = tie.close (tie.spec (λ c κs. tt) returns)

@@ -15,23 +15,23 @@ use Rattle.axis_lists.proofs.ones.Tie as tie
 first-ones : (n : ℕ) → n ≤ rank_limit → take {A = ℕ} n (replicate rank_limit 1) ≡ replicate n 1
 first-ones n h = ap (take {A = ℕ} n) (all_same 1 n h) ∙ take_at {A = ℕ} (replicate n 1) (replicate (rank_limit - n) 1) n (length-replicate {A = ℕ} n 1)
 
-sub-numbers-from : tie.Need-overflow-sub-numbers-from
+sub-numbers-from : tie.Need-slice_bounds-numbers_from-count
 sub-numbers-from c = search rules
 
-part-numbers-from-start : tie.Need-slice-bounds-numbers-from-start
+part-numbers-from-start : tie.Need-slice_bounds-numbers_from-start
 part-numbers-from-start c = search rules
 
-part-numbers-from-end : tie.Need-slice-bounds-numbers-from-end
+part-numbers-from-end : tie.Need-slice_bounds-numbers_from-end
 part-numbers-from-end c = search rules
 
 returns : tie.Need-returns
 returns c =
-    let a = c.before.before.before in
-    let m = min a.before.args.n rank_limit in
-    c.numbers-from.ensures ∙ ap held_numbers (part-read {A = ℕ} a.axis-count.result m rank_limit (replicate rank_limit 1) (omega (arith, a.axis-count.ensures)) (length-replicate {A = ℕ} rank_limit 1) ∙ first-ones m (omega arith))
+    let a = c in
+    let m = min a.args.n rank_limit in
+    c.numbers_from.ensures ∙ ap held_numbers (part-read {A = ℕ} a.axis_count-m.result m rank_limit (replicate rank_limit 1) (omega (arith, a.axis_count-m.ensures)) (length-replicate {A = ℕ} rank_limit 1) ∙ first-ones m (omega arith))
 
-pub ones-spec : {M : Type 1} → statement M
-ones-spec =
+pub ones_spec : {M : Type 1} → statement M
+ones_spec =
     tie.close
     (tie.spec
     (λ c κs. tt)

@@ -3,14 +3,14 @@ use borrow.Author.Rules.{rules}
 use Rattle.axis_lists.proofs.put_back.Statement.{statement}
 use Rattle.axis_lists.proofs.put_back.Tie as tie
 
-add-result : tie.Need-overflow-add-result
+add-result : tie.Need-overflow_add-result
 add-result c = search rules
 
-returns : tie.Need-returns
-returns c = rw (lt-ltb _ _ c.if1.true)
+returns : tie.Need-returns-then-k-axis
+returns c = rw (lt-ltb _ _ c.if-k-axis.true)
 
-returns-2 : tie.Need-returns-2
-returns-2 c = rw (le-ltb _ _ c.if1.false)
+returns-2 : tie.Need-returns-else-k-axis
+returns-2 c = rw (le-ltb _ _ c.if-k-axis.false)
 
-pub put-back-spec : {M : Type 1} → statement M
-put-back-spec = tie.close (tie.spec add-result returns returns-2)
+pub put_back_spec : {M : Type 1} → statement M
+put_back_spec = tie.close (tie.spec add-result returns returns-2)

@@ -18,88 +18,88 @@ use Rattle.axis_lists.proofs.Slices.{all_same}
 use Rattle.axis_lists.proofs.spread_picked.Statement.{statement}
 use Rattle.axis_lists.proofs.spread_picked.Tie as tie
 
-abbrev invariant-loop : tie.invariant-loop
+abbrev invariant-loop : tie.invariant-loop-i
 invariant-loop n places axes list m out₀ i₀ out i = (i ≤ min (length places) (length axes)) × (out ≡ spread_in (pos 0) (pos 0) (min n rank_limit) (drop i places) (drop i (pick (pos 0) axes list)))
 
-abbrev decreases-loop : tie.decreases-loop
+abbrev decreases-loop : tie.decreases-loop-i
 decreases-loop n places axes list m out₀ i₀ out i = i
 
-axis-count-requires : tie.Need-axis-count-requires invariant-loop decreases-loop
+axis-count-requires : tie.Need-axis_count-m-requires invariant-loop decreases-loop
 axis-count-requires c κs = tt
 
-fewer-requires : tie.Need-fewer-requires invariant-loop decreases-loop
+fewer-requires : tie.Need-fewer-i-requires invariant-loop decreases-loop
 fewer-requires c κs = tt
 
-loop-holds : tie.Need-loop-init invariant-loop decreases-loop
+loop-holds : tie.Need-loop-i-init invariant-loop decreases-loop
 loop-holds c =
-    let s = c.before.before.before.before in
-    (omega (arith, c.fewer.ensures), all_same (pos 0) (min s.args.n rank_limit) (omega arith) ∙ spread_none (pos 0) (pos 0) (min s.args.n rank_limit) s.args.places.now (pick (pos 0) s.args.axes.now s.args.list.now) c.fewer.result (omega (arith, c.fewer.ensures, length-pick (pos 0) s.args.axes.now s.args.list.now)))
+    let s = c in
+    (omega (arith, c.fewer-i.ensures), all_same (pos 0) (min s.args.n rank_limit) (omega arith) ∙ spread_none (pos 0) (pos 0) (min s.args.n rank_limit) s.args.places.now (pick (pos 0) s.args.axes.now s.args.list.now) c.fewer-i.result (omega (arith, c.fewer-i.ensures, length-pick (pos 0) s.args.axes.now s.args.list.now)))
 
-sub-i : tie.Need-overflow-sub-i invariant-loop decreases-loop
+sub-i : tie.Need-overflow_sub-i invariant-loop decreases-loop
 sub-i c = search rules
 
-mul-place : tie.Need-overflow-mul-place invariant-loop decreases-loop
+mul-place : tie.Need-offset_bounds-places-i invariant-loop decreases-loop
 mul-place c = search rules
 
-shared-slice-read-place : tie.Need-shared-slice-read-place invariant-loop decreases-loop
-shared-slice-read-place c = omega (arith, c.before.before.loop.invariant.0)
+shared-slice-read-place : tie.Need-bounds-places-i invariant-loop decreases-loop
+shared-slice-read-place c = omega (arith, c.loop-i.invariant.0)
 
-mul-stride-at : tie.Need-overflow-mul-stride-at invariant-loop decreases-loop
+mul-stride-at : tie.Need-offset_bounds-axes-i invariant-loop decreases-loop
 mul-stride-at c = search rules
 
-shared-slice-read-stride-at : tie.Need-shared-slice-read-stride-at invariant-loop decreases-loop
-shared-slice-read-stride-at c = omega (arith, c.before.before.before.loop.invariant.0)
+shared-slice-read-stride-at : tie.Need-bounds-axes-i invariant-loop decreases-loop
+shared-slice-read-stride-at c = omega (arith, c.loop-i.invariant.0)
 
-stride-at-requires : tie.Need-stride-at-requires invariant-loop decreases-loop
+stride-at-requires : tie.Need-stride_at-step-requires invariant-loop decreases-loop
 stride-at-requires c κs = tt
 
-mul-out : tie.Need-overflow-mul-out invariant-loop decreases-loop
+mul-out : tie.Need-offset_bounds-out-k invariant-loop decreases-loop
 mul-out c = search rules
 
-array-set-from-out : tie.Need-array-set-from-out invariant-loop decreases-loop
+array-set-from-out : tie.Need-bounds-out-k invariant-loop decreases-loop
 array-set-from-out c = search rules
 
-loop-less : tie.Need-loop-smaller invariant-loop decreases-loop
+loop-less : tie.Need-loop-i-smaller-then-place-m invariant-loop decreases-loop
 loop-less c = search rules
 
-loop-again : tie.Need-loop-preserved invariant-loop decreases-loop
+loop-again : tie.Need-loop-i-preserved-then-place-m invariant-loop decreases-loop
 loop-again c =
-    let l = c.before.before.before.before.before in
-    let s = l.before.before.before.before.before in
-    let i = l.loop.i in
-    let t = c.before.before.before.before.loop-test.true in
-    let m = l.before.before.axis-count.ensures in
-    let x = c.before.stride-at.ensures ∙ sym (get_or-pick (pos 0) s.args.axes.now s.args.list.now (i - 1) (omega (arith, t, l.loop.invariant.0))) in
+    let l = c in
+    let s = l in
+    let i = l.loop-i.i in
+    let t = c.loop-i-test.true in
+    let m = l.axis_count-m.ensures in
+    let x = c.stride_at-step.ensures ∙ sym (get_or-pick (pos 0) s.args.axes.now s.args.list.now (i - 1) (omega (arith, t, l.loop-i.invariant.0))) in
     let q : min (min s.args.n rank_limit) rank_limit ≡ min s.args.n rank_limit = omega arith in
-    let f : SFits w64 c.before.stride-at.result = search rules in
-    let v : ℤ = to_z w64 (of_z w64 c.before.stride-at.result) in
+    let f : SFits w64 c.stride_at-step.result = search rules in
+    let v : ℤ = to_z w64 (of_z w64 c.stride_at-step.result) in
     let p : ℕ = get_or s.args.places.now (i - 1) 0 in
-    (omega (arith, l.loop.invariant.0), sym (ap (λ (t : Bool). cond t (set l.loop.out p v) l.loop.out) (lt-ltb p (min s.args.n rank_limit) (omega (arith, m, c.if1.true)))) ∙ ap (λ (k : ℕ). cond (ltb p k) (set l.loop.out p v) l.loop.out) (sym q) ∙ spread-turn (pos 0) (pos 0) (min s.args.n rank_limit) s.args.places.now (pick (pos 0) s.args.axes.now s.args.list.now) l.loop.out i v (omega arith) t (omega (arith, l.loop.invariant.0)) (omega (arith, l.loop.invariant.0, length-pick (pos 0) s.args.axes.now s.args.list.now)) l.loop.invariant.1 (back f ∙ x))
+    (omega (arith, l.loop-i.invariant.0), sym (ap (λ (t : Bool). cond t (set l.loop-i.out p v) l.loop-i.out) (lt-ltb p (min s.args.n rank_limit) (omega (arith, m, c.if-place-m.true)))) ∙ ap (λ (k : ℕ). cond (ltb p k) (set l.loop-i.out p v) l.loop-i.out) (sym q) ∙ spread-turn (pos 0) (pos 0) (min s.args.n rank_limit) s.args.places.now (pick (pos 0) s.args.axes.now s.args.list.now) l.loop-i.out i v (omega arith) t (omega (arith, l.loop-i.invariant.0)) (omega (arith, l.loop-i.invariant.0, length-pick (pos 0) s.args.axes.now s.args.list.now)) l.loop-i.invariant.1 (back f ∙ x))
 
-loop-less-2 : tie.Need-loop-smaller-2 invariant-loop decreases-loop
+loop-less-2 : tie.Need-loop-i-smaller invariant-loop decreases-loop
 loop-less-2 c = search rules
 
-loop-again-2 : tie.Need-loop-preserved-2 invariant-loop decreases-loop
+loop-again-2 : tie.Need-loop-i-preserved invariant-loop decreases-loop
 loop-again-2 c =
-    let l = c.before.before.before.before.before in
-    let s = l.before.before.before.before.before in
-    let i = l.loop.i in
-    let t = c.before.before.before.before.loop-test.true in
-    let m = l.before.before.axis-count.ensures in
-    let x = c.before.stride-at.ensures ∙ sym (get_or-pick (pos 0) s.args.axes.now s.args.list.now (i - 1) (omega (arith, t, l.loop.invariant.0))) in
+    let l = c in
+    let s = l in
+    let i = l.loop-i.i in
+    let t = c.loop-i-test.true in
+    let m = l.axis_count-m.ensures in
+    let x = c.stride_at-step.ensures ∙ sym (get_or-pick (pos 0) s.args.axes.now s.args.list.now (i - 1) (omega (arith, t, l.loop-i.invariant.0))) in
     let q : min (min s.args.n rank_limit) rank_limit ≡ min s.args.n rank_limit = omega arith in
-    (omega (arith, l.loop.invariant.0), sym (ap (λ (t : _). cond t (set l.loop.out (get_or s.args.places.now (i - 1) 0) c.before.stride-at.result) l.loop.out) (le-ltb (get_or s.args.places.now (i - 1) 0) (min s.args.n rank_limit) (omega (arith, m, c.if1.false)))) ∙ ap (λ (k : ℕ). cond (ltb (get_or s.args.places.now (i - 1) 0) k) (set l.loop.out (get_or s.args.places.now (i - 1) 0) c.before.stride-at.result) l.loop.out) (sym q) ∙ spread-turn (pos 0) (pos 0) (min s.args.n rank_limit) s.args.places.now (pick (pos 0) s.args.axes.now s.args.list.now) l.loop.out i c.before.stride-at.result (omega arith) t (omega (arith, l.loop.invariant.0)) (omega (arith, l.loop.invariant.0, length-pick (pos 0) s.args.axes.now s.args.list.now)) l.loop.invariant.1 x)
+    (omega (arith, l.loop-i.invariant.0), sym (ap (λ (t : _). cond t (set l.loop-i.out (get_or s.args.places.now (i - 1) 0) c.stride_at-step.result) l.loop-i.out) (le-ltb (get_or s.args.places.now (i - 1) 0) (min s.args.n rank_limit) (omega (arith, m, c.if-place-m.false)))) ∙ ap (λ (k : ℕ). cond (ltb (get_or s.args.places.now (i - 1) 0) k) (set l.loop-i.out (get_or s.args.places.now (i - 1) 0) c.stride_at-step.result) l.loop-i.out) (sym q) ∙ spread-turn (pos 0) (pos 0) (min s.args.n rank_limit) s.args.places.now (pick (pos 0) s.args.axes.now s.args.list.now) l.loop-i.out i c.stride_at-step.result (omega arith) t (omega (arith, l.loop-i.invariant.0)) (omega (arith, l.loop-i.invariant.0, length-pick (pos 0) s.args.axes.now s.args.list.now)) l.loop-i.invariant.1 x)
 
 returns : tie.Need-returns invariant-loop decreases-loop
 returns c =
-    let l = c.before in
-    let s = l.before.before.before.before.before in
-    let i : l.loop.i ≡ 0 = omega (arith, c.loop-test.false) in
-    l.loop.invariant.1 ∙ ap (λ (k : ℕ). spread_in (pos 0) (pos 0) (min s.args.n rank_limit) (drop k s.args.places.now) (drop k (pick (pos 0) s.args.axes.now s.args.list.now))) i
+    let l = c in
+    let s = l in
+    let i : l.loop-i.i ≡ 0 = omega (arith, c.loop-i-test.false) in
+    l.loop-i.invariant.1 ∙ ap (λ (k : ℕ). spread_in (pos 0) (pos 0) (min s.args.n rank_limit) (drop k s.args.places.now) (drop k (pick (pos 0) s.args.axes.now s.args.list.now))) i
     ∙ spread-padded (pos 0) (pos 0) (min s.args.n rank_limit) s.args.places.now (pick (pos 0) s.args.axes.now s.args.list.now) (omega arith)
 
-pub spread-picked-spec : {M : Type 1} → statement M
-spread-picked-spec =
+pub spread_picked_spec : {M : Type 1} → statement M
+spread_picked_spec =
     tie.close
     (tie.spec
     invariant-loop

@@ -11,25 +11,25 @@ use borrow.Author.Rules.{rules}
 use Rattle.axis_lists.proofs.step_at.Statement.{statement}
 use Rattle.axis_lists.proofs.step_at.Tie as tie
 
-mul-result : tie.Need-overflow-mul-result
+mul-result : tie.Need-offset_bounds-entries-i
 mul-result c = search rules
 
-array-copy-out-result : tie.Need-array-copy-out-result
+array-copy-out-result : tie.Need-bounds-entries-i
 array-copy-out-result c = search rules
 
-returns : tie.Need-returns
+returns : tie.Need-returns-then-axis-n
 returns c =
-    let s = c.before.before.before.before in
+    let s = c in
     let e : length s.args.list.entries ≡ rank_limit = search rules in
     let f : SFits w64 (get_or s.args.list.entries s.args.axis (pos 0)) = search rules in
-    back f ∙ entry-below s.args.list.count s.args.list.entries s.args.axis (pos 0) (omega (arith, c.before.before.axis-count.ensures, c.before.if1.true))
+    back f ∙ entry-below s.args.list.count s.args.list.entries s.args.axis (pos 0) (omega (arith, c.axis_count-n.ensures, c.if-axis-n.true))
 
-returns-2 : tie.Need-returns-2
+returns-2 : tie.Need-returns-else-axis-n
 returns-2 c =
-    let s = c.before.before.before in
+    let s = c in
     let e : length s.args.list.entries ≡ rank_limit = search rules in
-    entry_past s.args.list.count s.args.list.entries s.args.axis (pos 0) (omega (arith, c.before.axis-count.ensures))
+    entry_past s.args.list.count s.args.list.entries s.args.axis (pos 0) (omega (arith, c.axis_count-n.ensures))
 
-pub step-at-spec : {M : Type 1} → statement M
-step-at-spec =
+pub step_at_spec : {M : Type 1} → statement M
+step_at_spec =
     tie.close (tie.spec (λ c κs. tt) mul-result array-copy-out-result returns returns-2)

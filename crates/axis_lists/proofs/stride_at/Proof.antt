@@ -5,17 +5,17 @@ use lib.IntN.{pos}
 use Rattle.axis_lists.proofs.stride_at.Statement.{statement}
 use Rattle.axis_lists.proofs.stride_at.Tie as tie
 
-mul-result : tie.Need-overflow-mul-result
+mul-result : tie.Need-offset_bounds-list-i
 mul-result c = search rules
 
-shared-slice-copy-out-result : tie.Need-shared-slice-copy-out-result
+shared-slice-copy-out-result : tie.Need-bounds-list-i
 shared-slice-copy-out-result c = search rules
 
-returns : tie.Need-returns
+returns : tie.Need-returns-then-axis-list
 returns c = search rules
 
-returns-2 : tie.Need-returns-2
-returns-2 c = sym (get_or-eq_default c.before.args.list.now (pos 0) {n = c.before.args.axis} c.if1.false)
+returns-2 : tie.Need-returns-else-axis-list
+returns-2 c = sym (get_or-eq_default c.args.list.now (pos 0) {n = c.args.axis} c.if-axis-list.false)
 
-pub stride-at-spec : {M : Type 1} → statement M
-stride-at-spec = tie.close (tie.spec mul-result shared-slice-copy-out-result returns returns-2)
+pub stride_at_spec : {M : Type 1} → statement M
+stride_at_spec = tie.close (tie.spec mul-result shared-slice-copy-out-result returns returns-2)

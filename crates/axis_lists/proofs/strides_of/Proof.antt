@@ -9,29 +9,29 @@ use borrow.Author.Rules.{rules}
 use Rattle.axis_lists.proofs.strides_of.Statement.{statement}
 use Rattle.axis_lists.proofs.strides_of.Tie as tie
 
-sub-padded-strides : tie.Need-overflow-sub-padded-strides
+sub-padded-strides : tie.Need-slice_bounds-padded_strides-count
 sub-padded-strides c = search rules
 
-part-padded-strides-start : tie.Need-slice-bounds-padded-strides-start
+part-padded-strides-start : tie.Need-slice_bounds-padded_strides-start
 part-padded-strides-start c = search rules
 
-part-padded-strides-end : tie.Need-slice-bounds-padded-strides-end
+part-padded-strides-end : tie.Need-slice_bounds-padded_strides-end
 part-padded-strides-end c =
-    let a = c.before in
-    let l = a.before.before.args.layout in
+    let a = c in
+    let l = a.args.layout in
     let e : length l.strides ≡ rank_limit = search rules in
-    part-fits a.axis-count.result l.rank rank_limit l.strides a.axis-count.ensures e
+    part-fits a.axis_count-n.result l.rank rank_limit l.strides a.axis_count-n.ensures e
 
 returns : tie.Need-returns
 returns c =
-    let a = c.before.before.before in
-    let l = a.before.before.args.layout in
+    let a = c in
+    let l = a.args.layout in
     let e : length l.strides ≡ rank_limit = search rules in
-    steps-are a.axis-count.result c.padded-strides.result (strides_of l) (omega (arith, a.axis-count.ensures, length-take l.rank l.strides))
-    (c.padded-strides.ensures ∙ ap (padded rank_limit (pos 0)) (part-read a.axis-count.result l.rank rank_limit l.strides a.axis-count.ensures e))
+    steps-are a.axis_count-n.result c.padded_strides-out.result (strides_of l) (omega (arith, a.axis_count-n.ensures, length-take l.rank l.strides))
+    (c.padded_strides-out.ensures ∙ ap (padded rank_limit (pos 0)) (part-read a.axis_count-n.result l.rank rank_limit l.strides a.axis_count-n.ensures e))
 
-pub strides-of-spec : {M : Type 1} → statement M
-strides-of-spec =
+pub strides_of_spec : {M : Type 1} → statement M
+strides_of_spec =
     tie.close
     (tie.spec
     (λ c κs. tt)

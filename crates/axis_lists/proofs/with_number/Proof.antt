@@ -6,24 +6,24 @@ use Rattle.layout.specs.Layouts.{rank_limit}
 use Rattle.axis_lists.proofs.with_number.Statement.{statement}
 use Rattle.axis_lists.proofs.with_number.Tie as tie
 
-mul_next : tie.Need-overflow-mul-next
+mul_next : tie.Need-offset_bounds-next-i
 mul_next c = search rules
 
-array-write-next : tie.Need-array-write-next
+array-write-next : tie.Need-bounds-next-i
 array-write-next c = search rules
 
-returns : tie.Need-returns
+returns : tie.Need-returns-then-place-n
 returns c =
-    let s = c.before.before.before in
-    let n = c.before.before.axis-count.ensures in
-    rw (lt-ltb s.args.place (min s.args.list.count rank_limit) (omega (arith, n, c.before.if1.true)))
+    let s = c in
+    let n = c.axis_count-n.ensures in
+    rw (lt-ltb s.args.place (min s.args.list.count rank_limit) (omega (arith, n, c.if-place-n.true)))
 
-returns-2 : tie.Need-returns-2
+returns-2 : tie.Need-returns
 returns-2 c =
-    let s = c.before.before in
-    let n = c.before.axis-count.ensures in
-    rw (le-ltb s.args.place (min s.args.list.count rank_limit) (omega (arith, n, c.if1.false)))
+    let s = c in
+    let n = c.axis_count-n.ensures in
+    rw (le-ltb s.args.place (min s.args.list.count rank_limit) (omega (arith, n, c.if-place-n.false)))
 
-pub with-number-spec : {M : Type 1} → statement M
-with-number-spec =
+pub with_number_spec : {M : Type 1} → statement M
+with_number_spec =
     tie.close (tie.spec (λ c κs. tt) mul_next array-write-next returns returns-2)

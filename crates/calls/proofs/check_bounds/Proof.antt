@@ -2,10 +2,10 @@ use Rattle.calls.proofs.check_bounds.Statement.{statement}
 use Rattle.calls.proofs.check_bounds.Tie as tie
 
 returns : tie.Need-returns
-returns c = rw (c.or-else2.ensures, c.before.or_else.ensures, c.before.before.check-reach3.ensures, c.before.before.before.check-reach2.ensures, c.before.before.before.before.check-reach.ensures)
+returns c = rw (c.or_else-2.ensures, c.or_else.ensures, c.check_reach-c.ensures, c.check_reach-b.ensures, c.check_reach-a.ensures)
 
-pub check-bounds-spec : {M : Type 1} → statement M
-check-bounds-spec =
+pub check_bounds_spec : {M : Type 1} → statement M
+check_bounds_spec =
     tie.close
     (tie.spec
     (λ c κs. tt)

@@ -9,56 +9,56 @@ use lib.Seq.{take-suc, take_all}
 use Rattle.calls.proofs.same_extents.Statement.{statement}
 use Rattle.calls.proofs.same_extents.Tie as tie
 
-abbrev invariant-loop : tie.invariant-loop
+abbrev invariant-loop : tie.invariant-loop-i
 invariant-loop a b i₀ i = (i ≤ length a) × (take i a ≡ take i b)
 
-abbrev decreases-loop : tie.decreases-loop
+abbrev decreases-loop : tie.decreases-loop-i
 decreases-loop a b i₀ i = length a - i
 
-returns : tie.Need-returns invariant-loop decreases-loop
-returns c = record { yes = λ h. cc; no = λ h. absurd (c.if1.true (ap length h)) }
+returns : tie.Need-returns-then-a-b invariant-loop decreases-loop
+returns c = record { yes = λ h. cc; no = λ h. absurd (c.if-a-b.true (ap length h)) }
 
-loop-holds : tie.Need-loop-init invariant-loop decreases-loop
+loop-holds : tie.Need-loop-i-init invariant-loop decreases-loop
 loop-holds c = (zero-le, refl)
 
-mul-if2 : tie.Need-overflow-mul-if2 invariant-loop decreases-loop
+mul-if2 : tie.Need-offset_bounds-a-i invariant-loop decreases-loop
 mul-if2 c = search rules
 
-shared-slice-read-if2 : tie.Need-shared-slice-read-if2 invariant-loop decreases-loop
+shared-slice-read-if2 : tie.Need-bounds-a-i invariant-loop decreases-loop
 shared-slice-read-if2 c = search rules
 
-mul-if2-2 : tie.Need-overflow-mul-if2-2 invariant-loop decreases-loop
+mul-if2-2 : tie.Need-offset_bounds-b-i invariant-loop decreases-loop
 mul-if2-2 c = search rules
 
-shared-slice-read-if2-2 : tie.Need-shared-slice-read-if2-2 invariant-loop decreases-loop
+shared-slice-read-if2-2 : tie.Need-bounds-b-i invariant-loop decreases-loop
 shared-slice-read-if2-2 c = search rules
 
-returns-2 : tie.Need-returns-2 invariant-loop decreases-loop
+returns-2 : tie.Need-returns-then-a-i invariant-loop decreases-loop
 returns-2 c =
-    let l = c.before.before.before.before in
-    record { yes = λ h. cc; no = λ h. absurd (c.if2.true (ap (λ (xs : List ℕ). get_or xs l.loop.i 0) h)) }
+    let l = c in
+    record { yes = λ h. cc; no = λ h. absurd (c.if-a-i.true (ap (λ (xs : List ℕ). get_or xs l.loop-i.i 0) h)) }
 
-add-i : tie.Need-overflow-add-i invariant-loop decreases-loop
+add-i : tie.Need-overflow_add-i invariant-loop decreases-loop
 add-i c = search rules
 
-loop-less : tie.Need-loop-smaller invariant-loop decreases-loop
+loop-less : tie.Need-loop-i-smaller invariant-loop decreases-loop
 loop-less c = search rules
 
-loop-again : tie.Need-loop-preserved invariant-loop decreases-loop
+loop-again : tie.Need-loop-i-preserved invariant-loop decreases-loop
 loop-again c =
-    let l = c.before.before.before.before in
-    let s = l.before.before in
-    let t = c.before.before.before.loop-test.true in
-    (omega (arith, t), rw (add-one l.loop.i, take-suc s.args.a.now l.loop.i 0 (omega (arith, t)), take-suc s.args.b.now l.loop.i 0 (omega (arith, t, l.before.if1.false))) (ap₂ (λ (xs : List ℕ) (v : ℕ). xs ++ v ∷ []) l.loop.invariant.1 c.if2.false))
+    let l = c in
+    let s = l in
+    let t = c.loop-i-test.true in
+    (omega (arith, t), rw (add-one l.loop-i.i, take-suc s.args.a.now l.loop-i.i 0 (omega (arith, t)), take-suc s.args.b.now l.loop-i.i 0 (omega (arith, t, l.if-a-b.false))) (ap₂ (λ (xs : List ℕ) (v : ℕ). xs ++ v ∷ []) l.loop-i.invariant.1 c.if-a-i.false))
 
-returns-3 : tie.Need-returns-3 invariant-loop decreases-loop
+returns-3 : tie.Need-returns invariant-loop decreases-loop
 returns-3 c =
-    let l = c.before in
-    let s = l.before.before in
-    record { yes = λ h. sym (take_all l.loop.i s.args.a.now (omega (arith, c.loop-test.false))) ∙ l.loop.invariant.1 ∙ take_all l.loop.i s.args.b.now (omega (arith, c.loop-test.false, l.before.if1.false)); no = λ h. refl }
+    let l = c in
+    let s = l in
+    record { yes = λ h. sym (take_all l.loop-i.i s.args.a.now (omega (arith, c.loop-i-test.false))) ∙ l.loop-i.invariant.1 ∙ take_all l.loop-i.i s.args.b.now (omega (arith, c.loop-i-test.false, l.if-a-b.false)); no = λ h. refl }
 
-pub same-extents-spec : {M : Type 1} → statement M
-same-extents-spec =
+pub same_extents_spec : {M : Type 1} → statement M
+same_extents_spec =
     tie.close
     (tie.spec
     invariant-loop

@@ -2,10 +2,10 @@ use Rattle.checks.proofs.check_layouts.Statement.{statement}
 use Rattle.checks.proofs.check_layouts.Tie as tie
 
 returns : tie.Need-returns
-returns c = rw (c.or-else5.ensures, c.before.or-else4.ensures, c.before.before.or-else3.ensures, c.before.before.before.or-else2.ensures, c.before.before.before.before.or_else.ensures, c.before.before.before.before.before.check-rank3.ensures, c.before.before.before.before.before.before.check-rank2.ensures, c.before.before.before.before.before.before.before.check-rank.ensures, c.before.before.before.before.before.before.before.before.check-stride-length3.ensures, c.before.before.before.before.before.before.before.before.before.check-stride-length2.ensures, c.before.before.before.before.before.before.before.before.before.before.check-stride-length.ensures)
+returns c = rw (c.or_else-4.ensures, c.or_else-3.ensures, c.or_else-2.ensures, c.or_else-ranks.ensures, c.or_else.ensures, c.check_rank-f.ensures, c.check_rank-e.ensures, c.check_rank-d.ensures, c.check_stride_length-c.ensures, c.check_stride_length-b.ensures, c.check_stride_length-a.ensures)
 
-pub check-layouts-spec : {M : Type 1} → statement M
-check-layouts-spec =
+pub check_layouts_spec : {M : Type 1} → statement M
+check_layouts_spec =
     tie.close
     (tie.spec
     (λ c κs. tt)

@@ -3,14 +3,14 @@ use borrow.Author.Rules.{rules}
 use Rattle.checks.proofs.check_vector_axis.Statement.{statement}
 use Rattle.checks.proofs.check_vector_axis.Tie as tie
 
-add-t6 : tie.Need-overflow-add-t6
+add-t6 : tie.Need-overflow_add-result
 add-t6 c = search rules
 
-returns : tie.Need-returns
-returns c = rw (le-leb _ _ c.if1.true)
+returns : tie.Need-returns-then-vector-n
+returns c = rw (le-leb _ _ c.if-vector-n.true)
 
-returns-2 : tie.Need-returns-2
-returns-2 c = rw (lt-leb _ _ c.if1.false)
+returns-2 : tie.Need-returns-else-vector-n
+returns-2 c = rw (lt-leb _ _ c.if-vector-n.false)
 
-pub check-vector-axis-spec : {M : Type 1} → statement M
-check-vector-axis-spec = tie.close (tie.spec add-t6 returns returns-2)
+pub check_vector_axis_spec : {M : Type 1} → statement M
+check_vector_axis_spec = tie.close (tie.spec add-t6 returns returns-2)

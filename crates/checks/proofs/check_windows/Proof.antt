@@ -8,59 +8,59 @@ use Rattle.checks.proofs.Windows.{left, windows-no, windows-next, windows-end, w
 use Rattle.checks.proofs.check_windows.Statement.{statement}
 use Rattle.checks.proofs.check_windows.Tie as tie
 
-abbrev invariant-loop : tie.invariant-loop
+abbrev invariant-loop : tie.invariant-loop-i
 invariant-loop windows extents i₀ i = (i ≤ length windows) × (left (length extents) windows extents i ≡ left (length extents) windows extents 0)
 
-abbrev decreases-loop : tie.decreases-loop
+abbrev decreases-loop : tie.decreases-loop-i
 decreases-loop windows extents i₀ i = length windows - i
 
-loop-holds : tie.Need-loop-init invariant-loop decreases-loop
+loop-holds : tie.Need-loop-i-init invariant-loop decreases-loop
 loop-holds c = (omega arith, refl)
 
-mul-if2 : tie.Need-overflow-mul-if2 invariant-loop decreases-loop
+mul-if2 : tie.Need-offset_bounds-windows-i invariant-loop decreases-loop
 mul-if2 c = omega (arith, ltb-true)
 
-shared-slice-read-if2 : tie.Need-shared-slice-read-if2 invariant-loop decreases-loop
+shared-slice-read-if2 : tie.Need-bounds-windows-i invariant-loop decreases-loop
 shared-slice-read-if2 c = omega (arith, ltb-true)
 
-mul-if2-2 : tie.Need-overflow-mul-if2-2 invariant-loop decreases-loop
+mul-if2-2 : tie.Need-offset_bounds-extents-i invariant-loop decreases-loop
 mul-if2-2 c = omega (arith, ltb-true)
 
-shared-slice-read-if2-2 : tie.Need-shared-slice-read-if2-2 invariant-loop decreases-loop
+shared-slice-read-if2-2 : tie.Need-bounds-extents-i invariant-loop decreases-loop
 shared-slice-read-if2-2 c = omega (arith, ltb-true)
 
-returns : tie.Need-returns invariant-loop decreases-loop
+returns : tie.Need-returns-then-windows-i invariant-loop decreases-loop
 returns c =
-    let l = c.before.before.before.before.before in
-    let s = l.before in
-    windows-no (length s.args.extents.now) s.args.windows.now s.args.extents.now l.loop.i (omega (arith, ltb-true)) (omega (arith, ltb-true)) c.if2.true ∙ l.loop.invariant.1
+    let l = c in
+    let s = l in
+    windows-no (length s.args.extents.now) s.args.windows.now s.args.extents.now l.loop-i.i (omega (arith, ltb-true)) (omega (arith, ltb-true)) c.if-windows-i.true ∙ l.loop-i.invariant.1
 
-add-i : tie.Need-overflow-add-i invariant-loop decreases-loop
+add-i : tie.Need-overflow_add-i invariant-loop decreases-loop
 add-i c = search rules
 
-loop-less : tie.Need-loop-smaller invariant-loop decreases-loop
+loop-less : tie.Need-loop-i-smaller invariant-loop decreases-loop
 loop-less c = omega (arith, ltb-true)
 
-loop-again : tie.Need-loop-preserved invariant-loop decreases-loop
+loop-again : tie.Need-loop-i-preserved invariant-loop decreases-loop
 loop-again c =
-    let l = c.before.before.before.before.before in
-    let s = l.before in
-    (omega (arith, ltb-true), windows-next (length s.args.extents.now) s.args.windows.now s.args.extents.now l.loop.i (omega (arith, ltb-true)) (omega (arith, ltb-true)) c.if2.false ∙ l.loop.invariant.1)
+    let l = c in
+    let s = l in
+    (omega (arith, ltb-true), windows-next (length s.args.extents.now) s.args.windows.now s.args.extents.now l.loop-i.i (omega (arith, ltb-true)) (omega (arith, ltb-true)) c.if-windows-i.false ∙ l.loop-i.invariant.1)
 
-returns-2 : tie.Need-returns-2 invariant-loop decreases-loop
+returns-2 : tie.Need-returns-else-i-extents invariant-loop decreases-loop
 returns-2 c =
-    let l = c.before.before in
-    let s = l.before in
-    windows-end (length s.args.extents.now) s.args.windows.now s.args.extents.now l.loop.i (omega (arith, ltb-false)) ∙ l.loop.invariant.1
+    let l = c in
+    let s = l in
+    windows-end (length s.args.extents.now) s.args.windows.now s.args.extents.now l.loop-i.i (omega (arith, ltb-false)) ∙ l.loop-i.invariant.1
 
-returns-3 : tie.Need-returns-3 invariant-loop decreases-loop
+returns-3 : tie.Need-returns-after-loop-i invariant-loop decreases-loop
 returns-3 c =
-    let l = c.before in
-    let s = l.before in
-    windows-short (length s.args.extents.now) s.args.windows.now s.args.extents.now l.loop.i (omega (arith, ltb-false)) ∙ l.loop.invariant.1
+    let l = c in
+    let s = l in
+    windows-short (length s.args.extents.now) s.args.windows.now s.args.extents.now l.loop-i.i (omega (arith, ltb-false)) ∙ l.loop-i.invariant.1
 
-pub check-windows-spec : {M : Type 1} → statement M
-check-windows-spec =
+pub check_windows_spec : {M : Type 1} → statement M
+check_windows_spec =
     tie.close
     (tie.spec
     invariant-loop

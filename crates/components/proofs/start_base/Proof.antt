@@ -8,11 +8,11 @@ use Rattle.components.proofs.Padded.{unless-some}
 use Rattle.components.proofs.start_base.Statement.{statement}
 use Rattle.components.proofs.start_base.Tie as tie
 
-returns : tie.Need-returns
-returns c = sym (ap (λ (m : ℕ). unless_none m (pos 0) c.before.args.offset) c.if1.true)
+returns : tie.Need-returns-then-count-eq0
+returns c = sym (ap (λ (m : ℕ). unless_none m (pos 0) c.args.offset) c.if-count-eq0.true)
 
-returns-2 : tie.Need-returns-2
-returns-2 c = back c.before.ranges.offset ∙ sym (unless-some c.before.args.count (pos 0) c.before.args.offset (omega (arith, c.if1.false)))
+returns-2 : tie.Need-returns-else-count-eq0
+returns-2 c = back c.ranges.offset ∙ sym (unless-some c.args.count (pos 0) c.args.offset (omega (arith, c.if-count-eq0.false)))
 
-pub start-base-spec : {M : Type 1} → statement M
-start-base-spec = tie.close (tie.spec returns returns-2)
+pub start_base_spec : {M : Type 1} → statement M
+start_base_spec = tie.close (tie.spec returns returns-2)

@@ -9,11 +9,11 @@ use Rattle.components.proofs.Padded.{unless-some}
 use Rattle.components.proofs.unless_none.Statement.{statement}
 use Rattle.components.proofs.unless_none.Tie as tie
 
-returns : tie.Need-returns
-returns c = sym (ap (λ (m : ℕ). unless_none m (replicate rank_limit (pos 0)) c.before.args.steps) c.if1.true)
+returns : tie.Need-returns-then-count-eq0
+returns c = sym (ap (λ (m : ℕ). unless_none m (replicate rank_limit (pos 0)) c.args.steps) c.if-count-eq0.true)
 
-returns-2 : tie.Need-returns-2
-returns-2 c = sym (unless-some c.before.args.count (replicate rank_limit (pos 0)) c.before.args.steps (omega (arith, c.if1.false)))
+returns-2 : tie.Need-returns-else-count-eq0
+returns-2 c = sym (unless-some c.args.count (replicate rank_limit (pos 0)) c.args.steps (omega (arith, c.if-count-eq0.false)))
 
-pub unless-none-spec : {M : Type 1} → statement M
-unless-none-spec = tie.close (tie.spec returns returns-2)
+pub unless_none_spec : {M : Type 1} → statement M
+unless_none_spec = tie.close (tie.spec returns returns-2)

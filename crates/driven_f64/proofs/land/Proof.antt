@@ -10,31 +10,31 @@ use Rattle.driven_f64.proofs.land.Statement.{statement}
 use Rattle.driven_f64.proofs.land.Tie as tie
 
 dst-room : (a : tie.Start) → length a.args.dst.now < 2 ^ 63
-dst-room a = omega (arith, a.well-formed.1.1.1.0.1)
+dst-room a = omega (arith, a.well_formed.1.1.1.0.1)
 
-started-requires : tie.Need-started-requires
+started-requires : tie.Need-started-m-requires
 started-requires c κs =
     let a : tie.Start = search in
     start-asks _ _ _ _ _ _ _ _ _ _ _ _ _ _ _ a.pre a.fits.t a.fits.u a.fits.d (dst-room a)
 
 axes-requires : tie.Need-axes-requires
 axes-requires c κs =
-    let s : tie.After-started = search in
+    let s : tie.After-started-m = search in
     let a : tie.Start = search in
     window-asks _ _ _ _ _ _ _ _ _ _ _ _ _ _ _ a.pre a.fits.t a.fits.u a.fits.d (dst-room a) _ s.started.ensures.0
 
-same_length : tie.Need-same-length
+same_length : tie.Need-shape_of-dst
 same_length c = search rules
 
 returns : tie.Need-returns
 returns c =
-    let s : tie.After-started = search in
+    let s : tie.After-started-m = search in
     let x : tie.After-axes = search in
-    let n : tie.After-count-if = search in
+    let n : tie.After-count_if = search in
     let a : tie.Start = search in (
       window-end _ _ _ _ _ _ _ _ _ _ _ _ _ _ _ a.pre a.fits.t a.fits.u a.fits.d (dst-room a) _ s.started.ensures.0 nan (rule_f64 a.args.rule) a.args.src.now a.args.dst.now _ x.axes.ensures,
       flag-end a.args.starts.now a.args.offsets.now a.args.limits.now a.args.count a.args.t a.fits.t _ _ s.started.ensures.1 n.count-if.ensures,
     )
 
-pub land-spec : {M : Type 1} → statement M
-land-spec = tie.close (tie.spec started-requires axes-requires (λ c κs. tt) same_length returns)
+pub land_spec : {M : Type 1} → statement M
+land_spec = tie.close (tie.spec started-requires axes-requires (λ c κs. tt) same_length returns)

@@ -25,13 +25,13 @@ use Rattle.driven.proofs.Places.{begun, body-asks, step-asks, step_gives, body-g
 use Rattle.driven_f64.proofs.scatter_driven.Statement.{statement}
 use Rattle.driven_f64.proofs.scatter_driven.Tie as tie
 
-abbrev invariant-loop : tie.invariant-loop
+abbrev invariant-loop : tie.invariant-loop-b
 invariant-loop rule src starts dst₀ shape rows rank total count offsets strides limits wextents ws ds low wrank t u d state₀ slid₀ b₀ dst state slid b =
     (b ≤ total) × (length dst ≡ length dst₀) × (state ≡ state_at (to_z w64 t) (to_z w64 u) shape rows rank b)
     × (dst ≡ in_order (λ k. land nan (rule_f64 rule) src starts offsets strides limits count wextents ws ds wrank (to_z w64 d) (place_at (to_z w64 t) shape (column 0 rows) rank k) (place_at (to_z w64 u) shape (column 2 rows) rank k)) b dst₀)
     × (slid ≡ starts_moved starts offsets limits count b (place_at (to_z w64 t) shape (column 0 rows) rank))
 
-abbrev decreases-loop : tie.decreases-loop
+abbrev decreases-loop : tie.decreases-loop-b
 decreases-loop rule src starts dst₀ shape rows rank total count offsets strides limits wextents ws ds low wrank t u d state₀ slid₀ b₀ dst state slid b = total - b
 
 module _ (a : tie.Start invariant-loop decreases-loop) where
@@ -48,48 +48,48 @@ module _ (a : tie.Start invariant-loop decreases-loop) where
   abbrev flag : ℤ → Bool
   flag x = start_moved a.args.starts.now a.args.offsets.now a.args.limits.now x a.args.count
 
-start-requires : tie.Need-start-requires invariant-loop decreases-loop
+start-requires : tie.Need-start-state-requires invariant-loop decreases-loop
 start-requires c κs = tt
 
-loop-holds : tie.Need-loop-init invariant-loop decreases-loop
+loop-holds : tie.Need-loop-b-init invariant-loop decreases-loop
 loop-holds c =
-    let s : tie.After-start invariant-loop decreases-loop = search in
+    let s : tie.After-start-state invariant-loop decreases-loop = search in
     let a : tie.Start invariant-loop decreases-loop = search in (omega arith, refl, begun (Asked a) _ _ _ _ _ _ _ a.pre a.fits.t a.fits.u a.fits.d (shape-full a) (rows-full a) _ s.start.ensures, none _ 0 _ refl, many-none 0 _ refl)
 
-land-requires : tie.Need-land-requires invariant-loop decreases-loop
+land-requires : tie.Need-land-one-requires invariant-loop decreases-loop
 land-requires c κs =
-    let g : tie.In-loop invariant-loop decreases-loop = search in
+    let g : tie.In-loop-b invariant-loop decreases-loop = search in
     let h = g.before in
     let a : tie.Start invariant-loop decreases-loop = search in
     subst (λ (m : ℕ). Landing a.args.starts.now a.args.offsets.now a.args.strides.now a.args.limits.now a.args.count (read a.args.d) a.args.wextents.now a.args.ws.now a.args.ds.now a.args.low a.args.wrank (length a.args.src.now) m (read h.loop.state.source_offset) (read h.loop.state.dest_offset)) (sym h.loop.inv.1)
     (body-asks (Asked a) _ _ _ _ _ _ _ a.pre a.fits.t a.fits.u a.fits.d (shape-full a) (rows-full a) h.loop.b h.loop.state h.loop.inv.2 g.loop-test.taken)
 
-moved-requires : tie.Need-moved-requires invariant-loop decreases-loop
+moved-requires : tie.Need-moved-state-requires invariant-loop decreases-loop
 moved-requires c κs =
-    let h : tie.At-loop invariant-loop decreases-loop = search in
+    let h : tie.At-loop-b invariant-loop decreases-loop = search in
     let a : tie.Start invariant-loop decreases-loop = search in
     step-asks (Asked a) _ _ _ _ _ _ _ a.pre a.fits.t a.fits.u a.fits.d (shape-full a) (rows-full a) h.loop.b h.loop.state h.loop.inv.2
 
-add-slid : tie.Need-overflow-add-slid invariant-loop decreases-loop
+add-slid : tie.Need-overflow_add-slid invariant-loop decreases-loop
 add-slid c =
-    let g : tie.In-loop invariant-loop decreases-loop = search in
-    let l : tie.After-land invariant-loop decreases-loop = search in
-    let h : tie.At-loop invariant-loop decreases-loop = search in
+    let g : tie.In-loop-b invariant-loop decreases-loop = search in
+    let l : tie.After-land-one invariant-loop decreases-loop = search in
+    let h : tie.At-loop-b invariant-loop decreases-loop = search in
     let a : tie.Start invariant-loop decreases-loop = search in
     omega (arith, one_below h.loop.b _ _ _ (flag a (read h.loop.state.source_offset)) h.loop.inv.4 l.land.ensures.1, g.loop-test.taken)
 
-add-b : tie.Need-overflow-add-b invariant-loop decreases-loop
+add-b : tie.Need-overflow_add-b invariant-loop decreases-loop
 add-b c = omega arith
 
-loop-less : tie.Need-loop-smaller invariant-loop decreases-loop
+loop-less : tie.Need-loop-b-smaller invariant-loop decreases-loop
 loop-less c = omega arith
 
-loop-again : tie.Need-loop-preserved invariant-loop decreases-loop
+loop-again : tie.Need-loop-b-preserved invariant-loop decreases-loop
 loop-again c =
-    let d : tie.In-loop invariant-loop decreases-loop = search in
-    let l : tie.After-land invariant-loop decreases-loop = search in
-    let m : tie.After-moved invariant-loop decreases-loop = search in
-    let h : tie.At-loop invariant-loop decreases-loop = search in
+    let d : tie.In-loop-b invariant-loop decreases-loop = search in
+    let l : tie.After-land-one invariant-loop decreases-loop = search in
+    let m : tie.After-moved-state invariant-loop decreases-loop = search in
+    let h : tie.At-loop-b invariant-loop decreases-loop = search in
     let a : tie.Start invariant-loop decreases-loop = search in (
       omega (arith, d.loop-test.taken),
       l.land.kept.1.1.1.0 ∙ h.loop.inv.1,
@@ -98,16 +98,16 @@ loop-again c =
       body-counts (Asked a) _ _ _ _ _ _ _ a.pre a.fits.t a.fits.u a.fits.d (shape-full a) (rows-full a) (flag a) h.loop.b h.loop.state h.loop.inv.2 _ _ h.loop.inv.4 l.land.ensures.1,
     )
 
-same_length : tie.Need-same-length invariant-loop decreases-loop
-same_length c = c.before.loop.invariant.1
+same_length : tie.Need-shape_of-dst invariant-loop decreases-loop
+same_length c = c.loop-b.invariant.1
 
 returns : tie.Need-returns invariant-loop decreases-loop
 returns c =
-    let h = c.before in
+    let h = c in
     let a : tie.Start invariant-loop decreases-loop = search in (
-      ended (Asked a) _ _ _ _ _ _ _ a.pre a.fits.t a.fits.u a.fits.d (shape-full a) (rows-full a) (land nan (rule_f64 a.args.rule) a.args.src.now a.args.starts.now a.args.offsets.now a.args.strides.now a.args.limits.now a.args.count a.args.wextents.now a.args.ws.now a.args.ds.now a.args.wrank) h.loop.b a.args.dst.now h.loop.dst (omega arith) h.loop.invariant.3,
-      ended-count (Asked a) _ _ _ _ _ _ _ a.pre a.fits.t a.fits.u a.fits.d (shape-full a) (rows-full a) (flag a) h.loop.b _ (omega arith) h.loop.invariant.4,
+      ended (Asked a) _ _ _ _ _ _ _ a.pre a.fits.t a.fits.u a.fits.d (shape-full a) (rows-full a) (land nan (rule_f64 a.args.rule) a.args.src.now a.args.starts.now a.args.offsets.now a.args.strides.now a.args.limits.now a.args.count a.args.wextents.now a.args.ws.now a.args.ds.now a.args.wrank) h.loop-b.b a.args.dst.now h.loop-b.dst (omega arith) h.loop-b.invariant.3,
+      ended-count (Asked a) _ _ _ _ _ _ _ a.pre a.fits.t a.fits.u a.fits.d (shape-full a) (rows-full a) (flag a) h.loop-b.b _ (omega arith) h.loop-b.invariant.4,
     )
 
-pub scatter-driven-spec : {M : Type 1} → statement M
-scatter-driven-spec = tie.close (tie.spec invariant-loop decreases-loop start-requires loop-holds land-requires moved-requires add-slid add-b loop-less loop-again same_length returns)
+pub scatter_driven_spec : {M : Type 1} → statement M
+scatter_driven_spec = tie.close (tie.spec invariant-loop decreases-loop start-requires loop-holds land-requires moved-requires add-slid add-b loop-less loop-again same_length returns)

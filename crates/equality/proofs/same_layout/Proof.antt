@@ -2,9 +2,9 @@ use Rattle.equality.proofs.same_layout.Statement.{statement}
 use Rattle.equality.proofs.same_layout.Tie as tie
 
 returns : tie.Need-returns
-returns c = rw (c.both2.ensures, c.before.both.ensures, c.before.before.before.before.same-i64s.ensures, c.before.before.before.before.before.before.before.same-u64s.ensures)
+returns c = rw (c.both-2.ensures, c.both.ensures, c.same_i64s-strides.ensures, c.same_u64s-extents.ensures)
 
-pub same-layout-spec : {M : Type 1} → statement M
-same-layout-spec =
+pub same_layout_spec : {M : Type 1} → statement M
+same_layout_spec =
     tie.close
     (tie.spec (λ c κs. tt) (λ c κs. tt) (λ c κs. tt) (λ c κs. tt) returns)

@@ -11,59 +11,59 @@ use Rattle.equality.proofs.Compare.{same_differs, same_next, same_ends}
 use Rattle.equality.proofs.same_u64s.Statement.{statement}
 use Rattle.equality.proofs.same_u64s.Tie as tie
 
-abbrev invariant-loop : tie.invariant-loop
+abbrev invariant-loop : tie.invariant-loop-i
 invariant-loop a b i₀ i = (i ≤ rank_limit) × (same_by eqb (drop i a) (drop i b) ≡ same_by eqb a b)
 
-abbrev decreases-loop : tie.decreases-loop
+abbrev decreases-loop : tie.decreases-loop-i
 decreases-loop a b i₀ i = rank_limit - i
 
-loop-holds : tie.Need-loop-init invariant-loop decreases-loop
+loop-holds : tie.Need-loop-i-init invariant-loop decreases-loop
 loop-holds c = (zero-le, refl)
 
-mul-if1 : tie.Need-overflow-mul-if1 invariant-loop decreases-loop
+mul-if1 : tie.Need-offset_bounds-a-i invariant-loop decreases-loop
 mul-if1 c = search rules
 
-array-read-if1 : tie.Need-array-read-if1 invariant-loop decreases-loop
+array-read-if1 : tie.Need-bounds-a-i invariant-loop decreases-loop
 array-read-if1 c = search rules
 
-mul-if1-2 : tie.Need-overflow-mul-if1-2 invariant-loop decreases-loop
+mul-if1-2 : tie.Need-offset_bounds-b-i invariant-loop decreases-loop
 mul-if1-2 c = search rules
 
-array-read-if1-2 : tie.Need-array-read-if1-2 invariant-loop decreases-loop
+array-read-if1-2 : tie.Need-bounds-b-i invariant-loop decreases-loop
 array-read-if1-2 c = search rules
 
-returns : tie.Need-returns invariant-loop decreases-loop
+returns : tie.Need-returns-then-a-i invariant-loop decreases-loop
 returns c =
-    let l = c.before.before in
-    let s = l.before in
+    let l = c in
+    let s = l in
     let e : length s.args.t1 ≡ rank_limit = search rules in
     let f : length s.args.t2 ≡ rank_limit = search rules in
-    same_differs eqb 0 s.args.t1 s.args.t2 l.loop.i (omega arith) (omega arith) (ne_eqb _ _ c.if1.true) ∙ l.loop.invariant.1
+    same_differs eqb 0 s.args.t1 s.args.t2 l.loop-i.i (omega arith) (omega arith) (ne_eqb _ _ c.if-a-i.true) ∙ l.loop-i.invariant.1
 
-add-i : tie.Need-overflow-add-i invariant-loop decreases-loop
+add-i : tie.Need-overflow_add-i invariant-loop decreases-loop
 add-i c = search rules
 
-loop-less : tie.Need-loop-smaller invariant-loop decreases-loop
+loop-less : tie.Need-loop-i-smaller invariant-loop decreases-loop
 loop-less c = search rules
 
-loop-again : tie.Need-loop-preserved invariant-loop decreases-loop
+loop-again : tie.Need-loop-i-preserved invariant-loop decreases-loop
 loop-again c =
-    let l = c.before.before in
-    let s = l.before in
+    let l = c in
+    let s = l in
     let e : length s.args.t1 ≡ rank_limit = search rules in
     let f : length s.args.t2 ≡ rank_limit = search rules in
-    (omega arith, same_next eqb 0 s.args.t1 s.args.t2 l.loop.i (omega arith) (omega arith) (eq-eqb _ _ c.if1.false) ∙ l.loop.invariant.1)
+    (omega arith, same_next eqb 0 s.args.t1 s.args.t2 l.loop-i.i (omega arith) (omega arith) (eq-eqb _ _ c.if-a-i.false) ∙ l.loop-i.invariant.1)
 
-returns-2 : tie.Need-returns-2 invariant-loop decreases-loop
+returns-2 : tie.Need-returns invariant-loop decreases-loop
 returns-2 c =
-    let l = c.before in
-    let s = l.before in
+    let l = c in
+    let s = l in
     let e : length s.args.t1 ≡ rank_limit = search rules in
     let f : length s.args.t2 ≡ rank_limit = search rules in
-    same_ends eqb 0 s.args.t1 s.args.t2 l.loop.i (omega arith) (omega arith) ∙ l.loop.invariant.1
+    same_ends eqb 0 s.args.t1 s.args.t2 l.loop-i.i (omega arith) (omega arith) ∙ l.loop-i.invariant.1
 
-pub same-u64s-spec : {M : Type 1} → statement M
-same-u64s-spec =
+pub same_u64s_spec : {M : Type 1} → statement M
+same_u64s_spec =
     tie.close
     (tie.spec
     invariant-loop

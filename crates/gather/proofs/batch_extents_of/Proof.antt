@@ -13,25 +13,25 @@ use Rattle.gather.proofs.batch_extents_of.Tie as tie
 held : (s : tie.Start) → length s.args.dims.entries ≡ rank_limit
 held s = search rules
 
-sub-batch-extents : tie.Need-overflow-sub-batch-extents
+sub-batch-extents : tie.Need-slice_bounds-batch_extents-count
 sub-batch-extents c = search rules
 
-part-batch-extents-start : tie.Need-slice-bounds-batch-extents-start
+part-batch-extents-start : tie.Need-slice_bounds-batch_extents-start
 part-batch-extents-start c = search rules
 
-part-batch-extents-end : tie.Need-slice-bounds-batch-extents-end
+part-batch-extents-end : tie.Need-slice_bounds-batch_extents-end
 part-batch-extents-end c =
-    let n : tie.After-axis-count = search in
+    let n : tie.After-axis_count-n = search in
     let s : tie.Start = search in
     part-fits n.axis-count.result s.args.dims.count s.args.dims.entries n.axis-count.ensures (held s)
 
 returns : tie.Need-returns
 returns c =
-    let b : tie.After-batch-extents = search in
-    let n : tie.After-axis-count = search in
+    let b : tie.After-batch_extents = search in
+    let n : tie.After-axis_count-n = search in
     let s : tie.Start = search in
     b.batch-extents.ensures
     ∙ ap (λ (l : List ℕ). tabulate rank_limit (λ a. cond (has l a) 1 (get_or s.args.extents a 0))) (part-read n.axis-count.result s.args.dims.count s.args.dims.entries n.axis-count.ensures (held s))
 
-pub batch-extents-of-spec : {M : Type 1} → statement M
-batch-extents-of-spec = tie.close (tie.spec (λ c κs. tt) sub-batch-extents part-batch-extents-start part-batch-extents-end (λ c κs. tt) returns)
+pub batch_extents_of_spec : {M : Type 1} → statement M
+batch_extents_of_spec = tie.close (tie.spec (λ c κs. tt) sub-batch-extents part-batch-extents-start part-batch-extents-end (λ c κs. tt) returns)

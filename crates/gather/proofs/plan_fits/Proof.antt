@@ -4,18 +4,18 @@ use Rattle.calls.proofs.Same.{first-yes, first-no}
 use Rattle.gather.proofs.plan_fits.Statement.{statement}
 use Rattle.gather.proofs.plan_fits.Tie as tie
 
-returns : tie.Need-returns
+returns : tie.Need-returns-then-views
 returns c =
-    let v = ap₂ ◌&&◌ c.before.before.before.before.before.before.same_layout.ensures (c.before.before.before.both.ensures ∙ ap₂ ◌&&◌ c.before.before.before.before.before.same-layout2.ensures c.before.before.before.before.same-layout3.ensures) in
-    first-yes _ _ _ (sym (c.before.before.both2.ensures ∙ v) ∙ c.before.if1.true) c.is-compiled.ensures
+    let v = ap₂ ◌&&◌ c.same_layout-first.ensures (c.both.ensures ∙ ap₂ ◌&&◌ c.same_layout-second.ensures c.same_layout-third.ensures) in
+    first-yes _ _ _ (sym (c.both-views.ensures ∙ v) ∙ c.if-views.true) c.is_compiled.ensures
 
-returns-2 : tie.Need-returns-2
+returns-2 : tie.Need-returns-else-views
 returns-2 c =
-    let v = ap₂ ◌&&◌ c.before.before.before.before.before.same_layout.ensures (c.before.before.both.ensures ∙ ap₂ ◌&&◌ c.before.before.before.before.same-layout2.ensures c.before.before.before.same-layout3.ensures) in
-    first-no _ _ (sym (c.before.both2.ensures ∙ v) ∙ c.if1.false)
+    let v = ap₂ ◌&&◌ c.same_layout-first.ensures (c.both.ensures ∙ ap₂ ◌&&◌ c.same_layout-second.ensures c.same_layout-third.ensures) in
+    first-no _ _ (sym (c.both-views.ensures ∙ v) ∙ c.if-views.false)
 
-pub plan-fits-spec : {M : Type 1} → statement M
-plan-fits-spec =
+pub plan_fits_spec : {M : Type 1} → statement M
+plan_fits_spec =
     tie.close
     (tie.spec
     (λ c κs. tt)

@@ -16,34 +16,34 @@ use Rattle.gather.proofs.Planned.{answer-is, compiled, ready}
 use Rattle.gather.proofs.prepare.Statement.{statement}
 use Rattle.gather.proofs.prepare.Tie as tie
 
-returns : tie.Need-returns
+returns : tie.Need-returns-then-not-is_done
 returns c =
-    let s = c.before.before.before.before.before.before.before.before.before.before in
-    let a = answer-is s.args.plan (gather_of s.args.plan s.args.operand s.args.index s.args.dest) s.args.operand-len s.args.starts-len s.args.dest-len c.before.before.before.before.before.before.before.before.before.plan-fits.ensures c.before.before.before.before.before.before.before.before.check-plan.ensures c.before.before.before.before.before.before.before.view-reach.ensures c.before.before.before.before.before.before.view-reach2.ensures c.before.before.before.before.before.view-reach3.ensures c.before.before.before.before.check-bounds.ensures c.before.before.before.or_else.ensures in
+    let s = c in
+    let a = answer-is s.args.plan (gather_of s.args.plan s.args.operand s.args.index s.args.dest) s.args.operand-len s.args.starts-len s.args.dest-len c.plan_fits-fits.ensures c.check_plan-eight.ensures c.view_reach-x.ensures c.view_reach-y.ensures c.view_reach-z.ensures c.check_bounds-nine.ensures c.or_else-answer.ensures in
     let e = c.refused.ensures in
-    record { answered = e ∙ a; ready = λ d. never (sym d ∙ ap is_done (sym a) ∙ sym c.before.before.is-done.ensures ∙ not-true _ c.before.if1.true) }
+    record { answered = e ∙ a; ready = λ d. never (sym d ∙ ap is_done (sym a) ∙ sym c.is_done.ensures ∙ not-true _ c.if-not-is_done.true) }
 
-numbers-of-requires : tie.Need-numbers-of-requires
+numbers-of-requires : tie.Need-numbers_of-numbers-requires
 numbers-of-requires c κs =
-    let s = c.before.before.before.before.before.before.before.before.before in
-    let a = answer-is s.args.plan (gather_of s.args.plan s.args.operand s.args.index s.args.dest) s.args.operand-len s.args.starts-len s.args.dest-len c.before.before.before.before.before.before.before.before.plan-fits.ensures c.before.before.before.before.before.before.before.check-plan.ensures c.before.before.before.before.before.before.view-reach.ensures c.before.before.before.before.before.view-reach2.ensures c.before.before.before.before.view-reach3.ensures c.before.before.before.check-bounds.ensures c.before.before.or_else.ensures in
-    compiled s.args.plan s.args.operand s.args.index s.args.dest s.args.operand-len s.args.starts-len s.args.dest-len (ap is_done (sym a) ∙ sym c.before.is-done.ensures ∙ not-false _ c.if1.false)
+    let s = c in
+    let a = answer-is s.args.plan (gather_of s.args.plan s.args.operand s.args.index s.args.dest) s.args.operand-len s.args.starts-len s.args.dest-len c.plan_fits-fits.ensures c.check_plan-eight.ensures c.view_reach-x.ensures c.view_reach-y.ensures c.view_reach-z.ensures c.check_bounds-nine.ensures c.or_else-answer.ensures in
+    compiled s.args.plan s.args.operand s.args.index s.args.dest s.args.operand-len s.args.starts-len s.args.dest-len (ap is_done (sym a) ∙ sym c.is_done.ensures ∙ not-false _ c.if-not-is_done.false)
 
-returns-2 : tie.Need-returns-2
+returns-2 : tie.Need-returns
 unfolding gather_numbers
 returns-2 c =
-    let s = c.before.before.before.before.before.before.before.before.before.before.before.before.before.before in
-    let a = answer-is s.args.plan (gather_of s.args.plan s.args.operand s.args.index s.args.dest) s.args.operand-len s.args.starts-len s.args.dest-len c.before.before.before.before.before.before.before.before.before.before.before.before.before.plan-fits.ensures c.before.before.before.before.before.before.before.before.before.before.before.before.check-plan.ensures c.before.before.before.before.before.before.before.before.before.before.before.view-reach.ensures c.before.before.before.before.before.before.before.before.before.before.view-reach2.ensures c.before.before.before.before.before.before.before.before.before.view-reach3.ensures c.before.before.before.before.before.before.before.before.check-bounds.ensures c.before.before.before.before.before.before.before.or_else.ensures in
-    let d = ap is_done (sym a) ∙ sym c.before.before.before.before.before.before.is-done.ensures ∙ not-false _ c.before.before.before.before.before.if1.false in
+    let s = c in
+    let a = answer-is s.args.plan (gather_of s.args.plan s.args.operand s.args.index s.args.dest) s.args.operand-len s.args.starts-len s.args.dest-len c.plan_fits-fits.ensures c.check_plan-eight.ensures c.view_reach-x.ensures c.view_reach-y.ensures c.view_reach-z.ensures c.check_bounds-nine.ensures c.or_else-answer.ensures in
+    let d = ap is_done (sym a) ∙ sym c.is_done.ensures ∙ not-false _ c.if-not-is_done.false in
     let f : SFits w64 s.args.index.offset = search rules in
     let fo : SFits w64 s.args.operand.offset = search rules in
     let fd : SFits w64 s.args.dest.offset = search rules in
-    let fb : SFits w64 c.before.before.start-base.result = search rules in
-    let b = c.before.before.start-base.ensures ∙ ap₂ (λ (n : ℕ) (z : ℤ). unless_none n (pos 0) z) (ap (λ (w : GatherNumbers). w.count) c.before.before.before.before.Numbers-of.ensures) (back f) in
-    record { answered = a; ready = λ t. ready s.args.plan s.args.operand s.args.index s.args.dest s.args.operand-len s.args.starts-len s.args.dest-len d _ c.before.before.before.before.before.before.before.before.before.view-reach3.ensures c.before.before.before.before.Numbers-of.ensures (back fo) (back fb ∙ b) (back fd) }
+    let fb : SFits w64 c.start_base-base.result = search rules in
+    let b = c.start_base-base.ensures ∙ ap₂ (λ (n : ℕ) (z : ℤ). unless_none n (pos 0) z) (ap (λ (w : GatherNumbers). w.count) c.Numbers-of.ensures) (back f) in
+    record { answered = a; ready = λ t. ready s.args.plan s.args.operand s.args.index s.args.dest s.args.operand-len s.args.starts-len s.args.dest-len d _ c.view_reach-z.ensures c.Numbers-of.ensures (back fo) (back fb ∙ b) (back fd) }
 
-pub prepare-spec : {M : Type 1} → statement M
-prepare-spec =
+pub prepare_spec : {M : Type 1} → statement M
+prepare_spec =
     tie.close
     (tie.spec
     (λ c κs. tt)

@@ -4,11 +4,11 @@ use Rattle.gather_checks.proofs.check_axis.Tie as tie
 
 returns : tie.Need-returns
 returns c =
-    let s = c.before.before.before.before.before in
-    rw (c.or-else2.ensures, c.before.or_else.ensures, c.before.before.check-reset3.ensures, c.before.before.before.check-reset2.ensures, c.before.before.before.before.check-reset.ensures, back s.ranges.dest, back s.ranges.window, back s.ranges.batch)
+    let s = c in
+    rw (c.or_else-2.ensures, c.or_else.ensures, c.check_reset-c.ensures, c.check_reset-b.ensures, c.check_reset-a.ensures, back s.ranges.dest, back s.ranges.window, back s.ranges.batch)
 
-pub check-axis-spec : {M : Type 1} → statement M
-check-axis-spec =
+pub check_axis_spec : {M : Type 1} → statement M
+check_axis_spec =
     tie.close
     (tie.spec
     (λ c κs. tt)

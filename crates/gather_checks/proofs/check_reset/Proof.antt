@@ -6,22 +6,22 @@ use borrow.Author.Rules.{rules}
 use Rattle.gather_checks.proofs.check_reset.Statement.{statement}
 use Rattle.gather_checks.proofs.check_reset.Tie as tie
 
-enum_told : tie.Need-enum-told
+enum_told : tie.Need-enum_told-1
 enum_told c = search rules
 
-enum-told-2 : tie.Need-enum-told-2
+enum-told-2 : tie.Need-enum_told-in-Overflow
 enum-told-2 c = search rules
 
-returns : tie.Need-returns
+returns : tie.Need-returns-in-Fits
 returns c =
-    let s = c.before.before.before in
-    ap number_fits (sym c.enum_told.given.1 ∙ c.before.before.checked-replay-reset.ensures ∙ ap (reset_of s.args.extent) (back s.ranges.step))
+    let s = c in
+    ap number_fits (sym c.in-Fits.is ∙ c.checked_replay_reset-reset.ensures ∙ ap (reset_of s.args.extent) (back s.ranges.step))
 
-returns-2 : tie.Need-returns-2
+returns-2 : tie.Need-returns-in-Overflow
 returns-2 c =
-    let s = c.before.before.before in
-    ap number_fits (sym c.enum-told2.given.1 ∙ c.before.before.checked-replay-reset.ensures ∙ ap (reset_of s.args.extent) (back s.ranges.step))
+    let s = c in
+    ap number_fits (sym c.in-Overflow.is ∙ c.checked_replay_reset-reset.ensures ∙ ap (reset_of s.args.extent) (back s.ranges.step))
 
-pub check-reset-spec : {M : Type 1} → statement M
-check-reset-spec =
+pub check_reset_spec : {M : Type 1} → statement M
+check_reset_spec =
     tie.close (tie.spec (λ c κs. tt) enum_told enum-told-2 returns returns-2)

@@ -17,62 +17,62 @@ use Rattle.checks.proofs.Held.{length-padded, steps-part}
 use Rattle.gather_checks.proofs.examine_axes.Statement.{statement}
 use Rattle.gather_checks.proofs.examine_axes.Tie as tie
 
-check-counts-requires : tie.Need-check-counts-requires
+check-counts-requires : tie.Need-check_counts-c-requires
 check-counts-requires c κs = search rules
 
-check-shape-requires : tie.Need-check-shape-requires
-check-shape-requires c κs = c.before.before.before.before.before.before.before.before.before.before.before.before.before.before.requires.batch
+check-shape-requires : tie.Need-check_shape-d-requires
+check-shape-requires c κs = c.requires.batch
 
-sub-check-resets : tie.Need-overflow-sub-check-resets
+sub-check-resets : tie.Need-slice_bounds-check_resets-count
 sub-check-resets c = search rules
 
-part-check-resets-start : tie.Need-slice-bounds-check-resets-start
+part-check-resets-start : tie.Need-slice_bounds-check_resets-start
 part-check-resets-start c = search rules
 
-part-check-resets-end : tie.Need-slice-bounds-check-resets-end
+part-check-resets-end : tie.Need-slice_bounds-check_resets-end
 part-check-resets-end c =
-    let e : length c.before.before.before.before.before.spread_picked.result ≡ rank_limit = search rules in
-    omega (arith, e, c.before.before.before.before.before.before.before.before.before.before.before.before.before.before.before.before.requires.few)
+    let e : length c.spread_picked-window.result ≡ rank_limit = search rules in
+    omega (arith, e, c.requires.few)
 
-sub-check-resets-2 : tie.Need-overflow-sub-check-resets-2
+sub-check-resets-2 : tie.Need-slice_bounds-check_resets-count-2
 sub-check-resets-2 c = search rules
 
-part-check-resets-start-2 : tie.Need-slice-bounds-check-resets-start-2
+part-check-resets-start-2 : tie.Need-slice_bounds-check_resets-start-2
 part-check-resets-start-2 c = search rules
 
-part-check-resets-end-2 : tie.Need-slice-bounds-check-resets-end-2
+part-check-resets-end-2 : tie.Need-slice_bounds-check_resets-end-2
 part-check-resets-end-2 c =
-    let e : length c.before.before.before.before.before.before.spread-picked2.result ≡ rank_limit = search rules in
-    omega (arith, e, c.before.before.before.before.before.before.before.before.before.before.before.before.before.before.before.before.before.before.requires.few)
+    let e : length c.spread_picked-batch.result ≡ rank_limit = search rules in
+    omega (arith, e, c.requires.few)
 
-check-resets-requires : tie.Need-check-resets-requires
+check-resets-requires : tie.Need-check_resets-e-requires
 check-resets-requires c κs =
-    let s = c.before.before.before.before.before.before.before.before.before.before.before.before.before.before.before.before.before.before.before in
+    let s = c in
     let n = length s.args.de.now in
     let q : n ≡ min n rank_limit = omega (arith, s.requires.few) in
-    let d : length c.before.before.before.before.before.before.before.spread-picked2.result ≡ rank_limit = ap length c.before.before.before.before.before.before.before.spread-picked2.ensures ∙ length-padded rank_limit (pos 0) _ in
-    let e : length c.before.before.before.before.before.before.before.before.spread_picked.result ≡ rank_limit = ap length c.before.before.before.before.before.before.before.before.spread_picked.ensures ∙ length-padded rank_limit (pos 0) _ in
-    (s.requires.dest, part_length n n rank_limit c.before.before.before.before.before.before.before.before.spread_picked.result q e, part_length n n rank_limit c.before.before.before.before.before.before.before.spread-picked2.result q d)
+    let d : length c.spread_picked-batch.result ≡ rank_limit = ap length c.spread_picked-batch.ensures ∙ length-padded rank_limit (pos 0) _ in
+    let e : length c.spread_picked-window.result ≡ rank_limit = ap length c.spread_picked-window.ensures ∙ length-padded rank_limit (pos 0) _ in
+    (s.requires.dest, part_length n n rank_limit c.spread_picked-window.result q e, part_length n n rank_limit c.spread_picked-batch.result q d)
 
 returns : tie.Need-returns
 unfolding examined_by
 returns c =
-    let s = c.before.before.before.before.before.before.before.before.before.before.before.before.before.before.before.before.before.before.before.before.before.before.before.before in
+    let s = c in
     let n = length s.args.de.now in
     let q : min n rank_limit ≡ n = omega (arith, s.requires.few) in
-    let w = c.before.before.before.before.before.before.before.before.before.before.before.before.before.spread_picked.ensures ∙ ap (λ (k : ℕ). padded rank_limit (pos 0) (steps_by k s.args.offset-dims.now s.args.shown.now s.args.os.now)) q in
-    let v = c.before.before.before.before.before.before.before.before.before.before.before.before.spread-picked2.ensures ∙ ap (λ (k : ℕ). padded rank_limit (pos 0) (steps_by k s.args.others.now s.args.starts.now s.args.is.now)) q in
-    let x = steps-part n c.before.before.before.before.before.before.before.before.before.before.before.before.before.spread_picked.result (steps_by (length s.args.de.now) s.args.offset-dims.now s.args.shown.now s.args.os.now) w (length-spread (pos 0) n s.args.offset-dims.now (pick (pos 0) s.args.shown.now s.args.os.now)) s.requires.few in
-    let y = steps-part n c.before.before.before.before.before.before.before.before.before.before.before.before.spread-picked2.result (steps_by (length s.args.de.now) s.args.others.now s.args.starts.now s.args.is.now) v (length-spread (pos 0) n s.args.others.now (pick (pos 0) s.args.starts.now s.args.is.now)) s.requires.few in
-    let r = c.before.before.before.before.check-resets.ensures ∙ ap₂ (λ (xs ys : List ℤ). resets_refusal s.args.de.now s.args.ds.now xs ys) x y in
+    let w = c.spread_picked-window.ensures ∙ ap (λ (k : ℕ). padded rank_limit (pos 0) (steps_by k s.args.offset-dims.now s.args.shown.now s.args.os.now)) q in
+    let v = c.spread_picked-batch.ensures ∙ ap (λ (k : ℕ). padded rank_limit (pos 0) (steps_by k s.args.others.now s.args.starts.now s.args.is.now)) q in
+    let x = steps-part n c.spread_picked-window.result (steps_by (length s.args.de.now) s.args.offset-dims.now s.args.shown.now s.args.os.now) w (length-spread (pos 0) n s.args.offset-dims.now (pick (pos 0) s.args.shown.now s.args.os.now)) s.requires.few in
+    let y = steps-part n c.spread_picked-batch.result (steps_by (length s.args.de.now) s.args.others.now s.args.starts.now s.args.is.now) v (length-spread (pos 0) n s.args.others.now (pick (pos 0) s.args.starts.now s.args.is.now)) s.requires.few in
+    let r = c.check_resets-e.ensures ∙ ap₂ (λ (xs ys : List ℤ). resets_refusal s.args.de.now s.args.ds.now xs ys) x y in
     let t : Answer = answer_by s.args.oe.now s.args.os.now s.args.ie.now s.args.is.now s.args.de.now s.args.ds.now s.args.offset-dims.now s.args.collapsed.now s.args.map.now s.args.vector s.args.sizes.now s.args.four s.args.shown.now s.args.starts.now s.args.others.now in
     let a =
-    c.or-else4.ensures ∙ ap (λ (k : Answer). or_else s.args.four k) (c.before.or-else3.ensures ∙ ap₂ or_else c.before.before.before.before.before.before.before.before.before.before.before.check-lists.ensures
-    (c.before.before.or-else2.ensures ∙ ap₂ or_else c.before.before.before.before.before.before.before.before.before.before.check-counts.ensures (c.before.before.before.or_else.ensures ∙ ap₂ or_else c.before.before.before.before.before.before.before.before.before.check-shape.ensures r))) in
-    ap (λ (k : Answer). record { answer = k; window = c.before.before.before.before.before.before.before.before.before.before.before.before.before.spread_picked.result; batch = c.before.before.before.before.before.before.before.before.before.before.before.before.spread-picked2.result }) a ∙ ap₂ (λ (xs ys : List ℤ). record { answer = t; window = xs; batch = ys }) w v
+    c.or_else-answer.ensures ∙ ap (λ (k : Answer). or_else s.args.four k) (c.or_else-2.ensures ∙ ap₂ or_else c.check_lists-b.ensures
+    (c.or_else-shape.ensures ∙ ap₂ or_else c.check_counts-c.ensures (c.or_else.ensures ∙ ap₂ or_else c.check_shape-d.ensures r))) in
+    ap (λ (k : Answer). record { answer = k; window = c.spread_picked-window.result; batch = c.spread_picked-batch.result }) a ∙ ap₂ (λ (xs ys : List ℤ). record { answer = t; window = xs; batch = ys }) w v
 
-pub examine-axes-spec : {M : Type 1} → statement M
-examine-axes-spec =
+pub examine_axes_spec : {M : Type 1} → statement M
+examine_axes_spec =
     tie.close
     (tie.spec
     (λ c κs. tt)

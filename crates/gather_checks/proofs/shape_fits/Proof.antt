@@ -2,14 +2,14 @@ use borrow.Author.Rules.{rules}
 use Rattle.gather_checks.proofs.shape_fits.Statement.{statement}
 use Rattle.gather_checks.proofs.shape_fits.Tie as tie
 
-add-rank : tie.Need-overflow-add-rank
+add-rank : tie.Need-overflow_add-rank
 add-rank c = search rules
 
 returns : tie.Need-returns
-returns c = rw (c.both2.ensures, c.before.both.ensures, c.before.before.picked-same2.ensures, c.before.before.before.Picked-same.ensures)
+returns c = rw (c.both-2.ensures, c.both.ensures, c.picked_same-batch.ensures, c.Picked-same.ensures)
 
-pub shape-fits-spec : {M : Type 1} → statement M
-shape-fits-spec =
+pub shape_fits_spec : {M : Type 1} → statement M
+shape_fits_spec =
     tie.close
     (tie.spec
     add-rank

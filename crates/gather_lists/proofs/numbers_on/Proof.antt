@@ -15,26 +15,26 @@ use Rattle.gather_lists.proofs.Lent.{numbers-are}
 use Rattle.gather_lists.proofs.numbers_on.Statement.{statement}
 use Rattle.gather_lists.proofs.numbers_on.Tie as tie
 
-abbrev start : tie.After-stride-at → tie.Start
+abbrev start : tie.After-stride_at-stride → tie.Start
 start v = search
 
 returns : tie.Need-returns
 returns c =
-    let d : tie.After-padded-strides = search in
-    let b : tie.After-batch-extents = search in
-    let e : tie.After-padded-extents = search in
-    let u : tie.After-unless-none = search in
-    let l : tie.After-limits-on = search in
-    let k : tie.After-strides-on = search in
-    let o : tie.After-index-component-offsets = search in
-    let v : tie.After-stride-at = search in
+    let d : tie.After-padded_strides-dest_steps = search in
+    let b : tie.After-batch_extents-batch_extents = search in
+    let e : tie.After-padded_extents-extents = search in
+    let u : tie.After-unless_none-stepped = search in
+    let l : tie.After-limits_on-limits = search in
+    let k : tie.After-strides_on-strides = search in
+    let o : tie.After-index_component_offsets-index_component_offsets = search in
+    let v : tie.After-stride_at-stride = search in
     let s = start v in
     let f : SFits w64 v.stride-at.result = search rules in
     let q = o.index-component-offsets.ensures ∙ ap (λ (z : ℤ). held_steps (tabulate (min (length s.args.start-index-map.now) rank_limit) (offset_or z))) (back f ∙ v.stride-at.ensures) in
     numbers-are (gather_from s.args.operand-extents.now s.args.operand-strides.now s.args.index-extents.now s.args.index-strides.now s.args.dest-extents.now s.args.dest-strides.now s.args.offset-dims.now s.args.collapsed-slice-dims.now s.args.start-index-map.now s.args.index-vector-dim s.args.slice-sizes.now) s.args.window s.args.batch s.pre _ _ _ _ _ _ _ q k.strides-on.ensures l.limits-on.ensures u.unless-none.ensures e.padded-extents.ensures b.batch-extents.ensures d.padded-strides.ensures
 
-pub numbers-on-spec : {M : Type 1} → statement M
-numbers-on-spec =
+pub numbers_on_spec : {M : Type 1} → statement M
+numbers_on_spec =
     tie.close
     (tie.spec
     (λ c κs. tt)

@@ -16,39 +16,39 @@ use Rattle.gather_move.proofs.batch_extents.Tie as tie
 abbrev entry : List ℕ → List ℕ → ℕ → ℕ
 entry dims extents a = cond (has dims a) 1 (get_or extents a 0)
 
-abbrev invariant-loop : tie.invariant-loop
+abbrev invariant-loop : tie.invariant-loop-a
 invariant-loop offset-dims extents out₀ a₀ out a = (a ≤ rank_limit) × (out ≡ written 1 (tabulate rank_limit (entry offset-dims extents)) a)
 
-abbrev decreases-loop : tie.decreases-loop
+abbrev decreases-loop : tie.decreases-loop-a
 decreases-loop offset-dims extents out₀ a₀ out a = rank_limit - a
 
-loop-holds : tie.Need-loop-init invariant-loop decreases-loop
+loop-holds : tie.Need-loop-a-init invariant-loop decreases-loop
 loop-holds c = (zero-le, refl)
 
-mul-batch-extent : tie.Need-overflow-mul-batch-extent invariant-loop decreases-loop
+mul-batch-extent : tie.Need-offset_bounds-extents-a invariant-loop decreases-loop
 mul-batch-extent c = search rules
 
-array-read-batch-extent : tie.Need-array-read-batch-extent invariant-loop decreases-loop
+array-read-batch-extent : tie.Need-bounds-extents-a invariant-loop decreases-loop
 array-read-batch-extent c = search rules
 
-mul-out : tie.Need-overflow-mul-out invariant-loop decreases-loop
+mul-out : tie.Need-offset_bounds-out-a invariant-loop decreases-loop
 mul-out c = search rules
 
-array-write-out : tie.Need-array-write-out invariant-loop decreases-loop
+array-write-out : tie.Need-bounds-out-a invariant-loop decreases-loop
 array-write-out c = search rules
 
-add_a : tie.Need-overflow-add-a invariant-loop decreases-loop
+add_a : tie.Need-overflow_add-a invariant-loop decreases-loop
 add_a c = search rules
 
-loop-less : tie.Need-loop-smaller invariant-loop decreases-loop
+loop-less : tie.Need-loop-a-smaller invariant-loop decreases-loop
 loop-less c = search rules
 
-loop-again : tie.Need-loop-preserved invariant-loop decreases-loop
+loop-again : tie.Need-loop-a-preserved invariant-loop decreases-loop
 loop-again c =
-    let b : tie.After-batch-extent invariant-loop decreases-loop = search in
-    let k : tie.After-contains invariant-loop decreases-loop = search in
-    let d : tie.In-loop invariant-loop decreases-loop = search in
-    let l : tie.At-loop invariant-loop decreases-loop = search in
+    let b : tie.After-batch_extent-extent invariant-loop decreases-loop = search in
+    let k : tie.After-contains-shown invariant-loop decreases-loop = search in
+    let d : tie.In-loop-a invariant-loop decreases-loop = search in
+    let l : tie.At-loop-a invariant-loop decreases-loop = search in
     let s : tie.Start invariant-loop decreases-loop = search in
     let f : ℕ → ℕ = entry s.args.offset-dims.now s.args.t1 in
     let h = d.loop-test.taken in
@@ -60,14 +60,14 @@ loop-again c =
 
 returns : tie.Need-returns invariant-loop decreases-loop
 returns c =
-    let l = c.before in
+    let l = c in
     let s : tie.Start invariant-loop decreases-loop = search in
     let f : ℕ → ℕ = entry s.args.offset-dims.now s.args.t1 in
     let n = length-tabulate rank_limit f in
-    l.loop.invariant.1 ∙ all-written 1 (tabulate rank_limit f) l.loop.a (omega (arith, n, c.loop-test.false)) (omega (arith, n)) ∙ full 1 (tabulate rank_limit f) n
+    l.loop-a.invariant.1 ∙ all-written 1 (tabulate rank_limit f) l.loop-a.a (omega (arith, n, c.loop-a-test.false)) (omega (arith, n)) ∙ full 1 (tabulate rank_limit f) n
 
-pub batch-extents-spec : {M : Type 1} → statement M
-batch-extents-spec =
+pub batch_extents_spec : {M : Type 1} → statement M
+batch_extents_spec =
     tie.close
     (tie.spec
     invariant-loop

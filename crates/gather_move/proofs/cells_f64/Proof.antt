@@ -17,10 +17,10 @@ use Rattle.gather_move.proofs.cells_f64.Statement.{statement}
 use Rattle.gather_move.proofs.cells_f64.Tie as tie
 
 dest-room : (s : tie.Start) → length s.args.into.now < 2 ^ 63
-dest-room s = omega (arith, s.well-formed.1.1.1.0.1)
+dest-room s = omega (arith, s.well_formed.1.1.1.0.1)
 
 starts-room : (s : tie.Start) → length s.args.starts.now < 2 ^ 63
-starts-room s = omega (arith, s.well-formed.1.1.0.1)
+starts-room s = omega (arith, s.well_formed.1.1.0.1)
 
 dest-fits : (s : tie.Start) → SFits w64 s.args.p.dest
 dest-fits s = search rules
@@ -28,48 +28,48 @@ dest-fits s = search rules
 part_length : (s : tie.Start) → length (take (s.args.high + 1 - s.args.low) (drop s.args.low s.args.into.now)) ≡ s.args.high + 1 - s.args.low
 part_length s = length-take-le (s.args.high + 1 - s.args.low) (drop s.args.low s.args.into.now) (omega (arith, length-drop s.args.low s.args.into.now, high-in s.args.p s.args.low s.args.high (length s.args.source.now) s.args.starts.now (length s.args.into.now) s.requires, low-high s.args.p s.args.low s.args.high (length s.args.source.now) s.args.starts.now (length s.args.into.now) s.requires))
 
-add-end : tie.Need-overflow-add-end
-add-end c = let s = c.before.before in omega (arith, high-in s.args.p s.args.low s.args.high (length s.args.source.now) s.args.starts.now (length s.args.into.now) s.requires, dest-room s)
+add-end : tie.Need-overflow_add-end
+add-end c = let s = c in omega (arith, high-in s.args.p s.args.low s.args.high (length s.args.source.now) s.args.starts.now (length s.args.into.now) s.requires, dest-room s.before.before)
 
-cast-from : tie.Need-overflow-cast-from
-cast-from c = let s = c.before.before in low_fits s.args.p s.args.low s.args.high (length s.args.source.now) s.args.starts.now (length s.args.into.now) s.requires (dest-room s)
+cast-from : tie.Need-overflow_cast-from
+cast-from c = let s = c in low_fits s.args.p s.args.low s.args.high (length s.args.source.now) s.args.starts.now (length s.args.into.now) s.requires (dest-room s.before.before)
 
-sub_at : tie.Need-overflow-sub-at
-sub_at c = let s = c.before.before.before.before in sub-fits s.args.p s.args.low s.args.high (length s.args.source.now) s.args.starts.now (length s.args.into.now) s.requires (dest-fits s) (dest-room s)
+sub_at : tie.Need-overflow_sub-at
+sub_at c = let s = c in sub-fits s.args.p s.args.low s.args.high (length s.args.source.now) s.args.starts.now (length s.args.into.now) s.requires (dest-fits s.before.before.before.before) (dest-room s.before.before.before.before)
 
-mul-run-f64 : tie.Need-overflow-mul-run-f64
-mul-run-f64 c = let s = c.before.before.before.before in omega (arith, low-high s.args.p s.args.low s.args.high (length s.args.source.now) s.args.starts.now (length s.args.into.now) s.requires, high-in s.args.p s.args.low s.args.high (length s.args.source.now) s.args.starts.now (length s.args.into.now) s.requires, s.well-formed.1.1.1.0.1)
+mul-run-f64 : tie.Need-offset_bounds-into-low
+mul-run-f64 c = let s = c in omega (arith, low-high s.args.p s.args.low s.args.high (length s.args.source.now) s.args.starts.now (length s.args.into.now) s.requires, high-in s.args.p s.args.low s.args.high (length s.args.source.now) s.args.starts.now (length s.args.into.now) s.requires, s.well_formed.1.1.1.0.1)
 
-sub-run-f64 : tie.Need-overflow-sub-run-f64
-sub-run-f64 c = let s = c.before.before.before.before in omega (arith, low-high s.args.p s.args.low s.args.high (length s.args.source.now) s.args.starts.now (length s.args.into.now) s.requires)
+sub-run-f64 : tie.Need-slice_bounds-run_f64-count
+sub-run-f64 c = let s = c in omega (arith, low-high s.args.p s.args.low s.args.high (length s.args.source.now) s.args.starts.now (length s.args.into.now) s.requires)
 
-part-run-f64-start : tie.Need-slice-bounds-run-f64-start
-part-run-f64-start c = let s = c.before.before.before.before in omega (arith, low-high s.args.p s.args.low s.args.high (length s.args.source.now) s.args.starts.now (length s.args.into.now) s.requires)
+part-run-f64-start : tie.Need-slice_bounds-run_f64-start
+part-run-f64-start c = let s = c in omega (arith, low-high s.args.p s.args.low s.args.high (length s.args.source.now) s.args.starts.now (length s.args.into.now) s.requires)
 
-part-run-f64-end : tie.Need-slice-bounds-run-f64-end
-part-run-f64-end c = let s = c.before.before.before.before in omega (arith, high-in s.args.p s.args.low s.args.high (length s.args.source.now) s.args.starts.now (length s.args.into.now) s.requires)
+part-run-f64-end : tie.Need-slice_bounds-run_f64-end
+part-run-f64-end c = let s = c in omega (arith, high-in s.args.p s.args.low s.args.high (length s.args.source.now) s.args.starts.now (length s.args.into.now) s.requires)
 
-run-f64-requires : tie.Need-run-f64-requires
+run-f64-requires : tie.Need-run_f64-requires
 run-f64-requires c κs =
-    let s = c.before.before.before.before.before in
+    let s = c in
     let w = s.args.p.numbers in (
       subst (Gathering s.args.starts.now w.offsets w.strides w.limits w.count s.args.p.operand s.args.p.index (read (read s.args.p.dest -ℤ to_z w64 s.args.low)) w.extents w.window_steps w.batch_steps w.dest_steps w.rank (length s.args.source.now))
-          (sym (part_length s))
-          (part-asks s.args.p s.args.low s.args.high (length s.args.source.now) s.args.starts.now (length s.args.into.now) s.requires _ refl _ (place_is s.args.p s.args.low s.args.high (length s.args.source.now) s.args.starts.now (length s.args.into.now) s.requires (dest-fits s) (dest-room s)) (starts-room s)),
+          (sym (part_length s.before.before.before.before.before))
+          (part-asks s.args.p s.args.low s.args.high (length s.args.source.now) s.args.starts.now (length s.args.into.now) s.requires _ refl _ (place_is s.args.p s.args.low s.args.high (length s.args.source.now) s.args.starts.now (length s.args.into.now) s.requires (dest-fits s.before.before.before.before.before) (dest-room s.before.before.before.before.before)) (starts-room s.before.before.before.before.before)),
       part-batched s.args.p s.args.low s.args.high (length s.args.source.now) s.args.starts.now (length s.args.into.now) s.requires,
     )
 
-same_length : tie.Need-same-length
+same_length : tie.Need-shape_of-into
 same_length c = search rules
 
 returns : tie.Need-returns
 returns c =
-    let q : tie.After-run-f64 = search in
+    let q : tie.After-run_f64 = search in
     let s : tie.Start = search in
     λ k. (part-leaves s.args.p s.args.low s.args.high (length s.args.source.now) s.args.starts.now (length s.args.into.now) k _ refl _ (place_is s.args.p s.args.low s.args.high (length s.args.source.now) s.args.starts.now (length s.args.into.now) k (dest-fits s) (dest-room s)) nan (rule_f64 F.Replace) (λ x u. refl) s.args.source.now s.args.into.now refl _ q.run-f64.ensures.0, part-slid s.args.p s.args.low s.args.high (length s.args.source.now) s.args.starts.now (length s.args.into.now) k _ q.run-f64.ensures.1)
 
-pub cells-f64-spec : {M : Type 1} → statement M
-cells-f64-spec =
+pub cells_f64_spec : {M : Type 1} → statement M
+cells_f64_spec =
     tie.close
     (tie.spec
     add-end

@@ -16,10 +16,10 @@ use Rattle.gather_move.proofs.cells_i32.Statement.{statement}
 use Rattle.gather_move.proofs.cells_i32.Tie as tie
 
 dest-room : (s : tie.Start) → length s.args.into.now < 2 ^ 63
-dest-room s = omega (arith, s.well-formed.1.1.1.0.1)
+dest-room s = omega (arith, s.well_formed.1.1.1.0.1)
 
 starts-room : (s : tie.Start) → length s.args.starts.now < 2 ^ 63
-starts-room s = omega (arith, s.well-formed.1.1.0.1)
+starts-room s = omega (arith, s.well_formed.1.1.0.1)
 
 dest-fits : (s : tie.Start) → SFits w64 s.args.p.dest
 dest-fits s = search rules
@@ -27,48 +27,48 @@ dest-fits s = search rules
 part_length : (s : tie.Start) → length (take (s.args.high + 1 - s.args.low) (drop s.args.low s.args.into.now)) ≡ s.args.high + 1 - s.args.low
 part_length s = length-take-le (s.args.high + 1 - s.args.low) (drop s.args.low s.args.into.now) (omega (arith, length-drop s.args.low s.args.into.now, high-in s.args.p s.args.low s.args.high (length s.args.source.now) s.args.starts.now (length s.args.into.now) s.requires, low-high s.args.p s.args.low s.args.high (length s.args.source.now) s.args.starts.now (length s.args.into.now) s.requires))
 
-add-end : tie.Need-overflow-add-end
+add-end : tie.Need-overflow_add-end
 add-end c = let s = c in omega (arith, high-in s.args.p s.args.low s.args.high (length s.args.source.now) s.args.starts.now (length s.args.into.now) s.requires, dest-room s)
 
-cast-from : tie.Need-overflow-cast-from
+cast-from : tie.Need-overflow_cast-from
 cast-from c = let s = c in low_fits s.args.p s.args.low s.args.high (length s.args.source.now) s.args.starts.now (length s.args.into.now) s.requires (dest-room s)
 
-sub_at : tie.Need-overflow-sub-at
-sub_at c = let s = c.before.before in sub-fits s.args.p s.args.low s.args.high (length s.args.source.now) s.args.starts.now (length s.args.into.now) s.requires (dest-fits s) (dest-room s)
+sub_at : tie.Need-overflow_sub-at
+sub_at c = let s = c in sub-fits s.args.p s.args.low s.args.high (length s.args.source.now) s.args.starts.now (length s.args.into.now) s.requires (dest-fits s.before.before) (dest-room s.before.before)
 
-mul-run-i32 : tie.Need-overflow-mul-run-i32
-mul-run-i32 c = let s = c.before.before in omega (arith, low-high s.args.p s.args.low s.args.high (length s.args.source.now) s.args.starts.now (length s.args.into.now) s.requires, high-in s.args.p s.args.low s.args.high (length s.args.source.now) s.args.starts.now (length s.args.into.now) s.requires, s.well-formed.1.1.1.0.1)
+mul-run-i32 : tie.Need-offset_bounds-into-low
+mul-run-i32 c = let s = c in omega (arith, low-high s.args.p s.args.low s.args.high (length s.args.source.now) s.args.starts.now (length s.args.into.now) s.requires, high-in s.args.p s.args.low s.args.high (length s.args.source.now) s.args.starts.now (length s.args.into.now) s.requires, s.well_formed.1.1.1.0.1)
 
-sub-run-i32 : tie.Need-overflow-sub-run-i32
-sub-run-i32 c = let s = c.before.before in omega (arith, low-high s.args.p s.args.low s.args.high (length s.args.source.now) s.args.starts.now (length s.args.into.now) s.requires)
+sub-run-i32 : tie.Need-slice_bounds-run_i32-count
+sub-run-i32 c = let s = c in omega (arith, low-high s.args.p s.args.low s.args.high (length s.args.source.now) s.args.starts.now (length s.args.into.now) s.requires)
 
-part-run-i32-start : tie.Need-slice-bounds-run-i32-start
-part-run-i32-start c = let s = c.before.before in omega (arith, low-high s.args.p s.args.low s.args.high (length s.args.source.now) s.args.starts.now (length s.args.into.now) s.requires)
+part-run-i32-start : tie.Need-slice_bounds-run_i32-start
+part-run-i32-start c = let s = c in omega (arith, low-high s.args.p s.args.low s.args.high (length s.args.source.now) s.args.starts.now (length s.args.into.now) s.requires)
 
-part-run-i32-end : tie.Need-slice-bounds-run-i32-end
-part-run-i32-end c = let s = c.before.before in omega (arith, high-in s.args.p s.args.low s.args.high (length s.args.source.now) s.args.starts.now (length s.args.into.now) s.requires)
+part-run-i32-end : tie.Need-slice_bounds-run_i32-end
+part-run-i32-end c = let s = c in omega (arith, high-in s.args.p s.args.low s.args.high (length s.args.source.now) s.args.starts.now (length s.args.into.now) s.requires)
 
-run-i32-requires : tie.Need-run-i32-requires
+run-i32-requires : tie.Need-run_i32-requires
 run-i32-requires c κs =
-    let s = c.before.before.before in
+    let s = c in
     let w = s.args.p.numbers in (
       subst (Gathering s.args.starts.now w.offsets w.strides w.limits w.count s.args.p.operand s.args.p.index (read (read s.args.p.dest -ℤ to_z w64 s.args.low)) w.extents w.window_steps w.batch_steps w.dest_steps w.rank (length s.args.source.now))
-          (sym (part_length s))
-          (part-asks s.args.p s.args.low s.args.high (length s.args.source.now) s.args.starts.now (length s.args.into.now) s.requires _ refl _ (place_is s.args.p s.args.low s.args.high (length s.args.source.now) s.args.starts.now (length s.args.into.now) s.requires (dest-fits s) (dest-room s)) (starts-room s)),
+          (sym (part_length s.before.before.before))
+          (part-asks s.args.p s.args.low s.args.high (length s.args.source.now) s.args.starts.now (length s.args.into.now) s.requires _ refl _ (place_is s.args.p s.args.low s.args.high (length s.args.source.now) s.args.starts.now (length s.args.into.now) s.requires (dest-fits s.before.before.before) (dest-room s.before.before.before)) (starts-room s.before.before.before)),
       part-batched s.args.p s.args.low s.args.high (length s.args.source.now) s.args.starts.now (length s.args.into.now) s.requires,
     )
 
-same_length : tie.Need-same-length
+same_length : tie.Need-shape_of-into
 same_length c = search rules
 
 returns : tie.Need-returns
 returns c =
-    let q : tie.After-run-i32 = search in
+    let q : tie.After-run_i32 = search in
     let s : tie.Start = search in
     λ k. (part-leaves s.args.p s.args.low s.args.high (length s.args.source.now) s.args.starts.now (length s.args.into.now) k _ refl _ (place_is s.args.p s.args.low s.args.high (length s.args.source.now) s.args.starts.now (length s.args.into.now) k (dest-fits s) (dest-room s)) (pos 0) (rule_i32 R.Replace) (λ x u. refl) s.args.source.now s.args.into.now refl _ q.run-i32.ensures.0, part-slid s.args.p s.args.low s.args.high (length s.args.source.now) s.args.starts.now (length s.args.into.now) k _ q.run-i32.ensures.1)
 
-pub cells-i32-spec : {M : Type 1} → statement M
-cells-i32-spec =
+pub cells_i32_spec : {M : Type 1} → statement M
+cells_i32_spec =
     tie.close
     (tie.spec
     add-end

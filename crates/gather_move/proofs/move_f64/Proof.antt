@@ -7,63 +7,63 @@ use Rattle.gather_move.proofs.Parts.{without-cells, none-slid, never}
 use Rattle.gather_move.proofs.move_f64.Statement.{statement}
 use Rattle.gather_move.proofs.move_f64.Tie as tie
 
-returns : tie.Need-returns
+returns : tie.Need-returns-then-not-is_done
 returns c =
-    let r : tie.After-refused-call = search in
-    let t : tie.Then1 = search in
-    let d : tie.After-is-done = search in
+    let r : tie.After-refused_call = search in
+    let t : tie.Then-not-is_done = search in
+    let d : tie.After-is_done = search in
     λ k. refused (sym d.is-done.ensures ∙ not-true _ t.if1.taken) r.refused-call.ensures
 
-enum-known-reach : tie.Need-enum-known-reach
+enum-known-reach : tie.Need-enum_known-reach
 enum-known-reach c = search rules
 
-cells-f64-requires : tie.Need-cells-f64-requires
+cells-f64-requires : tie.Need-cells_f64-reported-requires
 cells-f64-requires c κs =
-    let s = c.before.before.before.before.before.before.before.before in
-    record { gather = s.requires.gather; ready = s.requires.ready (sym c.before.before.before.before.before.is-done.ensures ∙ not-false _ c.before.before.before.before.if1.false); cells = c.before.before.reach.given.1 }
+    let s = c in
+    record { gather = s.requires.gather; ready = s.requires.ready (sym c.is_done.ensures ∙ not-false _ c.if-not-is_done.false); cells = c.in-Cells.is }
 
-enum_told : tie.Need-enum-told
+enum_told : tie.Need-enum_told-1
 enum_told c = search rules
 
-enum-told-2 : tie.Need-enum-told-2
+enum-told-2 : tie.Need-enum_told-in-Outside
 enum-told-2 c = search rules
 
-same_length : tie.Need-same-length
+same_length : tie.Need-shape_of-into
 same_length c = search rules
 
-returns-2 : tie.Need-returns-2
+returns-2 : tie.Need-returns-in-Cells
 returns-2 c =
-    let q : tie.After-cells-f64 = search in
-    let r : tie.After-reach = search in
-    let l : tie.Else1 = search in
-    let d : tie.After-is-done = search in
+    let q : tie.After-cells_f64-reported = search in
+    let r : tie.In-Cells-2 = search in
+    let l : tie.Else-not-is_done = search in
+    let d : tie.After-is_done = search in
     λ k.
     let t = sym d.is-done.ensures ∙ not-false _ l.if1.left in
     let e = q.cells-f64.ensures (record { gather = k.gather; ready = k.ready t; cells = r.reach.given.1 }) in
     done t e.0 e.1
 
-returns-3 : tie.Need-returns-3
+returns-3 : tie.Need-returns-in-NoCells
 returns-3 c =
-    let n : tie.After-enum-told = search in
-    let l : tie.Else1 = search in
-    let d : tie.After-is-done = search in
+    let n : tie.In-NoCells = search in
+    let l : tie.Else-not-is_done = search in
+    let d : tie.After-is_done = search in
     let s : tie.Start = search in
     λ k.
     let t = sym d.is-done.ensures ∙ not-false _ l.if1.left in
     done t (without-cells s.args.p k.gather _ _ _ (k.ready t) nan s.args.source.now s.args.starts.now s.args.into.now n.enum_told.given.1) (none-slid s.args.p k.gather _ _ _ (k.ready t) s.args.starts.now n.enum_told.given.1)
 
-returns-4 : tie.Need-returns-4
+returns-4 : tie.Need-returns-in-Outside
 returns-4 c =
-    let n : tie.After-enum-told2 = search in
-    let l : tie.Else1 = search in
-    let d : tie.After-is-done = search in
+    let n : tie.In-Outside = search in
+    let l : tie.Else-not-is_done = search in
+    let d : tie.After-is_done = search in
     let s : tie.Start = search in
     λ k.
     let t = sym d.is-done.ensures ∙ not-false _ l.if1.left in
     never s.args.p k.gather _ _ _ (k.ready t) n.enum-told2.given.1
 
-pub move-f64-spec : {M : Type 1} → statement M
-move-f64-spec =
+pub move_f64_spec : {M : Type 1} → statement M
+move_f64_spec =
     tie.close
     (tie.spec
     (λ c κs. tt)

@@ -19,20 +19,20 @@ use Rattle.gather_move.proofs.run_f64.Tie as tie
 bases : (s : tie.Start) → SFits w64 s.args.p.operand × SFits w64 s.args.p.index
 bases s = (search rules, search rules)
 
-gather-window-requires : tie.Need-gather-window-requires
+gather-window-requires : tie.Need-gather_window-requires
 gather-window-requires c κs =
-    let s = c.before.before.before.before.before.before.before.before.before.before.before.before.before.before.before.before.before.before.before.before.before.before in
-    (simp (back (bases s).0, back (bases s).1, back s.ranges.at) s.requires.0, s.requires.1)
+    let s = c in
+    (simp (back (bases s.before.before.before.before.before.before.before.before.before.before.before.before.before.before.before.before.before.before.before.before.before.before).0, back (bases s.before.before.before.before.before.before.before.before.before.before.before.before.before.before.before.before.before.before.before.before.before.before).1, back s.ranges.at) s.requires.0, s.requires.1)
 
-same_length : tie.Need-same-length
+same_length : tie.Need-shape_of-into
 same_length c = search rules
 
 returns : tie.Need-returns
 returns c =
-    let g : tie.After-gather-window = search in
-    let s = c.before.before.before.before.before.before.before.before.before.before.before.before.before.before.before.before.before.before.before.before.before.before.before.before.before in
+    let g : tie.After-gather_window = search in
+    let s = c in
     let w = s.args.p.numbers in
-    (back_end nan (rule_f64 F.Replace) s.args.source.now s.args.starts.now w.offsets w.strides w.limits w.count s.args.p.operand s.args.p.index s.args.at w.extents w.window_steps w.batch_steps w.dest_steps w.rank s.args.into.now _ (bases s).0 (bases s).1 s.ranges.at g.gather-window.ensures.0, g.gather-window.ensures.1 ∙ ap (λ (z : ℤ). slid_of (product (take w.rank w.extents)) (starts_moved s.args.starts.now w.offsets w.limits w.count (product (take w.rank w.batch_extents)) (place_at z w.batch_extents w.batch_steps w.rank))) (back (bases s).1))
+    (back_end nan (rule_f64 F.Replace) s.args.source.now s.args.starts.now w.offsets w.strides w.limits w.count s.args.p.operand s.args.p.index s.args.at w.extents w.window_steps w.batch_steps w.dest_steps w.rank s.args.into.now _ (bases s.before.before.before.before.before.before.before.before.before.before.before.before.before.before.before.before.before.before.before.before.before.before.before.before.before).0 (bases s.before.before.before.before.before.before.before.before.before.before.before.before.before.before.before.before.before.before.before.before.before.before.before.before.before).1 s.ranges.at g.gather-window.ensures.0, g.gather-window.ensures.1 ∙ ap (λ (z : ℤ). slid_of (product (take w.rank w.extents)) (starts_moved s.args.starts.now w.offsets w.limits w.count (product (take w.rank w.batch_extents)) (place_at z w.batch_extents w.batch_steps w.rank))) (back (bases s.before.before.before.before.before.before.before.before.before.before.before.before.before.before.before.before.before.before.before.before.before.before.before.before.before).1))
 
-pub run-f64-spec : {M : Type 1} → statement M
-run-f64-spec = tie.close (tie.spec gather-window-requires same_length returns)
+pub run_f64_spec : {M : Type 1} → statement M
+run_f64_spec = tie.close (tie.spec gather-window-requires same_length returns)

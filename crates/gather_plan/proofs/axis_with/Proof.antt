@@ -7,12 +7,12 @@ use Rattle.gather_plan.proofs.axis_with.Tie as tie
 
 returns : tie.Need-returns
 returns c =
-    let s = c.before.before.before in
-    let f : SFits w64 c.reset-value3.result = search rules in
-    let g : SFits w64 c.before.reset-value2.result = search rules in
-    let h : SFits w64 c.before.before.reset-value.result = search rules in
-    rw (back f, back g, back h, c.reset-value3.ensures, c.before.reset-value2.ensures, c.before.before.reset-value.ensures, back s.ranges.dest, back s.ranges.window, back s.ranges.batch)
+    let s = c in
+    let f : SFits w64 c.reset_value-c.result = search rules in
+    let g : SFits w64 c.reset_value-b.result = search rules in
+    let h : SFits w64 c.reset_value-a.result = search rules in
+    rw (back f, back g, back h, c.reset_value-c.ensures, c.reset_value-b.ensures, c.reset_value-a.ensures, back s.ranges.dest, back s.ranges.window, back s.ranges.batch)
 
-pub axis-with-spec : {M : Type 1} → statement M
-axis-with-spec =
+pub axis_with_spec : {M : Type 1} → statement M
+axis_with_spec =
     tie.close (tie.spec (λ c κs. tt) (λ c κs. tt) (λ c κs. tt) returns)

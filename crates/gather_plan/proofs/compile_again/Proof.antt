@@ -1,11 +1,11 @@
 use Rattle.gather_plan.proofs.compile_again.Statement.{statement}
 use Rattle.gather_plan.proofs.compile_again.Tie as tie
 
-compiled-from-requires : tie.Need-compiled-from-requires
-compiled-from-requires c κs = c.examine-again.ensures.found
+compiled-from-requires : tie.Need-compiled_from-requires
+compiled-from-requires c κs = c.examine_again-found.ensures.found
 
 returns : tie.Need-returns
-returns c = rw (c.compiled-from.ensures, c.before.examine-again.ensures.answered)
+returns c = rw (c.compiled_from.ensures, c.examine_again-found.ensures.answered)
 
-pub compile-again-spec : {M : Type 1} → statement M
-compile-again-spec = tie.close (tie.spec (λ c κs. tt) compiled-from-requires returns)
+pub compile_again_spec : {M : Type 1} → statement M
+compile_again_spec = tie.close (tie.spec (λ c κs. tt) compiled-from-requires returns)

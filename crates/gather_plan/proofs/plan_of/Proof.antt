@@ -16,19 +16,19 @@ use Rattle.gather_plan.proofs.Planned.{fits, plan-is}
 use Rattle.gather_plan.proofs.plan_of.Statement.{statement}
 use Rattle.gather_plan.proofs.plan_of.Tie as tie
 
-axes-of-requires : tie.Need-axes-of-requires
-axes-of-requires c κs = let s = c.before.before.before.before.before.before.before.before.before.before.before.before.before.before in (fits (gather_from s.args.operand-extents.now s.args.operand-strides.now s.args.index-extents.now s.args.index-strides.now s.args.dest-extents.now s.args.dest-strides.now s.args.offset-dims.now s.args.collapsed-slice-dims.now s.args.start-index-map.now s.args.index-vector-dim s.args.slice-sizes.now) _ _ s.requires).dest-rank
+axes-of-requires : tie.Need-axes_of-axes-requires
+axes-of-requires c κs = let s = c in (fits (gather_from s.args.operand-extents.now s.args.operand-strides.now s.args.index-extents.now s.args.index-strides.now s.args.dest-extents.now s.args.dest-strides.now s.args.offset-dims.now s.args.collapsed-slice-dims.now s.args.start-index-map.now s.args.index-vector-dim s.args.slice-sizes.now) _ _ s.requires).dest-rank
 
 returns : tie.Need-returns
 returns c =
-    let s = c.before.before.before.before.before.before.before.before.before.before.before.before.before.before.before.before.before.before.before.before.before.before.before in
+    let s = c in
     let g : Gather = gather_from s.args.operand-extents.now s.args.operand-strides.now s.args.index-extents.now s.args.index-strides.now s.args.dest-extents.now s.args.dest-strides.now s.args.offset-dims.now s.args.collapsed-slice-dims.now s.args.start-index-map.now s.args.index-vector-dim s.args.slice-sizes.now in
-    let f : SFits w64 c.before.before.before.before.before.before.before.stride-at.result = search rules in
-    let o = c.before.before.before.before.before.before.index-component-offsets.ensures ∙ ap (λ (z : ℤ). held_steps (tabulate (min (length s.args.start-index-map.now) rank_limit) (offset_or z))) (back f ∙ c.before.before.before.before.before.before.before.stride-at.ensures) in
-    plan-is g s.args.window s.args.batch s.requires _ _ _ _ _ _ _ _ _ _ _ _ c.before.before.before.before.before.before.before.before.before.before.before.before.before.before.before.make-layout.ensures c.before.before.before.before.before.before.before.before.before.before.before.before.before.before.make-layout2.ensures c.before.before.before.before.before.before.before.before.before.before.before.before.before.make-layout3.ensures c.before.before.before.before.before.before.before.before.before.other-axes.ensures c.before.before.before.before.before.before.before.before.axes-of.ensures o c.before.before.before.before.before.strides-on.ensures c.before.before.before.before.numbers-from.ensures c.before.before.before.numbers-from2.ensures c.before.before.numbers-from3.ensures c.before.numbers-from4.ensures c.total-value.ensures
+    let f : SFits w64 c.stride_at-stride.result = search rules in
+    let o = c.index_component_offsets-offsets.ensures ∙ ap (λ (z : ℤ). held_steps (tabulate (min (length s.args.start-index-map.now) rank_limit) (offset_or z))) (back f ∙ c.stride_at-stride.ensures) in
+    plan-is g s.args.window s.args.batch s.requires _ _ _ _ _ _ _ _ _ _ _ _ c.make_layout-first.ensures c.make_layout-second.ensures c.make_layout-third.ensures c.other_axes-shown.ensures c.axes_of-axes.ensures o c.strides_on-entries.ensures c.numbers_from-a.ensures c.numbers_from-b.ensures c.numbers_from-c.ensures c.numbers_from-d.ensures c.total_value-total.ensures
 
-pub plan-of-spec : {M : Type 1} → statement M
-plan-of-spec =
+pub plan_of_spec : {M : Type 1} → statement M
+plan_of_spec =
     tie.close
     (tie.spec
     (λ c κs. tt)

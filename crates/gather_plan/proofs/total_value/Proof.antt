@@ -4,18 +4,18 @@ use Rattle.checks.specs.Values.{value_of_u}
 use Rattle.gather_plan.proofs.total_value.Statement.{statement}
 use Rattle.gather_plan.proofs.total_value.Tie as tie
 
-enum-known-total : tie.Need-enum-known-total
+enum-known-total : tie.Need-enum_known-total
 enum-known-total c = search rules
 
-enum_told : tie.Need-enum-told
+enum_told : tie.Need-enum_told-1
 enum_told c = search rules
 
-returns : tie.Need-returns
-returns c = ap value_of_u (sym c.before.total.given.1 ∙ c.before.before.before.checked-total-len.ensures)
+returns : tie.Need-returns-in-Fits
+returns c = ap value_of_u (sym c.in-Fits.is ∙ c.checked_total_len-total.ensures)
 
-returns-2 : tie.Need-returns-2
-returns-2 c = ap value_of_u (sym c.enum_told.given.1 ∙ c.before.before.checked-total-len.ensures)
+returns-2 : tie.Need-returns-in-Overflow
+returns-2 c = ap value_of_u (sym c.in-Overflow.is ∙ c.checked_total_len-total.ensures)
 
-pub total-value-spec : {M : Type 1} → statement M
-total-value-spec =
+pub total_value_spec : {M : Type 1} → statement M
+total_value_spec =
     tie.close (tie.spec (λ c κs. tt) enum-known-total enum_told returns returns-2)

@@ -9,12 +9,12 @@ use Rattle.gather_same.proofs.is_compiled.Tie as tie
 returns : tie.Need-returns
 unfolding is_compiled
 returns c =
-    let s = c.before.before.before.before.before in
-    let e = c.before.before.before.before.compiled-again.ensures in
+    let s = c in
+    let e = c.compiled_again-again.ensures in
     c.both.ensures
-    ∙ ap₂ ◌&&◌ (c.before.before.is-done.ensures ∙ ap (λ (r : CompiledGather). is_done r.answer) e) (c.before.same-plan.ensures ∙ ap (λ (r : CompiledGather). same_plan s.args.plan r.plan) e)
+    ∙ ap₂ ◌&&◌ (c.is_done-done.ensures ∙ ap (λ (r : CompiledGather). is_done r.answer) e) (c.same_plan-same.ensures ∙ ap (λ (r : CompiledGather). same_plan s.args.plan r.plan) e)
 
-pub is-compiled-spec : {M : Type 1} → statement M
-is-compiled-spec =
+pub is_compiled_spec : {M : Type 1} → statement M
+is_compiled_spec =
     tie.close
     (tie.spec (λ c κs. tt) (λ c κs. tt) (λ c κs. tt) (λ c κs. tt) returns)

@@ -12,62 +12,62 @@ use Rattle.gather_plan.specs.Plan.{no_axis}
 use Rattle.gather_same.proofs.same_axes.Statement.{statement}
 use Rattle.gather_same.proofs.same_axes.Tie as tie
 
-abbrev invariant-loop : tie.invariant-loop
+abbrev invariant-loop : tie.invariant-loop-i
 invariant-loop a b i₀ i = (i ≤ rank_limit) × (same_by same_axis (drop i a) (drop i b) ≡ same_by same_axis a b)
 
-abbrev decreases-loop : tie.decreases-loop
+abbrev decreases-loop : tie.decreases-loop-i
 decreases-loop a b i₀ i = rank_limit - i
 
-loop-holds : tie.Need-loop-init invariant-loop decreases-loop
+loop-holds : tie.Need-loop-i-init invariant-loop decreases-loop
 loop-holds c = (zero-le, refl)
 
-mul-x : tie.Need-overflow-mul-x invariant-loop decreases-loop
+mul-x : tie.Need-offset_bounds-a-i invariant-loop decreases-loop
 mul-x c = search rules
 
-array-copy-out-x : tie.Need-array-copy-out-x invariant-loop decreases-loop
+array-copy-out-x : tie.Need-bounds-a-i invariant-loop decreases-loop
 array-copy-out-x c = search rules
 
-mul-y : tie.Need-overflow-mul-y invariant-loop decreases-loop
+mul-y : tie.Need-offset_bounds-b-i invariant-loop decreases-loop
 mul-y c = search rules
 
-array-copy-out-y : tie.Need-array-copy-out-y invariant-loop decreases-loop
+array-copy-out-y : tie.Need-bounds-b-i invariant-loop decreases-loop
 array-copy-out-y c = search rules
 
-same-axis-requires : tie.Need-same-axis-requires invariant-loop decreases-loop
+same-axis-requires : tie.Need-same_axis-requires invariant-loop decreases-loop
 same-axis-requires c κs = tt
 
-returns : tie.Need-returns invariant-loop decreases-loop
+returns : tie.Need-returns-then-not-same_axis invariant-loop decreases-loop
 returns c =
-    let l = c.before.before.before.before.before in
-    let s = l.before in
+    let l = c in
+    let s = l in
     let e : length s.args.t1 ≡ rank_limit = search rules in
     let f : length s.args.t2 ≡ rank_limit = search rules in
-    same_differs same_axis no_axis s.args.t1 s.args.t2 l.loop.i (omega arith) (omega arith) (sym c.before.same-axis.ensures ∙ not-true _ c.if1.true) ∙ l.loop.invariant.1
+    same_differs same_axis no_axis s.args.t1 s.args.t2 l.loop-i.i (omega arith) (omega arith) (sym c.same_axis.ensures ∙ not-true _ c.if-not-same_axis.true) ∙ l.loop-i.invariant.1
 
-add-i : tie.Need-overflow-add-i invariant-loop decreases-loop
+add-i : tie.Need-overflow_add-i invariant-loop decreases-loop
 add-i c = search rules
 
-loop-less : tie.Need-loop-smaller invariant-loop decreases-loop
+loop-less : tie.Need-loop-i-smaller invariant-loop decreases-loop
 loop-less c = search rules
 
-loop-again : tie.Need-loop-preserved invariant-loop decreases-loop
+loop-again : tie.Need-loop-i-preserved invariant-loop decreases-loop
 loop-again c =
-    let l = c.before.before.before.before.before in
-    let s = l.before in
+    let l = c in
+    let s = l in
     let e : length s.args.t1 ≡ rank_limit = search rules in
     let f : length s.args.t2 ≡ rank_limit = search rules in
-    (omega arith, same_next same_axis no_axis s.args.t1 s.args.t2 l.loop.i (omega arith) (omega arith) (sym c.before.same-axis.ensures ∙ not-false _ c.if1.false) ∙ l.loop.invariant.1)
+    (omega arith, same_next same_axis no_axis s.args.t1 s.args.t2 l.loop-i.i (omega arith) (omega arith) (sym c.same_axis.ensures ∙ not-false _ c.if-not-same_axis.false) ∙ l.loop-i.invariant.1)
 
-returns-2 : tie.Need-returns-2 invariant-loop decreases-loop
+returns-2 : tie.Need-returns invariant-loop decreases-loop
 returns-2 c =
-    let l = c.before in
-    let s = l.before in
+    let l = c in
+    let s = l in
     let e : length s.args.t1 ≡ rank_limit = search rules in
     let f : length s.args.t2 ≡ rank_limit = search rules in
-    same_ends same_axis no_axis s.args.t1 s.args.t2 l.loop.i (omega arith) (omega arith) ∙ l.loop.invariant.1
+    same_ends same_axis no_axis s.args.t1 s.args.t2 l.loop-i.i (omega arith) (omega arith) ∙ l.loop-i.invariant.1
 
-pub same-axes-spec : {M : Type 1} → statement M
-same-axes-spec =
+pub same_axes_spec : {M : Type 1} → statement M
+same_axes_spec =
     tie.close
     (tie.spec
     invariant-loop

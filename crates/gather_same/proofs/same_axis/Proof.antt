@@ -9,7 +9,7 @@ use Rattle.gather_same.proofs.same_axis.Tie as tie
 returns : tie.Need-returns
 unfolding same_axis
 returns c =
-    let s = c.before.before.before.before.before.before.before.before.before.before.before.before.before.before.before.before.before.before.before.before.before.before.before.before.before in
+    let s = c in
     let f0 : SFits w64 s.args.a.dest_step = search rules in
     let g0 : SFits w64 s.args.b.dest_step = search rules in
     let f1 : SFits w64 s.args.a.dest_reset = search rules in
@@ -22,10 +22,10 @@ returns c =
     let g4 : SFits w64 s.args.b.index_batch_step = search rules in
     let f5 : SFits w64 s.args.a.index_batch_reset = search rules in
     let g5 : SFits w64 s.args.b.index_batch_reset = search rules in
-    rw (c.both6.ensures, c.before.both5.ensures, c.before.before.both4.ensures, c.before.before.before.both3.ensures, c.before.before.before.before.both2.ensures, c.before.before.before.before.before.both.ensures, c.before.before.before.before.before.before.same-i646.ensures, c.before.before.before.before.before.before.before.before.before.same-i645.ensures, c.before.before.before.before.before.before.before.before.before.before.before.before.same-i644.ensures, c.before.before.before.before.before.before.before.before.before.before.before.before.before.before.before.same-i643.ensures, c.before.before.before.before.before.before.before.before.before.before.before.before.before.before.before.before.before.before.same-i642.ensures, c.before.before.before.before.before.before.before.before.before.before.before.before.before.before.before.before.before.before.before.before.before.same-i64.ensures, c.before.before.before.before.before.before.before.before.before.before.before.before.before.before.before.before.before.before.before.before.before.before.before.before.same-role.ensures, back f0, back g0, back f1, back g1, back f2, back g2, back f3, back g3, back f4, back g4, back f5, back g5)
+    rw (c.both-6.ensures, c.both-5.ensures, c.both-4.ensures, c.both-3.ensures, c.both-2.ensures, c.both.ensures, c.same_i64-h.ensures, c.same_i64-g.ensures, c.same_i64-f.ensures, c.same_i64-e.ensures, c.same_i64-d.ensures, c.same_i64-c.ensures, c.same_role-role.ensures, back f0, back g0, back f1, back g1, back f2, back g2, back f3, back g3, back f4, back g4, back f5, back g5)
 
-pub same-axis-spec : {M : Type 1} → statement M
-same-axis-spec =
+pub same_axis_spec : {M : Type 1} → statement M
+same_axis_spec =
     tie.close
     (tie.spec
     (λ c κs. tt)

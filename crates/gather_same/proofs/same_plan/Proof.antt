@@ -4,10 +4,10 @@ use Rattle.gather_same.proofs.same_plan.Tie as tie
 
 returns : tie.Need-returns
 unfolding same_plan
-returns c = rw (c.both2.ensures, c.before.both.ensures, c.before.before.same-walk.ensures, c.before.before.before.same_spec.ensures, c.before.before.before.before.same-layouts.ensures)
+returns c = rw (c.both-2.ensures, c.both.ensures, c.same_walk-walk.ensures, c.same_spec-spec.ensures, c.same_layouts-layouts.ensures)
 
-pub same-plan-spec : {M : Type 1} → statement M
-same-plan-spec =
+pub same_plan_spec : {M : Type 1} → statement M
+same_plan_spec =
     tie.close
     (tie.spec
     (λ c κs. tt)

@@ -4,10 +4,10 @@ use Rattle.gather_same.proofs.same_spec.Tie as tie
 
 returns : tie.Need-returns
 unfolding same_spec
-returns c = rw (c.both4.ensures, c.before.both3.ensures, c.before.before.both2.ensures, c.before.before.before.both.ensures, c.before.before.before.before.before.before.same-numbers4.ensures, c.before.before.before.before.before.before.before.before.before.same-numbers3.ensures, c.before.before.before.before.before.before.before.before.before.before.before.before.same-numbers2.ensures, c.before.before.before.before.before.before.before.before.before.before.before.before.before.before.before.same_numbers.ensures)
+returns c = rw (c.both-4.ensures, c.both-3.ensures, c.both-2.ensures, c.both.ensures, c.same_numbers-sizes.ensures, c.same_numbers-map.ensures, c.same_numbers-collapsed.ensures, c.same_numbers-offsets.ensures)
 
-pub same-spec-spec : {M : Type 1} → statement M
-same-spec-spec =
+pub same_spec_spec : {M : Type 1} → statement M
+same_spec_spec =
     tie.close
     (tie.spec
     (λ c κs. tt)

@@ -4,10 +4,10 @@ use Rattle.gather_same.proofs.same_walk.Tie as tie
 
 returns : tie.Need-returns
 unfolding same_walk
-returns c = rw (c.both3.ensures, c.before.both2.ensures, c.before.before.both.ensures, c.before.before.before.before.before.same-steps2.ensures, c.before.before.before.before.before.before.before.before.same-steps.ensures, c.before.before.before.before.before.before.before.before.before.before.before.same-axes.ensures)
+returns c = rw (c.both-3.ensures, c.both-2.ensures, c.both.ensures, c.same_steps-strides.ensures, c.same_steps-offsets.ensures, c.same_axes-axes.ensures)
 
-pub same-walk-spec : {M : Type 1} → statement M
-same-walk-spec =
+pub same_walk_spec : {M : Type 1} → statement M
+same_walk_spec =
     tie.close
     (tie.spec
     (λ c κs. tt)

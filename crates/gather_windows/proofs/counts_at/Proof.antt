@@ -4,11 +4,11 @@ use lib.Dec.{ltb}
 use Rattle.gather_windows.proofs.counts_at.Statement.{statement}
 use Rattle.gather_windows.proofs.counts_at.Tie as tie
 
-returns : tie.Need-returns
-returns c = let a : tie.Start = search in sym (ap (λ (t : Bool). t && ltb a.args.j a.args.batches) c.if1.true)
+returns : tie.Need-returns-then-counts
+returns c = let a : tie.Start = search in sym (ap (λ (t : Bool). t && ltb a.args.j a.args.batches) c.if-counts.true)
 
-returns-2 : tie.Need-returns-2
-returns-2 c = let a : tie.Start = search in sym (ap (λ (t : Bool). t && ltb a.args.j a.args.batches) c.if1.false)
+returns-2 : tie.Need-returns
+returns-2 c = let a : tie.Start = search in sym (ap (λ (t : Bool). t && ltb a.args.j a.args.batches) c.if-counts.false)
 
-pub counts-at-spec : {M : Type 1} → statement M
-counts-at-spec = tie.close (tie.spec returns returns-2)
+pub counts_at_spec : {M : Type 1} → statement M
+counts_at_spec = tie.close (tie.spec returns returns-2)

@@ -17,43 +17,43 @@ units-more l n u e i h = go (eqb i n) refl
     go true q = subst (λ (k : ℕ). get_or l k 0 ≡ 1) (sym (eqb-true i n q)) e
     go false q = u i (omega (arith, eqb-false i n q))
 
-abbrev invariant-loop : tie.invariant-loop
+abbrev invariant-loop : tie.invariant-loop-i
 invariant-loop batches rank i₀ i = (i ≤ rank) × Units i batches
 
-abbrev decreases-loop : tie.decreases-loop
+abbrev decreases-loop : tie.decreases-loop-i
 decreases-loop batches rank i₀ i = rank - i
 
-loop-holds : tie.Need-loop-init invariant-loop decreases-loop
+loop-holds : tie.Need-loop-i-init invariant-loop decreases-loop
 loop-holds c = (omega arith, λ i h. absurd (omega arith))
 
-mul-if1 : tie.Need-overflow-mul-if1 invariant-loop decreases-loop
-mul-if1 c = omega (arith, c.before.before.requires)
+mul-if1 : tie.Need-offset_bounds-batches-i invariant-loop decreases-loop
+mul-if1 c = omega (arith, c.requires)
 
-element-copy-out-if1 : tie.Need-element-copy-out-if1 invariant-loop decreases-loop
-element-copy-out-if1 c = omega (arith, c.before.before.requires)
+element-copy-out-if1 : tie.Need-bounds-batches-i invariant-loop decreases-loop
+element-copy-out-if1 c = omega (arith, c.requires)
 
-returns : tie.Need-returns invariant-loop decreases-loop
+returns : tie.Need-returns-then-batches-i-ne1 invariant-loop decreases-loop
 returns c =
-    let h : tie.At-loop invariant-loop decreases-loop = search in
-    record { within = h.loop.inv.0; ones = h.loop.inv.1; stops = λ _. c.if1.true }
+    let h : tie.At-loop-i invariant-loop decreases-loop = search in
+    record { within = h.loop.inv.0; ones = h.loop.inv.1; stops = λ _. c.if-batches-i-ne1.true }
 
-add-i : tie.Need-overflow-add-i invariant-loop decreases-loop
+add-i : tie.Need-overflow_add-i invariant-loop decreases-loop
 add-i c = omega arith
 
-loop-less : tie.Need-loop-smaller invariant-loop decreases-loop
+loop-less : tie.Need-loop-i-smaller invariant-loop decreases-loop
 loop-less c = omega arith
 
-loop-again : tie.Need-loop-preserved invariant-loop decreases-loop
+loop-again : tie.Need-loop-i-preserved invariant-loop decreases-loop
 loop-again c =
-    let h : tie.At-loop invariant-loop decreases-loop = search in
+    let h : tie.At-loop-i invariant-loop decreases-loop = search in
     let a : tie.Start invariant-loop decreases-loop = search in
-    (omega arith, units-more a.args.batches.now h.loop.i h.loop.inv.1 c.if1.false)
+    (omega arith, units-more a.args.batches.now h.loop.i h.loop.inv.1 c.if-batches-i-ne1.false)
 
-returns-2 : tie.Need-returns-2 invariant-loop decreases-loop
-returns-2 c = let h = c.before in record { within = h.loop.invariant.0; ones = h.loop.invariant.1; stops = λ l. absurd (omega (arith, c.loop-test.false)) }
+returns-2 : tie.Need-returns invariant-loop decreases-loop
+returns-2 c = let h = c in record { within = h.loop-i.invariant.0; ones = h.loop-i.invariant.1; stops = λ l. absurd (omega (arith, c.loop-i-test.false)) }
 
-pub window-axes-spec : {M : Type 1} → statement M
-window-axes-spec =
+pub window_axes_spec : {M : Type 1} → statement M
+window_axes_spec =
     tie.close
     (tie.spec
     invariant-loop

@@ -12,64 +12,64 @@ use borrow.Author.Rules.{rules}
 use Rattle.gather_windows_f64.proofs.gather_window.Statement.{statement}
 use Rattle.gather_windows_f64.proofs.gather_window.Tie as tie
 
-gather-run-requires : tie.Need-gather-run-requires
+gather-run-requires : tie.Need-gather_run-requires
 gather-run-requires c κs =
     let a : tie.Start = search in
-    one_cell _ _ _ _ _ _ _ _ _ _ _ _ _ _ _ a.pre.0 a.fits.s a.fits.t a.fits.d c.before.if1.true
+    one_cell _ _ _ _ _ _ _ _ _ _ _ _ _ _ _ a.pre.0 a.fits.s a.fits.t a.fits.d c.if-rank-eq0.true
 
-same_length : tie.Need-same-length
+same_length : tie.Need-shape_of-dst-then-rank-eq0
 same_length c = search rules
 
-returns : tie.Need-returns
+returns : tie.Need-returns-then-rank-eq0
 returns c =
-    let t1 : tie.Then1 = search in
-    let g : tie.After-gather-run = search in
+    let t1 : tie.Then-rank-eq0 = search in
+    let g : tie.After-gather_run = search in
     let a : tie.Start = search in
     (one_end _ _ _ _ _ _ _ _ _ _ _ _ _ _ _ a.pre.0 a.fits.s a.fits.t a.fits.d t1.if1.taken nan (rule_f64 R.Replace) a.args.src.now a.args.dst.now _ g.gather-run.ensures.0, one-counted a.args.starts.now a.args.offsets.now a.args.limits.now a.args.count a.args.t a.args.extents.now a.args.batches.now a.args.ts.now a.args.rank _ t1.if1.taken a.fits.t g.gather-run.ensures.1)
 
-returns-2 : tie.Need-returns-2
+returns-2 : tie.Need-returns-then-has_zero
 returns-2 c =
     let a : tie.Start = search in
-    (nothing _ _ _ _ _ _ _ _ _ _ _ _ _ _ _ a.pre.0 a.fits.s a.fits.t a.fits.d nan (rule_f64 R.Replace) a.args.src.now a.args.dst.now (sym c.before.has-zero.ensures ∙ c.if2.true), none-counted a.args.starts.now a.args.offsets.now a.args.limits.now a.args.count a.args.t a.args.extents.now a.args.batches.now a.args.ts.now a.args.rank (sym c.before.has-zero.ensures ∙ c.if2.true))
+    (nothing _ _ _ _ _ _ _ _ _ _ _ _ _ _ _ a.pre.0 a.fits.s a.fits.t a.fits.d nan (rule_f64 R.Replace) a.args.src.now a.args.dst.now (sym c.has_zero.ensures ∙ c.if-has_zero.true), none-counted a.args.starts.now a.args.offsets.now a.args.limits.now a.args.count a.args.t a.args.extents.now a.args.batches.now a.args.ts.now a.args.rank (sym c.has_zero.ensures ∙ c.if-has_zero.true))
 
-run-axis-requires : tie.Need-run-axis-requires
+run-axis-requires : tie.Need-run_axis-low-requires
 run-axis-requires c κs = search rules
 
-window-axes-requires : tie.Need-window-axes-requires
+window-axes-requires : tie.Need-window_axes-wide-requires
 window-axes-requires c κs = search rules
 
 -- there are cells
-some : (k : tie.After-window-axes)
+some : (k : tie.After-window_axes-wide)
     → let a : tie.Start = search in
     AllPos (take a.args.rank a.args.extents.now)
 some k =
     let a : tie.Start = search in
-    let e : tie.Else2 = search in
-    let z : tie.After-has-zero = search in
+    let e : tie.Else-has_zero = search in
+    let z : tie.After-has_zero = search in
     some-cells (take a.args.rank a.args.extents.now) (sym z.has-zero.ensures ∙ e.if2.left)
 
-gather-axes-requires : tie.Need-gather-axes-requires
+gather-axes-requires : tie.Need-gather_axes-requires
 gather-axes-requires c κs =
-    let w : tie.After-window-axes = search in
-    let r : tie.After-run-axis = search in
+    let w : tie.After-window_axes-wide = search in
+    let r : tie.After-run_axis-low = search in
     let a : tie.Start = search in (
       level-of _ _ _ _ _ _ _ _ _ _ _ _ _ _ _ a.pre.0 a.fits.s a.fits.t a.fits.d r.run-axis.result w.window-axes.result r.run-axis.ensures.below r.run-axis.ensures.units (some w)
           (still-of a.args.extents.now a.args.batches.now a.args.ts.now w.window-axes.result a.args.rank a.pre.1 w.window-axes.ensures.within w.window-axes.ensures.ones),
       level-of-batches a.args.extents.now a.args.batches.now a.args.ts.now r.run-axis.result w.window-axes.result a.args.rank a.pre.1 r.run-axis.ensures.below r.run-axis.ensures.units w.window-axes.ensures,
     )
 
-same-length-2 : tie.Need-same-length-2
+same-length-2 : tie.Need-shape_of-dst
 same-length-2 c = search rules
 
-returns-3 : tie.Need-returns-3
+returns-3 : tie.Need-returns
 returns-3 c =
-    let g : tie.After-gather-axes = search in
-    let w : tie.After-window-axes = search in
+    let g : tie.After-gather_axes = search in
+    let w : tie.After-window_axes-wide = search in
     let a : tie.Start = search in
     (level-end _ _ _ _ _ _ _ _ _ _ _ _ _ _ _ a.pre.0 a.fits.s a.fits.t a.fits.d nan (rule_f64 R.Replace) a.args.src.now a.args.dst.now _ g.gather-axes.ensures.0, level-counted a.args.starts.now a.args.offsets.now a.args.limits.now a.args.count a.args.t a.args.extents.now a.args.batches.now a.args.ts.now a.args.rank _ (some w) a.fits.t g.gather-axes.ensures.1)
 
-pub gather-window-spec : {M : Type 1} → statement M
-gather-window-spec =
+pub gather_window_spec : {M : Type 1} → statement M
+gather_window_spec =
     tie.close
     (tie.spec
     gather-run-requires

@@ -4,11 +4,11 @@ use borrow.Author.Rules.{rules}
 use Rattle.harbour_cases.proofs.put_i32.Statement.{statement}
 use Rattle.harbour_cases.proofs.put_i32.Tie as tie
 
-cast-put-i64 : tie.Need-overflow-cast-put-i64
+cast-put-i64 : tie.Need-overflow_cast-n
 cast-put-i64 c = simp znorm (simp zflat (omega (arith, known c.ranges.n)))
 
 returns : tie.Need-returns
 returns c = search rules
 
-pub put-i32-spec : {M : Type 1} → statement M
-put-i32-spec = tie.close (tie.spec cast-put-i64 (λ c κs. tt) returns)
+pub put_i32_spec : {M : Type 1} → statement M
+put_i32_spec = tie.close (tie.spec cast-put-i64 (λ c κs. tt) returns)

@@ -5,19 +5,19 @@ use Rattle.integer.specs.Laws.{min_ℤ-by}
 use Rattle.indexed_runs.proofs.at_most.Statement.{statement}
 use Rattle.indexed_runs.proofs.at_most.Tie as tie
 
-returns : tie.Need-returns
+returns : tie.Need-returns-then-limit-x
 returns c =
-    let s = c.before in
+    let s = c in
     let x = s.args.x in
     let l = s.args.limit in
     back s.ranges.limit ∙ min_ℤ-by x l (λ m. l ≡ m) (λ h. ≡-from l x (omega (arith, zfacts, known s.ranges.x, known s.ranges.limit, only x, only l, h))) (λ h. refl)
 
-returns-2 : tie.Need-returns-2
+returns-2 : tie.Need-returns-else-limit-x
 returns-2 c =
-    let s = c.before in
+    let s = c in
     let x = s.args.x in
     let l = s.args.limit in
     back s.ranges.x ∙ min_ℤ-by x l (λ m. x ≡ m) (λ h. refl) (λ h. ≡-from x l (omega (arith, zfacts, known s.ranges.x, known s.ranges.limit, only x, only l, h)))
 
-pub at-most-spec : {M : Type 1} → statement M
-at-most-spec = tie.close (tie.spec returns returns-2)
+pub at_most_spec : {M : Type 1} → statement M
+at_most_spec = tie.close (tie.spec returns returns-2)

@@ -18,22 +18,22 @@ use Rattle.indexed_runs.proofs.clamped.Tie as tie
 up-min : (x limit : ℤ) → pos 0 ≤ℤ limit → up (min_ℤ x limit) ≡ min (up x) (up limit)
 up-min x limit h = min_ℤ-by x limit (λ m. up m ≡ min (up x) (up limit)) (λ l. omega (arith, zfacts, only x, only limit, l, h)) (λ l. omega (arith, zfacts, only x, only limit, l, h))
 
-is-outside-requires : tie.Need-is-outside-requires
+is-outside-requires : tie.Need-is_outside-moved-requires
 is-outside-requires c κs = search rules
 
 returns : tie.Need-returns
 returns c =
-    let m = c.before in
-    let o = m.before in
-    let a = o.before in
+    let m = c in
+    let o = m in
+    let a = o in
     let x = a.args.x in
     let limit = a.args.limit in
-    let e : m.at_most.result ≡ min_ℤ x limit = m.at_most.ensures ∙ ap₂ min_ℤ (back a.ranges.x) (back a.ranges.limit) in
-    let fy : SFits w64 m.at_most.result = subst (SFits w64) (sym e) (min_ℤ-by x limit (λ z. SFits w64 z) (λ _. a.ranges.x) (λ _. a.ranges.limit)) in
-    let z : c.not-below-zero.result ≡ pos (min (up x) (up limit)) = c.not-below-zero.ensures ∙ ap (λ (v : ℤ). pos (up v)) (back fy ∙ e) ∙ ap pos (up-min x limit a.requires) in
-    let is : c.not-below-zero.result ≡ clamp x (nat_abs limit) 0 = clamped-by _ x limit a.requires (ap up z) (ap dn z) in
-    let fr : SFits w64 c.not-below-zero.result = subst (SFits w64) (sym z) (record { sfits = omega (arith, zfacts, known a.ranges.x, known a.ranges.limit, only x) }) in
-    (back fr ∙ is, o.is-outside.ensures ∙ ap₂ (λ (u v : ℤ). moved u (nat_abs v) 0) (back a.ranges.x) (back a.ranges.limit))
+    let e : m.at_most-y.result ≡ min_ℤ x limit = m.at_most-y.ensures ∙ ap₂ min_ℤ (back a.ranges.x) (back a.ranges.limit) in
+    let fy : SFits w64 m.at_most-y.result = subst (SFits w64) (sym e) (min_ℤ-by x limit (λ z. SFits w64 z) (λ _. a.ranges.x) (λ _. a.ranges.limit)) in
+    let z : c.not_below_zero-at.result ≡ pos (min (up x) (up limit)) = c.not_below_zero-at.ensures ∙ ap (λ (v : ℤ). pos (up v)) (back fy ∙ e) ∙ ap pos (up-min x limit a.requires) in
+    let is : c.not_below_zero-at.result ≡ clamp x (nat_abs limit) 0 = clamped-by _ x limit a.requires (ap up z) (ap dn z) in
+    let fr : SFits w64 c.not_below_zero-at.result = subst (SFits w64) (sym z) (record { sfits = omega (arith, zfacts, known a.ranges.x, known a.ranges.limit, only x) }) in
+    (back fr ∙ is, o.is_outside-moved.ensures ∙ ap₂ (λ (u v : ℤ). moved u (nat_abs v) 0) (back a.ranges.x) (back a.ranges.limit))
 
-pub clamped-spec : {M : Type 1} → statement M
-clamped-spec = tie.close (tie.spec is-outside-requires (λ c κs. tt) (λ c κs. tt) returns)
+pub clamped_spec : {M : Type 1} → statement M
+clamped_spec = tie.close (tie.spec is-outside-requires (λ c κs. tt) (λ c κs. tt) returns)

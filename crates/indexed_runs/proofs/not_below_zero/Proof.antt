@@ -4,11 +4,11 @@ use Rattle.integer.specs.Z.{up, only, known, zfacts, ≡-from}
 use Rattle.indexed_runs.proofs.not_below_zero.Statement.{statement}
 use Rattle.indexed_runs.proofs.not_below_zero.Tie as tie
 
-returns : tie.Need-returns
-returns c = let a = c.before in ≡-from (pos 0) (pos (up a.args.x)) (omega (arith, zfacts, known a.ranges.x, only a.args.x))
+returns : tie.Need-returns-then-x-lt0
+returns c = let a = c in ≡-from (pos 0) (pos (up a.args.x)) (omega (arith, zfacts, known a.ranges.x, only a.args.x))
 
-returns-2 : tie.Need-returns-2
-returns-2 c = let a = c.before in ≡-from _ (pos (up a.args.x)) (omega (arith, zfacts, known a.ranges.x, only a.args.x))
+returns-2 : tie.Need-returns-else-x-lt0
+returns-2 c = let a = c in ≡-from _ (pos (up a.args.x)) (omega (arith, zfacts, known a.ranges.x, only a.args.x))
 
-pub not-below-zero-spec : {M : Type 1} → statement M
-not-below-zero-spec = tie.close (tie.spec returns returns-2)
+pub not_below_zero_spec : {M : Type 1} → statement M
+not_below_zero_spec = tie.close (tie.spec returns returns-2)

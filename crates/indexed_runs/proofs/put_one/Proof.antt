@@ -13,7 +13,7 @@ use Rattle.indexed_runs.proofs.put_one.Statement.{statement}
 use Rattle.indexed_runs.proofs.put_one.Tie as tie
 
 -- the place of the destination
-module _ (c : tie.After-clamped) where
+module _ (c : tie.After-clamped-y) where
   abbrev at-start : tie.Start
   at-start = search
 
@@ -23,60 +23,60 @@ module _ (c : tie.After-clamped) where
   by-start : pos (nat_abs (read c.clamped.result.at)) ≡ one_at at-start.args.starts.now at-start.args.limit at-start.args.i
   by-start = let a = at-start in ones_is _ _ _ _ a.pre.1 a.fits.limit (omega (arith, a.good.1.1.1.0.1)) _ a.pre.0 (sfits_of c.before.x.given) _ c.clamped.ensures.0
 
-mul-x : tie.Need-overflow-mul-x
+mul-x : tie.Need-offset_bounds-starts-i
 mul-x c = search rules
 
-shared-slice-copy-out-x : tie.Need-shared-slice-copy-out-x
+shared-slice-copy-out-x : tie.Need-bounds-starts-i
 shared-slice-copy-out-x c = search rules
 
-clamped-requires : tie.Need-clamped-requires
+clamped-requires : tie.Need-clamped-y-requires
 clamped-requires c κs = search rules
 
-cast-b : tie.Need-overflow-cast-b
+cast-b : tie.Need-overflow_cast-b
 cast-b c =
-    let l : tie.After-clamped = search in
+    let l : tie.After-clamped-y = search in
     (place l).cast
 
-mul_apply : tie.Need-overflow-mul-apply
+mul_apply : tie.Need-offset_bounds-dst-b
 mul_apply c =
-    let l : tie.After-clamped = search in
+    let l : tie.After-clamped-y = search in
     omega (arith, (place l).below, (at-start l).good.1.1.1.0.1)
 
-slice-copy-out-apply : tie.Need-slice-copy-out-apply
-slice-copy-out-apply c = let l : tie.After-clamped = search in (place l).below
+slice-copy-out-apply : tie.Need-slice_copy_out-apply
+slice-copy-out-apply c = let l : tie.After-clamped-y = search in (place l).below
 
-mul-apply-2 : tie.Need-overflow-mul-apply-2
+mul-apply-2 : tie.Need-offset_bounds-src-i
 mul-apply-2 c = search rules
 
-shared-slice-copy-out-apply : tie.Need-shared-slice-copy-out-apply
+shared-slice-copy-out-apply : tie.Need-bounds-src-i
 shared-slice-copy-out-apply c = search rules
 
-mul-v : tie.Need-overflow-mul-v
+mul-v : tie.Need-offset_bounds-dst-b-2
 mul-v c =
-    let l : tie.After-clamped = search in
+    let l : tie.After-clamped-y = search in
     omega (arith, (place l).below, (at-start l).good.1.1.1.0.1)
 
-slice-set-from-v : tie.Need-slice-set-from-v
+slice-set-from-v : tie.Need-bounds-dst-b
 slice-set-from-v c =
-    let l : tie.After-clamped = search in
+    let l : tie.After-clamped-y = search in
     (place l).below
 
-same_length : tie.Need-same-length
+same_length : tie.Need-shape_of-dst
 same_length c = search rules
 
 returns : tie.Need-returns
 returns c =
-    let w : tie.After-apply = search in
-    let q : tie.After-clamped = search in
+    let w : tie.After-apply-v = search in
+    let q : tie.After-clamped-y = search in
     let a = at-start q in
     let m = nat_abs (read q.clamped.result.at) in (
       one-turn (pos 0) (rule_i32 a.args.rule) a.args.src.now pos (one_at a.args.starts.now a.args.limit) a.args.dst.now a.args.i a.args.i m _ refl (by-start q)
           (stored a.args.rule (get_or a.args.dst.now m (pos 0)) (get_or a.args.src.now a.args.i (pos 0)) w.apply.result (sfits_of w.before.before.apply-arg.given) (sfits_of w.before.apply-arg2.given) w.apply.ensures),
-      c.count-if.ensures ∙ ap (λ (b : Bool). cond b 1 0) (ones-moved a.args.starts.now a.args.limit a.args.i a.fits.limit (sfits_of q.before.x.given) _ q.clamped.ensures.1),
+      c.count_if.ensures ∙ ap (λ (b : Bool). cond b 1 0) (ones-moved a.args.starts.now a.args.limit a.args.i a.fits.limit (sfits_of q.before.x.given) _ q.clamped.ensures.1),
     )
 
-pub put-one-spec : {M : Type 1} → statement M
-put-one-spec =
+pub put_one_spec : {M : Type 1} → statement M
+put_one_spec =
     tie.close
     (tie.spec
     mul-x

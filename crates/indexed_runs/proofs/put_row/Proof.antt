@@ -12,74 +12,74 @@ use Rattle.indexed_runs.proofs.put_row.Statement.{statement}
 use Rattle.indexed_runs.proofs.put_row.Tie as tie
 
 starting : (a : tie.Start) → Part a.args.t a.args.n (length a.args.starts.now)
-starting a = part_of _ _ _ a.requires.1.starting a.requires.0 (omega (arith, a.well-formed.1.1.0.1))
+starting a = part_of _ _ _ a.requires.1.starting a.requires.0 (omega (arith, a.well_formed.1.1.0.1))
 
 plain : (a : tie.Start) → Part a.args.s a.args.n (length a.args.src.now)
-plain a = part_of _ _ _ a.requires.1.plain a.requires.0 (omega (arith, a.well-formed.1.0.1))
+plain a = part_of _ _ _ a.requires.1.plain a.requires.0 (omega (arith, a.well_formed.1.0.1))
 
 -- the base, from which on the side is lent that the starts move in
 first : (a : tie.Start) → Index a.args.base (length a.args.dst.now)
-first a = index _ _ a.requires.1.first (omega (arith, a.well-formed.1.1.1.0.1))
+first a = index _ _ a.requires.1.first (omega (arith, a.well_formed.1.1.1.0.1))
 
-cast-l : tie.Need-overflow-cast-l
+cast-l : tie.Need-overflow_cast-l
 cast-l c = search rules
 
-cast-a : tie.Need-overflow-cast-a
+cast-a : tie.Need-overflow_cast-a
 cast-a c = let a : tie.Start = search in (plain a).cast
 
-cast-b : tie.Need-overflow-cast-b
+cast-b : tie.Need-overflow_cast-b
 cast-b c = let a : tie.Start = search in (starting a).cast
 
-cast-c : tie.Need-overflow-cast-c
+cast-c : tie.Need-overflow_cast-c
 cast-c c = let a : tie.Start = search in (first a).cast
 
-add-e : tie.Need-overflow-add-e
+add-e : tie.Need-overflow_add-e
 add-e c = let a : tie.Start = search in omega (arith, (plain a).room, a.good.1.0.1)
 
-add-f : tie.Need-overflow-add-f
+add-f : tie.Need-overflow_add-f
 add-f c = let a : tie.Start = search in omega (arith, (starting a).room, a.good.1.1.0.1)
 
-mul-put-ones : tie.Need-overflow-mul-put-ones
+mul-put-ones : tie.Need-offset_bounds-src-a
 mul-put-ones c = let a : tie.Start = search in omega (arith, (plain a).room, a.good.1.0.1)
 
-sub-put-ones : tie.Need-overflow-sub-put-ones
+sub-put-ones : tie.Need-slice_bounds-put_ones-count
 sub-put-ones c = search rules
 
-part-put-ones-start : tie.Need-slice-bounds-put-ones-start
+part-put-ones-start : tie.Need-slice_bounds-put_ones-start
 part-put-ones-start c = search rules
 
-part-put-ones-end : tie.Need-slice-bounds-put-ones-end
+part-put-ones-end : tie.Need-slice_bounds-put_ones-end
 part-put-ones-end c = let a : tie.Start = search in (plain a).room
 
-mul-put-ones-2 : tie.Need-overflow-mul-put-ones-2
+mul-put-ones-2 : tie.Need-offset_bounds-starts-b
 mul-put-ones-2 c =
     let a : tie.Start = search in
     omega (arith, (starting a).room, a.good.1.1.0.1)
 
-sub-put-ones-2 : tie.Need-overflow-sub-put-ones-2
+sub-put-ones-2 : tie.Need-slice_bounds-put_ones-count-2
 sub-put-ones-2 c = search rules
 
-part-put-ones-start-2 : tie.Need-slice-bounds-put-ones-start-2
+part-put-ones-start-2 : tie.Need-slice_bounds-put_ones-start-2
 part-put-ones-start-2 c = search rules
 
-part-put-ones-end-2 : tie.Need-slice-bounds-put-ones-end-2
+part-put-ones-end-2 : tie.Need-slice_bounds-put_ones-end-2
 part-put-ones-end-2 c = let a : tie.Start = search in (starting a).room
 
-mul-put-ones-3 : tie.Need-overflow-mul-put-ones-3
+mul-put-ones-3 : tie.Need-offset_bounds-dst-c
 mul-put-ones-3 c =
     let a : tie.Start = search in
     omega (arith, (first a).below, a.good.1.1.1.0.1)
 
-sub-put-ones-3 : tie.Need-overflow-sub-put-ones-3
+sub-put-ones-3 : tie.Need-slice_bounds-put_ones-count-3
 sub-put-ones-3 c = let a : tie.Start = search in omega (arith, (first a).below)
 
-part-put-ones-start-3 : tie.Need-slice-bounds-put-ones-start-3
+part-put-ones-start-3 : tie.Need-slice_bounds-put_ones-start-3
 part-put-ones-start-3 c = let a : tie.Start = search in omega (arith, (first a).below)
 
-part-put-ones-end-3 : tie.Need-slice-bounds-put-ones-end-3
+part-put-ones-end-3 : tie.Need-slice_bounds-put_ones-end-3
 part-put-ones-end-3 c = search rules
 
-put-ones-requires : tie.Need-put-ones-requires
+put-ones-requires : tie.Need-put_ones-requires
 put-ones-requires c κs =
     let a : tie.Start = search in
     let x : ℕ = nat_abs (read a.args.t) in
@@ -87,20 +87,20 @@ put-ones-requires c κs =
     let u : ℕ = nat_abs (read a.args.base) in
     ones-ask a.args.starts.now _ _ _ _ _ _ _ a.pre.1 x (x + a.args.n - x) (omega arith) (starting a).is u (length a.args.dst.now - u) (first a).is refl a.args.src.now y (y + a.args.n - y) a.args.dst.now (omega arith) (starting a).room (plain a).room refl
 
-same_length : tie.Need-same-length
+same_length : tie.Need-shape_of-dst
 same_length c = search rules
 
 returns : tie.Need-returns
 returns c =
-    let p : tie.After-put-ones = search in
+    let p : tie.After-put_ones = search in
     let a : tie.Start = search in
     let x : ℕ = nat_abs (read a.args.t) in
     let y : ℕ = nat_abs (read a.args.s) in
     let u : ℕ = nat_abs (read a.args.base) in
     (part-put (pos 0) (rule_i32 a.args.rule) a.args.src.now a.args.dst.now _ _ _ a.args.s y a.args.n (y + a.args.n - y) u (length a.args.dst.now - u) (omega arith) (plain a).is (plain a).room (omega (arith, (first a).below)) (place_in a.args.starts.now _ _ _ _ _ _ _ a.pre.1 x (x + a.args.n - x) (omega arith) (starting a).is u (length a.args.dst.now - u) (first a).is refl) (part-place a.args.starts.now _ _ _ _ _ _ _ a.pre.1 x (x + a.args.n - x) (omega arith) (starting a).is u (length a.args.dst.now - u) (first a).is refl) p.put-ones.ensures.0, parts-count a.args.starts.now _ _ _ _ _ _ _ a.pre.1 x (x + a.args.n - x) (omega arith) (starting a).is u (length a.args.dst.now - u) (first a).is refl a.args.src.now y (y + a.args.n - y) _ (omega arith) (plain a).room p.put-ones.ensures.1)
 
-pub put-row-spec : {M : Type 1} → statement M
-put-row-spec =
+pub put_row_spec : {M : Type 1} → statement M
+put_row_spec =
     tie.close
     (tie.spec
     cast-l

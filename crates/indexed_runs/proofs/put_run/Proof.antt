@@ -10,41 +10,41 @@ use Rattle.indexed_runs.proofs.Counts.{moves-end}
 use Rattle.indexed_runs.proofs.put_run.Statement.{statement}
 use Rattle.indexed_runs.proofs.put_run.Tie as tie
 
-returns : tie.Need-returns
-returns c = let a : tie.Start = search in (none _ a.args.n a.args.dst.now c.if1.true, many-none a.args.n _ c.if1.true)
+returns : tie.Need-returns-then-n-eq0
+returns c = let a : tie.Start = search in (none _ a.args.n a.args.dst.now c.if-n-eq0.true, many-none a.args.n _ c.if-n-eq0.true)
 
-put-row-requires : tie.Need-put-row-requires
+put-row-requires : tie.Need-put_row-requires
 put-row-requires c κs =
-    let t = c.before in
+    let t = c in
     let a : tie.Start = search in
-    row-asks _ _ _ a.fits.ts a.fits.stride a.fits.ss t.before.before.if2.true t.before.if3.true t.if4.true _ _ _ _ _ _ _ _ a.fits.t a.fits.base a.fits.s t.before.before.before.if1.false a.pre
+    row-asks _ _ _ a.fits.ts a.fits.stride a.fits.ss t.if-ts-eq1.true t.if-stride-eq1.true t.if-ss-eq1.true _ _ _ _ _ _ _ _ a.fits.t a.fits.base a.fits.s t.if-n-eq0.false a.pre
 
-same_length : tie.Need-same-length
+same_length : tie.Need-shape_of-dst-then-ss-eq1
 same_length c = search rules
 
-returns-2 : tie.Need-returns-2
+returns-2 : tie.Need-returns-then-ss-eq1
 returns-2 c =
-    let p : tie.After-put-row = search in
-    let t : tie.Then4 = search in
+    let p : tie.After-put_row = search in
+    let t : tie.Then-ss-eq1 = search in
     let a : tie.Start = search in
     (put-row-end a.args.ts a.args.stride a.args.ss a.fits.ts a.fits.stride a.fits.ss t.before.before.if2.taken t.before.if3.taken t.if4.taken (pos 0) (rule_i32 a.args.rule) a.args.src.now a.args.starts.now a.args.t a.args.base a.args.s a.args.limit a.args.n a.args.dst.now _ a.fits.t a.fits.base a.fits.s p.put-row.ensures.0, row-count a.args.ts a.args.stride a.args.ss a.fits.ts a.fits.stride a.fits.ss t.before.before.if2.taken t.before.if3.taken t.if4.taken a.args.starts.now a.args.t a.args.limit a.args.n _ a.fits.t p.put-row.ensures.1)
 
-put-strided-requires : tie.Need-put-strided-requires
+put-strided-requires : tie.Need-put_strided-requires
 put-strided-requires c κs =
     let a : tie.Start = search in
     strided-asks _ _ _ _ _ _ _ _ _ _ _ a.fits.t a.fits.ts a.fits.base a.fits.stride a.fits.s a.fits.ss a.pre
 
-same-length-2 : tie.Need-same-length-2
+same-length-2 : tie.Need-shape_of-dst
 same-length-2 c = search rules
 
-returns-3 : tie.Need-returns-3
+returns-3 : tie.Need-returns
 returns-3 c =
-    let p : tie.After-put-strided = search in
+    let p : tie.After-put_strided = search in
     let a : tie.Start = search in
     (put-end (pos 0) (rule_i32 a.args.rule) a.args.src.now a.args.starts.now a.args.t a.args.ts a.args.base a.args.stride a.args.s a.args.ss a.args.limit a.args.n a.args.n a.args.dst.now p.put-strided.last.1.1.1.0 a.fits.t a.fits.ts a.fits.base a.fits.stride a.fits.s a.fits.ss refl p.put-strided.ensures.0, moves-end a.args.starts.now a.args.t a.args.ts a.args.n a.args.n _ a.fits.t a.fits.ts refl a.args.limit p.put-strided.ensures.1)
 
-pub put-run-spec : {M : Type 1} → statement M
-put-run-spec =
+pub put_run_spec : {M : Type 1} → statement M
+put_run_spec =
     tie.close
     (tie.spec
     returns

@@ -9,76 +9,76 @@ use Rattle.indexed_runs.proofs.Counts.{moves-end}
 use Rattle.indexed_runs.proofs.put_strided.Statement.{statement}
 use Rattle.indexed_runs.proofs.put_strided.Tie as tie
 
-enum_told : tie.Need-enum-told
+enum_told : tie.Need-enum_told-1
 enum_told c = search rules
 
-put-strided-by-requires : tie.Need-put-strided-by-requires
+put-strided-by-requires : tie.Need-put_strided_by-requires
 put-strided-by-requires c κs = let a : tie.Start = search in strided-asks _ _ _ _ _ _ _ _ _ _ _ a.fits.t a.fits.ts a.fits.base a.fits.stride a.fits.s a.fits.ss a.pre
 
-enum-told-2 : tie.Need-enum-told-2
+enum-told-2 : tie.Need-enum_told-in-Lowest
 enum-told-2 c = search rules
 
-put-strided-by-requires-2 : tie.Need-put-strided-by-requires-2
+put-strided-by-requires-2 : tie.Need-put_strided_by-requires-in-Lowest
 put-strided-by-requires-2 c κs = let a : tie.Start = search in strided-asks _ _ _ _ _ _ _ _ _ _ _ a.fits.t a.fits.ts a.fits.base a.fits.stride a.fits.s a.fits.ss a.pre
 
-enum-told-3 : tie.Need-enum-told-3
+enum-told-3 : tie.Need-enum_told-in-Highest
 enum-told-3 c = search rules
 
-put-strided-by-requires-3 : tie.Need-put-strided-by-requires-3
+put-strided-by-requires-3 : tie.Need-put_strided_by-requires-in-Highest
 put-strided-by-requires-3 c κs = let a : tie.Start = search in strided-asks _ _ _ _ _ _ _ _ _ _ _ a.fits.t a.fits.ts a.fits.base a.fits.stride a.fits.s a.fits.ss a.pre
 
-enum-told-4 : tie.Need-enum-told-4
+enum-told-4 : tie.Need-enum_told-in-Replace
 enum-told-4 c = search rules
 
-put-strided-by-requires-4 : tie.Need-put-strided-by-requires-4
+put-strided-by-requires-4 : tie.Need-put_strided_by-requires-in-Replace
 put-strided-by-requires-4 c κs = let a : tie.Start = search in strided-asks _ _ _ _ _ _ _ _ _ _ _ a.fits.t a.fits.ts a.fits.base a.fits.stride a.fits.s a.fits.ss a.pre
 
-same_length : tie.Need-same-length
+same_length : tie.Need-shape_of-dst-in-Add
 same_length c = search rules
 
-returns : tie.Need-returns
+returns : tie.Need-returns-in-Add
 returns c =
-    let e : tie.After-enum-told = search in
-    let o : tie.After-put-strided-by = search in
+    let e : tie.In-Add = search in
+    let o : tie.After-put_strided_by = search in
     let a : tie.Start = search in
     rw e.enum_told.given.1
     (put-end (pos 0) (rule_i32 R.Add) a.args.src.now a.args.starts.now a.args.t a.args.ts a.args.base a.args.stride a.args.s a.args.ss a.args.limit a.args.n a.args.n a.args.dst.now _ a.fits.t a.fits.ts a.fits.base a.fits.stride a.fits.s a.fits.ss refl o.put-strided-by.ensures.0, moves-end a.args.starts.now a.args.t a.args.ts a.args.n a.args.n _ a.fits.t a.fits.ts refl a.args.limit o.put-strided-by.ensures.1)
 
-same-length-2 : tie.Need-same-length-2
+same-length-2 : tie.Need-shape_of-dst-in-Lowest
 same-length-2 c = search rules
 
-returns-2 : tie.Need-returns-2
+returns-2 : tie.Need-returns-in-Lowest
 returns-2 c =
-    let e : tie.After-enum-told2 = search in
-    let o : tie.After-put-strided-by2 = search in
+    let e : tie.In-Lowest = search in
+    let o : tie.After-put_strided_by-in-Lowest = search in
     let a : tie.Start = search in
     rw e.enum-told2.given.1
     (put-end (pos 0) (rule_i32 R.Lowest) a.args.src.now a.args.starts.now a.args.t a.args.ts a.args.base a.args.stride a.args.s a.args.ss a.args.limit a.args.n a.args.n a.args.dst.now _ a.fits.t a.fits.ts a.fits.base a.fits.stride a.fits.s a.fits.ss refl o.put-strided-by2.ensures.0, moves-end a.args.starts.now a.args.t a.args.ts a.args.n a.args.n _ a.fits.t a.fits.ts refl a.args.limit o.put-strided-by2.ensures.1)
 
-same-length-3 : tie.Need-same-length-3
+same-length-3 : tie.Need-shape_of-dst-in-Highest
 same-length-3 c = search rules
 
-returns-3 : tie.Need-returns-3
+returns-3 : tie.Need-returns-in-Highest
 returns-3 c =
-    let e : tie.After-enum-told3 = search in
-    let o : tie.After-put-strided-by3 = search in
+    let e : tie.In-Highest = search in
+    let o : tie.After-put_strided_by-in-Highest = search in
     let a : tie.Start = search in
     rw e.enum-told3.given.1
     (put-end (pos 0) (rule_i32 R.Highest) a.args.src.now a.args.starts.now a.args.t a.args.ts a.args.base a.args.stride a.args.s a.args.ss a.args.limit a.args.n a.args.n a.args.dst.now _ a.fits.t a.fits.ts a.fits.base a.fits.stride a.fits.s a.fits.ss refl o.put-strided-by3.ensures.0, moves-end a.args.starts.now a.args.t a.args.ts a.args.n a.args.n _ a.fits.t a.fits.ts refl a.args.limit o.put-strided-by3.ensures.1)
 
-same-length-4 : tie.Need-same-length-4
+same-length-4 : tie.Need-shape_of-dst-in-Replace
 same-length-4 c = search rules
 
-returns-4 : tie.Need-returns-4
+returns-4 : tie.Need-returns-in-Replace
 returns-4 c =
-    let e : tie.After-enum-told4 = search in
-    let o : tie.After-put-strided-by4 = search in
+    let e : tie.In-Replace = search in
+    let o : tie.After-put_strided_by-in-Replace = search in
     let a : tie.Start = search in
     rw e.enum-told4.given.1
     (put-end (pos 0) (rule_i32 R.Replace) a.args.src.now a.args.starts.now a.args.t a.args.ts a.args.base a.args.stride a.args.s a.args.ss a.args.limit a.args.n a.args.n a.args.dst.now _ a.fits.t a.fits.ts a.fits.base a.fits.stride a.fits.s a.fits.ss refl o.put-strided-by4.ensures.0, moves-end a.args.starts.now a.args.t a.args.ts a.args.n a.args.n _ a.fits.t a.fits.ts refl a.args.limit o.put-strided-by4.ensures.1)
 
-pub put-strided-spec : {M : Type 1} → statement M
-put-strided-spec =
+pub put_strided_spec : {M : Type 1} → statement M
+put_strided_spec =
     tie.close
     (tie.spec
     enum_told

@@ -20,22 +20,22 @@ use Rattle.indexed_runs.proofs.Counts.{one_below, moves-is, moves-end}
 use Rattle.indexed_runs.proofs.put_strided_by.Statement.{statement}
 use Rattle.indexed_runs.proofs.put_strided_by.Tie as tie
 
-abbrev invariant-loop : tie.invariant-loop
+abbrev invariant-loop : tie.invariant-loop-i
 invariant-loop rule src starts dst₀ n t ts base stride limit s ss slid₀ i₀ dst slid i = (i ≤ n) × (length dst ≡ length dst₀) × (dst ≡ in_order (cell_at (pos 0) (rule_i32 rule) src (line (to_z w64 s) (to_z w64 ss)) (clamped_at starts (line (to_z w64 t) (to_z w64 ts)) (to_z w64 base) (to_z w64 stride) limit)) i dst₀) × (slid ≡ how_many i (moves_at starts (line (to_z w64 t) (to_z w64 ts)) limit))
 
-abbrev decreases-loop : tie.decreases-loop
+abbrev decreases-loop : tie.decreases-loop-i
 decreases-loop rule src starts dst₀ n t ts base stride limit s ss slid₀ i₀ dst slid i = n - i
 
-abbrev start : tie.In-loop invariant-loop decreases-loop → tie.Start invariant-loop decreases-loop
+abbrev start : tie.In-loop-i invariant-loop decreases-loop → tie.Start invariant-loop decreases-loop
 start d = search
 
-starts-at : (d : tie.In-loop invariant-loop decreases-loop) → Step (start d).args.t (start d).args.ts d.before.loop.i (length (start d).args.starts.now)
-starts-at d = let a = start d in start-step _ _ _ _ _ _ _ _ _ _ _ a.pre a.fits.t a.fits.ts (omega (arith, a.good.1.1.0.1)) _ d.loop-test.true
+starts-at : (d : tie.In-loop-i invariant-loop decreases-loop) → Step (start d).args.t (start d).args.ts d.loop-i.i (length (start d).args.starts.now)
+starts-at d = let a = start d in start-step _ _ _ _ _ _ _ _ _ _ _ a.pre a.fits.t a.fits.ts (omega (arith, a.good.1.1.0.1)) _ d.loop-i-test.true
 
-plain_at : (d : tie.In-loop invariant-loop decreases-loop) → Step (start d).args.s (start d).args.ss d.before.loop.i (length (start d).args.src.now)
-plain_at d = let a = start d in plain_step _ _ _ _ _ _ _ _ _ _ _ a.pre a.fits.s a.fits.ss (omega (arith, a.good.1.0.1)) _ d.loop-test.true
+plain_at : (d : tie.In-loop-i invariant-loop decreases-loop) → Step (start d).args.s (start d).args.ss d.loop-i.i (length (start d).args.src.now)
+plain_at d = let a = start d in plain_step _ _ _ _ _ _ _ _ _ _ _ a.pre a.fits.s a.fits.ss (omega (arith, a.good.1.0.1)) _ d.loop-i-test.true
 
-module _ (c : tie.After-clamp-window-start invariant-loop decreases-loop) where
+module _ (c : tie.After-clamp_window_start-y invariant-loop decreases-loop) where
   clamped-at : Step (start c.before.before).args.base (start c.before.before).args.stride c.clamp-window-start.result.start (length (start c.before.before).args.dst.now)
   clamped-at = let a = start c.before.before in clamped-step _ _ _ _ _ _ _ _ _ _ _ a.pre a.fits.t a.fits.ts a.fits.base a.fits.stride (omega (arith, a.good.1.1.1.0.1)) _ c.before.before.loop-test.true (starts-at c.before.before) (sfits_of c.before.x.given) _ c.clamp-window-start.ensures.0
 
@@ -44,131 +44,131 @@ module _ (c : tie.After-clamp-window-start invariant-loop decreases-loop) where
       ≡ clamped_at (start c.before.before).args.starts.now (line (read (start c.before.before).args.t) (read (start c.before.before).args.ts)) (read (start c.before.before).args.base) (read (start c.before.before).args.stride) (start c.before.before).args.limit c.before.before.before.loop.i
   by-start = let a = start c.before.before in clamped-is a.args.starts.now a.args.t a.args.ts a.args.base a.args.stride a.args.limit _ _ _ _ (starts-at c.before.before) (sfits_of c.before.x.given) clamped-at c.clamp-window-start.ensures.0
 
-loop-holds : tie.Need-loop-init invariant-loop decreases-loop
+loop-holds : tie.Need-loop-i-init invariant-loop decreases-loop
 loop-holds c =
     let a : tie.Start invariant-loop decreases-loop = search in
     (omega arith, refl, none _ 0 a.args.dst.now refl, many-none 0 _ refl)
 
-cast-k : tie.Need-overflow-cast-k invariant-loop decreases-loop
+cast-k : tie.Need-overflow_cast-k invariant-loop decreases-loop
 cast-k c =
-    let d : tie.In-loop invariant-loop decreases-loop = search in
+    let d : tie.In-loop-i invariant-loop decreases-loop = search in
     (starts-at d).count
 
-mul-p : tie.Need-overflow-mul-p invariant-loop decreases-loop
+mul-p : tie.Need-overflow_mul-p invariant-loop decreases-loop
 mul-p c =
-    let d : tie.In-loop invariant-loop decreases-loop = search in
+    let d : tie.In-loop-i invariant-loop decreases-loop = search in
     (starts-at d).multiple
 
-add-p : tie.Need-overflow-add-p invariant-loop decreases-loop
+add-p : tie.Need-overflow_add-p invariant-loop decreases-loop
 add-p c =
-    let d : tie.In-loop invariant-loop decreases-loop = search in
+    let d : tie.In-loop-i invariant-loop decreases-loop = search in
     (starts-at d).fits
 
-cast-p : tie.Need-overflow-cast-p invariant-loop decreases-loop
+cast-p : tie.Need-overflow_cast-p invariant-loop decreases-loop
 cast-p c =
-    let d : tie.In-loop invariant-loop decreases-loop = search in
+    let d : tie.In-loop-i invariant-loop decreases-loop = search in
     (starts-at d).cast
 
-mul-x : tie.Need-overflow-mul-x invariant-loop decreases-loop
+mul-x : tie.Need-offset_bounds-starts-p invariant-loop decreases-loop
 mul-x c =
-    let d : tie.In-loop invariant-loop decreases-loop = search in
+    let d : tie.In-loop-i invariant-loop decreases-loop = search in
     omega (arith, (starts-at d).below, (start d).good.1.1.0.1)
 
-shared-slice-copy-out-x : tie.Need-shared-slice-copy-out-x invariant-loop decreases-loop
+shared-slice-copy-out-x : tie.Need-bounds-starts-p invariant-loop decreases-loop
 shared-slice-copy-out-x c =
-    let d : tie.In-loop invariant-loop decreases-loop = search in
+    let d : tie.In-loop-i invariant-loop decreases-loop = search in
     (starts-at d).below
 
-clamp-window-start-requires : tie.Need-clamp-window-start-requires invariant-loop decreases-loop
+clamp-window-start-requires : tie.Need-clamp_window_start-y-requires invariant-loop decreases-loop
 clamp-window-start-requires c κs = tt
 
-cast-c : tie.Need-overflow-cast-c invariant-loop decreases-loop
+cast-c : tie.Need-overflow_cast-c invariant-loop decreases-loop
 cast-c c =
-    let k : tie.After-clamp-window-start invariant-loop decreases-loop = search in
+    let k : tie.After-clamp_window_start-y invariant-loop decreases-loop = search in
     (clamped-at k).count
 
-mul-b : tie.Need-overflow-mul-b invariant-loop decreases-loop
+mul-b : tie.Need-overflow_mul-b invariant-loop decreases-loop
 mul-b c =
-    let k : tie.After-clamp-window-start invariant-loop decreases-loop = search in
+    let k : tie.After-clamp_window_start-y invariant-loop decreases-loop = search in
     (clamped-at k).multiple
 
-add-b : tie.Need-overflow-add-b invariant-loop decreases-loop
+add-b : tie.Need-overflow_add-b invariant-loop decreases-loop
 add-b c =
-    let k : tie.After-clamp-window-start invariant-loop decreases-loop = search in
+    let k : tie.After-clamp_window_start-y invariant-loop decreases-loop = search in
     (clamped-at k).fits
 
-cast-b : tie.Need-overflow-cast-b invariant-loop decreases-loop
+cast-b : tie.Need-overflow_cast-b invariant-loop decreases-loop
 cast-b c =
-    let k : tie.After-clamp-window-start invariant-loop decreases-loop = search in
+    let k : tie.After-clamp_window_start-y invariant-loop decreases-loop = search in
     (clamped-at k).cast
 
-mul-a : tie.Need-overflow-mul-a invariant-loop decreases-loop
+mul-a : tie.Need-overflow_mul-a invariant-loop decreases-loop
 mul-a c =
-    let d : tie.In-loop invariant-loop decreases-loop = search in
+    let d : tie.In-loop-i invariant-loop decreases-loop = search in
     (plain_at d).multiple
 
-add_a : tie.Need-overflow-add-a invariant-loop decreases-loop
+add_a : tie.Need-overflow_add-a invariant-loop decreases-loop
 add_a c =
-    let d : tie.In-loop invariant-loop decreases-loop = search in
+    let d : tie.In-loop-i invariant-loop decreases-loop = search in
     (plain_at d).fits
 
-cast-a : tie.Need-overflow-cast-a invariant-loop decreases-loop
+cast-a : tie.Need-overflow_cast-a invariant-loop decreases-loop
 cast-a c =
-    let d : tie.In-loop invariant-loop decreases-loop = search in
+    let d : tie.In-loop-i invariant-loop decreases-loop = search in
     (plain_at d).cast
 
-mul_apply : tie.Need-overflow-mul-apply invariant-loop decreases-loop
+mul_apply : tie.Need-offset_bounds-dst-b invariant-loop decreases-loop
 mul_apply c =
-    let d : tie.In-loop invariant-loop decreases-loop = search in
-    let k : tie.After-clamp-window-start invariant-loop decreases-loop = search in
+    let d : tie.In-loop-i invariant-loop decreases-loop = search in
+    let k : tie.After-clamp_window_start-y invariant-loop decreases-loop = search in
     omega (arith, (clamped-at k).below, (start d).good.1.1.1.0.1)
 
-slice-copy-out-apply : tie.Need-slice-copy-out-apply invariant-loop decreases-loop
+slice-copy-out-apply : tie.Need-slice_copy_out-apply invariant-loop decreases-loop
 slice-copy-out-apply c =
-    let l : tie.After-clamp-window-start invariant-loop decreases-loop = search in
-    let h : tie.At-loop invariant-loop decreases-loop = search in
+    let l : tie.After-clamp_window_start-y invariant-loop decreases-loop = search in
+    let h : tie.At-loop-i invariant-loop decreases-loop = search in
     omega (arith, (clamped-at l).below, h.loop.inv.1)
 
-mul-apply-2 : tie.Need-overflow-mul-apply-2 invariant-loop decreases-loop
+mul-apply-2 : tie.Need-offset_bounds-src-a invariant-loop decreases-loop
 mul-apply-2 c =
-    let d : tie.In-loop invariant-loop decreases-loop = search in
+    let d : tie.In-loop-i invariant-loop decreases-loop = search in
     omega (arith, (plain_at d).below, (start d).good.1.0.1)
 
 shared-slice-copy-out-apply :
-    tie.Need-shared-slice-copy-out-apply invariant-loop decreases-loop
-shared-slice-copy-out-apply c = let d : tie.In-loop invariant-loop decreases-loop = search in (plain_at d).below
+    tie.Need-bounds-src-a invariant-loop decreases-loop
+shared-slice-copy-out-apply c = let d : tie.In-loop-i invariant-loop decreases-loop = search in (plain_at d).below
 
-apply-requires : tie.Need-apply-requires invariant-loop decreases-loop
+apply-requires : tie.Need-apply-v-requires invariant-loop decreases-loop
 apply-requires c κs = tt
 
-mul-v : tie.Need-overflow-mul-v invariant-loop decreases-loop
+mul-v : tie.Need-offset_bounds-dst-b-in-loop-i invariant-loop decreases-loop
 mul-v c =
-    let k : tie.After-clamp-window-start invariant-loop decreases-loop = search in
-    let d : tie.In-loop invariant-loop decreases-loop = search in
+    let k : tie.After-clamp_window_start-y invariant-loop decreases-loop = search in
+    let d : tie.In-loop-i invariant-loop decreases-loop = search in
     omega (arith, (clamped-at k).below, (start d).good.1.1.1.0.1)
 
-slice-set-from-v : tie.Need-slice-set-from-v invariant-loop decreases-loop
+slice-set-from-v : tie.Need-bounds-dst-b invariant-loop decreases-loop
 slice-set-from-v c =
-    let k : tie.After-clamp-window-start invariant-loop decreases-loop = search in
-    let h : tie.At-loop invariant-loop decreases-loop = search in
+    let k : tie.After-clamp_window_start-y invariant-loop decreases-loop = search in
+    let h : tie.At-loop-i invariant-loop decreases-loop = search in
     omega (arith, (clamped-at k).below, h.loop.inv.1)
 
-add-slid : tie.Need-overflow-add-slid invariant-loop decreases-loop
+add-slid : tie.Need-overflow_add-slid invariant-loop decreases-loop
 add-slid c =
-    let q : tie.After-clamp-window-start invariant-loop decreases-loop = search in
-    let h : tie.At-loop invariant-loop decreases-loop = search in
-    omega (arith, one_below h.loop.i _ _ _ q.clamp-window-start.result.moved h.loop.inv.3 c.count-if.ensures)
+    let q : tie.After-clamp_window_start-y invariant-loop decreases-loop = search in
+    let h : tie.At-loop-i invariant-loop decreases-loop = search in
+    omega (arith, one_below h.loop.i _ _ _ q.clamp-window-start.result.moved h.loop.inv.3 c.count_if-one.ensures)
 
-add-i : tie.Need-overflow-add-i invariant-loop decreases-loop
+add-i : tie.Need-overflow_add-i invariant-loop decreases-loop
 add-i c = omega arith
 
-loop-less : tie.Need-loop-smaller invariant-loop decreases-loop
+loop-less : tie.Need-loop-i-smaller invariant-loop decreases-loop
 loop-less c = omega arith
 
-loop-again : tie.Need-loop-preserved invariant-loop decreases-loop
+loop-again : tie.Need-loop-i-preserved invariant-loop decreases-loop
 loop-again c =
-    let w : tie.After-apply invariant-loop decreases-loop = search in
-    let q : tie.After-clamp-window-start invariant-loop decreases-loop = search in
+    let w : tie.After-apply-v invariant-loop decreases-loop = search in
+    let q : tie.After-clamp_window_start-y invariant-loop decreases-loop = search in
     let d = q.before.before in
     let h = d.before in
     let a = start d in
@@ -177,23 +177,23 @@ loop-again c =
       omega arith,
       length-set h.loop.dst _ _ ∙ h.loop.inv.1,
       cell-more (pos 0) (rule_i32 a.args.rule) a.args.src.now (line (read a.args.s) (read a.args.ss)) (clamped_at a.args.starts.now (line (read a.args.t) (read a.args.ts)) (read a.args.base) (read a.args.stride) a.args.limit) a.args.dst.now h.loop.dst h.loop.i from to _ h.loop.inv.2 (plain_at d).index_is (by-start q) (stored a.args.rule (get_or h.loop.dst to (pos 0)) (get_or a.args.src.now from (pos 0)) w.apply.result (sfits_of w.before.before.apply-arg.given) (sfits_of w.before.apply-arg2.given) w.apply.ensures),
-      many_more h.loop.i (moves_at a.args.starts.now (line (read a.args.t) (read a.args.ts)) a.args.limit) _ _ q.clamp-window-start.result.moved h.loop.inv.3 c.count-if.ensures
+      many_more h.loop.i (moves_at a.args.starts.now (line (read a.args.t) (read a.args.ts)) a.args.limit) _ _ q.clamp-window-start.result.moved h.loop.inv.3 c.count_if-one.ensures
           (moves-is a.args.starts.now _ _ a.args.limit _ _ (starts-at d) (sfits_of q.before.x.given) _ q.clamp-window-start.ensures.1),
     )
 
-same_length : tie.Need-same-length invariant-loop decreases-loop
-same_length c = c.before.loop.invariant.1
+same_length : tie.Need-shape_of-dst invariant-loop decreases-loop
+same_length c = c.loop-i.invariant.1
 
 returns : tie.Need-returns invariant-loop decreases-loop
 returns c =
-    let h = c.before in
+    let h = c in
     let a : tie.Start invariant-loop decreases-loop = search in (
-      put-end (pos 0) (rule_i32 a.args.rule) a.args.src.now a.args.starts.now a.args.t a.args.ts a.args.base a.args.stride a.args.s a.args.ss a.args.limit h.loop.i a.args.n a.args.dst.now h.loop.dst a.fits.t a.fits.ts a.fits.base a.fits.stride a.fits.s a.fits.ss (omega arith) h.loop.invariant.2,
-      moves-end a.args.starts.now a.args.t a.args.ts h.loop.i a.args.n h.loop.slid a.fits.t a.fits.ts (omega arith) a.args.limit h.loop.invariant.3,
+      put-end (pos 0) (rule_i32 a.args.rule) a.args.src.now a.args.starts.now a.args.t a.args.ts a.args.base a.args.stride a.args.s a.args.ss a.args.limit h.loop-i.i a.args.n a.args.dst.now h.loop-i.dst a.fits.t a.fits.ts a.fits.base a.fits.stride a.fits.s a.fits.ss (omega arith) h.loop-i.invariant.2,
+      moves-end a.args.starts.now a.args.t a.args.ts h.loop-i.i a.args.n h.loop-i.slid a.fits.t a.fits.ts (omega arith) a.args.limit h.loop-i.invariant.3,
     )
 
-pub put-strided-by-spec : {M : Type 1} → statement M
-put-strided-by-spec =
+pub put_strided_by_spec : {M : Type 1} → statement M
+put_strided_by_spec =
     tie.close
     (tie.spec
     invariant-loop

@@ -20,16 +20,16 @@ use Rattle.indexed_runs.proofs.Counts.{further-below, many-further, few-count}
 use Rattle.indexed_runs.proofs.put_turns.Statement.{statement}
 use Rattle.indexed_runs.proofs.put_turns.Tie as tie
 
-abbrev invariant-loop : tie.invariant-loop
+abbrev invariant-loop : tie.invariant-loop-left
 invariant-loop rule src starts dst₀ limit from turns width slid₀ i₀ left₀ dst slid i left =
     (from ≤ i) × (i + width * left ≡ length src) × (length dst ≡ length dst₀)
     × (dst ≡ in_order (λ k. cell_at (pos 0) (rule_i32 rule) src pos (one_at starts (to_z w64 limit)) (k + from)) (i - from) dst₀)
     × (slid ≡ how_many (i - from) (λ k. moves_at starts pos (nat_abs (to_z w64 limit)) (k + from)))
 
-abbrev decreases-loop : tie.decreases-loop
+abbrev decreases-loop : tie.decreases-loop-left
 decreases-loop rule src starts dst₀ limit from turns width slid₀ i₀ left₀ dst slid i left = left
 
-module _ (d : tie.In-loop invariant-loop decreases-loop) where
+module _ (d : tie.In-loop-left invariant-loop decreases-loop) where
   abbrev start : tie.Start invariant-loop decreases-loop
   start = search
 
@@ -40,43 +40,43 @@ module _ (d : tie.In-loop invariant-loop decreases-loop) where
   fits : d.before.loop.i + start.args.width ≤ length start.args.src.now
   fits = omega (arith, turn)
 
-returns : tie.Need-returns invariant-loop decreases-loop
+returns : tie.Need-returns-then-limit-lt0 invariant-loop decreases-loop
 returns c =
     let a : tie.Start invariant-loop decreases-loop = search in
-    absurd (omega (arith, zfacts, a.pre.1.low, known a.fits.limit, only a.args.limit, c.if1.true))
+    absurd (omega (arith, zfacts, a.pre.1.low, known a.fits.limit, only a.args.limit, c.if-limit-lt0.true))
 
-loop-holds : tie.Need-loop-init invariant-loop decreases-loop
+loop-holds : tie.Need-loop-left-init invariant-loop decreases-loop
 loop-holds c =
     let a : tie.Start invariant-loop decreases-loop = search in
     (omega arith, a.pre.0, refl, none _ (a.args.from - a.args.from) a.args.dst.now (omega arith), many-none (a.args.from - a.args.from) _ (omega arith))
 
-add-e : tie.Need-overflow-add-e invariant-loop decreases-loop
+add-e : tie.Need-overflow_add-e invariant-loop decreases-loop
 add-e c = omega (arith, fits c, (start c).well-formed.1.0.1)
 
-put-few-requires : tie.Need-put-few-requires invariant-loop decreases-loop
+put-few-requires : tie.Need-put_few-few-requires invariant-loop decreases-loop
 put-few-requires c κs =
-    let d : tie.In-loop invariant-loop decreases-loop = search in
-    let h : tie.At-loop invariant-loop decreases-loop = search in
+    let d : tie.In-loop-left invariant-loop decreases-loop = search in
+    let h : tie.At-loop-left invariant-loop decreases-loop = search in
     (omega arith, fits d, ones-left _ _ _ _ _ _ (start d).fits.limit (start d).pre.1 refl h.loop.inv.2)
 
-add-slid : tie.Need-overflow-add-slid invariant-loop decreases-loop
+add-slid : tie.Need-overflow_add-slid invariant-loop decreases-loop
 add-slid c =
-    let p : tie.After-put-few invariant-loop decreases-loop = search in
-    let d : tie.In-loop invariant-loop decreases-loop = search in
-    let h : tie.At-loop invariant-loop decreases-loop = search in
+    let p : tie.After-put_few-few invariant-loop decreases-loop = search in
+    let d : tie.In-loop-left invariant-loop decreases-loop = search in
+    let h : tie.At-loop-left invariant-loop decreases-loop = search in
     omega (arith, further-below (start d).args.from h.loop.i (h.loop.i + (start d).args.width) _ _ _ _ h.loop.inv.0 (omega arith) h.loop.inv.4 p.put-few.ensures.1, fits d, (start d).good.1.0.1)
 
-sub-left : tie.Need-overflow-sub-left invariant-loop decreases-loop
-sub-left c = let d : tie.In-loop invariant-loop decreases-loop = search in omega (arith, d.loop-test.taken)
+sub-left : tie.Need-overflow_sub-left invariant-loop decreases-loop
+sub-left c = let d : tie.In-loop-left invariant-loop decreases-loop = search in omega (arith, d.loop-test.taken)
 
-loop-less : tie.Need-loop-smaller invariant-loop decreases-loop
-loop-less c = let d : tie.In-loop invariant-loop decreases-loop = search in omega (arith, d.loop-test.taken)
+loop-less : tie.Need-loop-left-smaller invariant-loop decreases-loop
+loop-less c = let d : tie.In-loop-left invariant-loop decreases-loop = search in omega (arith, d.loop-test.taken)
 
-loop-again : tie.Need-loop-preserved invariant-loop decreases-loop
+loop-again : tie.Need-loop-left-preserved invariant-loop decreases-loop
 loop-again c =
-    let p : tie.After-put-few invariant-loop decreases-loop = search in
-    let d : tie.In-loop invariant-loop decreases-loop = search in
-    let h : tie.At-loop invariant-loop decreases-loop = search in
+    let p : tie.After-put_few-few invariant-loop decreases-loop = search in
+    let d : tie.In-loop-left invariant-loop decreases-loop = search in
+    let h : tie.At-loop-left invariant-loop decreases-loop = search in
     let a = start d in (
       omega (arith, h.loop.inv.0),
       turn d,
@@ -85,20 +85,20 @@ loop-again c =
       many-further a.args.from h.loop.i (h.loop.i + a.args.width) (moves_at a.args.starts.now pos (nat_abs (read a.args.limit))) _ _ h.loop.inv.0 (omega arith) h.loop.inv.4 p.put-few.ensures.1,
     )
 
-same_length : tie.Need-same-length invariant-loop decreases-loop
-same_length c = c.before.loop.invariant.2
+same_length : tie.Need-shape_of-dst invariant-loop decreases-loop
+same_length c = c.loop-left.invariant.2
 
-returns-2 : tie.Need-returns-2 invariant-loop decreases-loop
+returns-2 : tie.Need-returns invariant-loop decreases-loop
 returns-2 c =
-    let h = c.before in
+    let h = c in
     let a : tie.Start invariant-loop decreases-loop = search in
-    let e = none_left h.loop.i a.args.width h.loop.left (length a.args.src.now) h.loop.invariant.1 (omega (arith, c.loop-test.false)) in (
-      put-few-end (pos 0) (rule_i32 a.args.rule) a.args.src.now a.args.starts.now a.args.limit a.args.from h.loop.i (length a.args.src.now) a.args.dst.now h.loop.dst a.fits.limit e h.loop.invariant.3,
-      few-count true a.args.starts.now a.args.limit a.args.from h.loop.i (length a.args.src.now) h.loop.slid a.fits.limit e h.loop.invariant.4,
+    let e = none_left h.loop-left.i a.args.width h.loop-left.left (length a.args.src.now) h.loop-left.invariant.1 (omega (arith, c.loop-left-test.false)) in (
+      put-few-end (pos 0) (rule_i32 a.args.rule) a.args.src.now a.args.starts.now a.args.limit a.args.from h.loop-left.i (length a.args.src.now) a.args.dst.now h.loop-left.dst a.fits.limit e h.loop-left.invariant.3,
+      few-count true a.args.starts.now a.args.limit a.args.from h.loop-left.i (length a.args.src.now) h.loop-left.slid a.fits.limit e h.loop-left.invariant.4,
     )
 
-pub put-turns-spec : {M : Type 1} → statement M
-put-turns-spec =
+pub put_turns_spec : {M : Type 1} → statement M
+put_turns_spec =
     tie.close
     (tie.spec
     invariant-loop

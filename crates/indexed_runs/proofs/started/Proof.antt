@@ -16,116 +16,116 @@ use Rattle.indexed_runs.proofs.Starts.{none_yet, component-index, component-fits
 use Rattle.indexed_runs.proofs.started.Statement.{statement}
 use Rattle.indexed_runs.proofs.started.Tie as tie
 
-abbrev invariant-loop : tie.invariant-loop
+abbrev invariant-loop : tie.invariant-loop-c
 invariant-loop starts s t count offsets strides limits at₀ moved₀ c₀ at moved c = (c ≤ count) × Fits w64 at × (to_z w64 at ≡ to_z w64 s +ℤ start_at starts offsets strides limits (to_z w64 t) c) × (moved ≡ start_moved starts offsets limits (to_z w64 t) c)
 
-abbrev decreases-loop : tie.decreases-loop
+abbrev decreases-loop : tie.decreases-loop-c
 decreases-loop starts s t count offsets strides limits at₀ moved₀ c₀ at moved c = count - c
 
 -- the loop's state, and the start of the call
-abbrev start : tie.In-loop invariant-loop decreases-loop → tie.Start invariant-loop decreases-loop
+abbrev start : tie.In-loop-c invariant-loop decreases-loop → tie.Start invariant-loop decreases-loop
 start d = d.before.before
 
 room : (a : tie.Start invariant-loop decreases-loop) → length a.args.starts.now < 2 ^ 63
-room a = omega (arith, a.well-formed.0.1)
+room a = omega (arith, a.well_formed.0.1)
 
-module _ (c : tie.After-p invariant-loop decreases-loop) where
+module _ (c : tie.After-p-1 invariant-loop decreases-loop) where
   index_at : Index (read (start c.before).args.t +ℤ read (get_or (start c.before).args.offsets.now c.before.before.loop.c (pos 0))) (length (start c.before).args.starts.now)
   index_at = let a = start c.before in component-index _ _ _ _ _ _ _ _ a.pre (omega arith) a.fits.s a.fits.t _ c.before.loop-test.true (sfits_of c.p.given) (room a)
 
-loop-holds : tie.Need-loop-init invariant-loop decreases-loop
+loop-holds : tie.Need-loop-c-init invariant-loop decreases-loop
 loop-holds c = (omega arith, Fits-of_z c.ranges.s, none_yet c.args.starts.now c.args.offsets.now c.args.strides.now c.args.limits.now (read c.args.s) (read c.args.t), one_none (component_moved c.args.starts.now c.args.offsets.now c.args.limits.now (read c.args.t)))
 
-mul-p : tie.Need-overflow-mul-p invariant-loop decreases-loop
-mul-p c = let d : tie.In-loop invariant-loop decreases-loop = search in omega (arith, (start d).pre.few)
+mul-p : tie.Need-offset_bounds-offsets-c invariant-loop decreases-loop
+mul-p c = let d : tie.In-loop-c invariant-loop decreases-loop = search in omega (arith, (start d).pre.few)
 
-element-copy-out-p : tie.Need-element-copy-out-p invariant-loop decreases-loop
-element-copy-out-p c = let d : tie.In-loop invariant-loop decreases-loop = search in omega (arith, (start d).pre.few)
+element-copy-out-p : tie.Need-bounds-offsets-c invariant-loop decreases-loop
+element-copy-out-p c = let d : tie.In-loop-c invariant-loop decreases-loop = search in omega (arith, (start d).pre.few)
 
-add-p : tie.Need-overflow-add-p invariant-loop decreases-loop
-add-p c = let a = start c.before in component-fits _ _ _ _ _ _ _ _ a.pre (omega arith) a.fits.s a.fits.t _ c.before.loop-test.true (sfits_of c.p.given) (room a)
+add-p : tie.Need-overflow_add-p invariant-loop decreases-loop
+add-p c = let a = start c.before in component-fits _ _ _ _ _ _ _ _ a.pre (omega arith) a.fits.s a.fits.t _ c.loop-c-test.true (sfits_of c.p-1.given) (room a)
 
-cast-p : tie.Need-overflow-cast-p invariant-loop decreases-loop
+cast-p : tie.Need-overflow_cast-p invariant-loop decreases-loop
 cast-p c = (index_at c).cast
 
-mul-x : tie.Need-overflow-mul-x invariant-loop decreases-loop
+mul-x : tie.Need-offset_bounds-starts-p invariant-loop decreases-loop
 mul-x c = omega (arith, (index_at c).below, (start c.before).good.0.1)
 
-shared-slice-copy-out-x : tie.Need-shared-slice-copy-out-x invariant-loop decreases-loop
+shared-slice-copy-out-x : tie.Need-bounds-starts-p invariant-loop decreases-loop
 shared-slice-copy-out-x c = (index_at c).below
 
-mul-clamp-window-start : tie.Need-overflow-mul-clamp-window-start invariant-loop decreases-loop
-mul-clamp-window-start c = let d : tie.In-loop invariant-loop decreases-loop = search in omega (arith, (start d).pre.few)
+mul-clamp-window-start : tie.Need-offset_bounds-limits-c invariant-loop decreases-loop
+mul-clamp-window-start c = let d : tie.In-loop-c invariant-loop decreases-loop = search in omega (arith, (start d).pre.few)
 
-element-copy-out-clamp-window-start : tie.Need-element-copy-out-clamp-window-start invariant-loop decreases-loop
-element-copy-out-clamp-window-start c = let d : tie.In-loop invariant-loop decreases-loop = search in omega (arith, (start d).pre.few)
+element-copy-out-clamp-window-start : tie.Need-bounds-limits-c invariant-loop decreases-loop
+element-copy-out-clamp-window-start c = let d : tie.In-loop-c invariant-loop decreases-loop = search in omega (arith, (start d).pre.few)
 
-clamp-window-start-requires : tie.Need-clamp-window-start-requires invariant-loop decreases-loop
+clamp-window-start-requires : tie.Need-clamp_window_start-y-requires invariant-loop decreases-loop
 clamp-window-start-requires c κs = tt
 
-cast-k : tie.Need-overflow-cast-k invariant-loop decreases-loop
+cast-k : tie.Need-overflow_cast-k invariant-loop decreases-loop
 cast-k c =
-    let k : tie.After-clamp-window-start invariant-loop decreases-loop = search in
-    let d : tie.In-loop invariant-loop decreases-loop = search in
+    let k : tie.After-clamp_window_start-y invariant-loop decreases-loop = search in
+    let d : tie.In-loop-c invariant-loop decreases-loop = search in
     clamped-fits _ _ _ ((start d).pre.small _ d.loop-test.taken) k.clamp-window-start.ensures.0
 
-mul_at : tie.Need-overflow-mul-at invariant-loop decreases-loop
-mul_at c = let d : tie.In-loop invariant-loop decreases-loop = search in omega (arith, (start d).pre.few)
+mul_at : tie.Need-offset_bounds-strides-c invariant-loop decreases-loop
+mul_at c = let d : tie.In-loop-c invariant-loop decreases-loop = search in omega (arith, (start d).pre.few)
 
-element-copy-out-at : tie.Need-element-copy-out-at invariant-loop decreases-loop
-element-copy-out-at c = let d : tie.In-loop invariant-loop decreases-loop = search in omega (arith, (start d).pre.few)
+element-copy-out-at : tie.Need-bounds-strides-c invariant-loop decreases-loop
+element-copy-out-at c = let d : tie.In-loop-c invariant-loop decreases-loop = search in omega (arith, (start d).pre.few)
 
-mul-at-2 : tie.Need-overflow-mul-at-2 invariant-loop decreases-loop
+mul-at-2 : tie.Need-overflow_mul-at invariant-loop decreases-loop
 mul-at-2 c =
-    let v : tie.After-at invariant-loop decreases-loop = search in
-    let k : tie.After-clamp-window-start invariant-loop decreases-loop = search in
-    let x : tie.After-x invariant-loop decreases-loop = search in
-    let p : tie.After-p invariant-loop decreases-loop = search in
+    let v : tie.After-at-1 invariant-loop decreases-loop = search in
+    let k : tie.After-clamp_window_start-y invariant-loop decreases-loop = search in
+    let x : tie.After-x-1 invariant-loop decreases-loop = search in
+    let p : tie.After-p-1 invariant-loop decreases-loop = search in
     let d = p.before in
     let a = start d in
     product-fits _ _ _ _ _ _ _ _ a.pre (omega arith) a.fits.s a.fits.t _ d.loop-test.taken (sfits_of p.p.given) (sfits_of v.at.given) _ d.before.loop.inv.2 _ (index_at p).is (sfits_of x.x.given) _ k.clamp-window-start.ensures.0
 
-add_at : tie.Need-overflow-add-at invariant-loop decreases-loop
+add_at : tie.Need-overflow_add-at invariant-loop decreases-loop
 add_at c =
-    let v : tie.After-at invariant-loop decreases-loop = search in
-    let k : tie.After-clamp-window-start invariant-loop decreases-loop = search in
-    let x : tie.After-x invariant-loop decreases-loop = search in
-    let p : tie.After-p invariant-loop decreases-loop = search in
+    let v : tie.After-at-1 invariant-loop decreases-loop = search in
+    let k : tie.After-clamp_window_start-y invariant-loop decreases-loop = search in
+    let x : tie.After-x-1 invariant-loop decreases-loop = search in
+    let p : tie.After-p-1 invariant-loop decreases-loop = search in
     let d = p.before in
     let a = start d in
     sum_fits _ _ _ _ _ _ _ _ a.pre (omega arith) a.fits.s a.fits.t _ d.loop-test.taken (sfits_of p.p.given) (sfits_of v.at.given) _ d.before.loop.inv.2 _ (index_at p).is (sfits_of x.x.given) _ k.clamp-window-start.ensures.0
 
-add-c : tie.Need-overflow-add-c invariant-loop decreases-loop
-add-c c = let d : tie.In-loop invariant-loop decreases-loop = search in omega (arith, (start d).pre.few)
+add-c : tie.Need-overflow_add-c invariant-loop decreases-loop
+add-c c = let d : tie.In-loop-c invariant-loop decreases-loop = search in omega (arith, (start d).pre.few)
 
-loop-less : tie.Need-loop-smaller invariant-loop decreases-loop
+loop-less : tie.Need-loop-c-smaller invariant-loop decreases-loop
 loop-less c = omega arith
 
-loop-again : tie.Need-loop-preserved invariant-loop decreases-loop
+loop-again : tie.Need-loop-c-preserved invariant-loop decreases-loop
 loop-again c =
-    let v : tie.After-at invariant-loop decreases-loop = search in
-    let k : tie.After-clamp-window-start invariant-loop decreases-loop = search in
-    let x : tie.After-x invariant-loop decreases-loop = search in
-    let p : tie.After-p invariant-loop decreases-loop = search in
+    let v : tie.After-at-1 invariant-loop decreases-loop = search in
+    let k : tie.After-clamp_window_start-y invariant-loop decreases-loop = search in
+    let x : tie.After-x-1 invariant-loop decreases-loop = search in
+    let p : tie.After-p-1 invariant-loop decreases-loop = search in
     let d = p.before in
     let a = start d in (
       omega arith,
       Fits-of_z (sum_fits _ _ _ _ _ _ _ _ a.pre (omega arith) a.fits.s a.fits.t _ d.loop-test.taken (sfits_of p.p.given) (sfits_of v.at.given) _ d.before.loop.inv.2 _ (index_at p).is (sfits_of x.x.given) _ k.clamp-window-start.ensures.0),
       sum-next _ _ _ _ _ _ _ _ a.pre (omega arith) a.fits.s a.fits.t _ d.loop-test.taken (sfits_of p.p.given) (sfits_of v.at.given) _ d.before.loop.inv.2 _ (index_at p).is (sfits_of x.x.given) _ k.clamp-window-start.ensures.0,
       one_more _ (component_moved a.args.starts.now a.args.offsets.now a.args.limits.now (read a.args.t)) _ _ _ d.before.loop.inv.3
-          (component-moved _ _ _ _ _ _ _ _ a.pre (omega arith) a.fits.s a.fits.t _ d.loop-test.taken (sfits_of p.p.given) _ (index_at p).is (sfits_of x.x.given) _ k.clamp-window-start.ensures.1) c.either.ensures,
+          (component-moved _ _ _ _ _ _ _ _ a.pre (omega arith) a.fits.s a.fits.t _ d.loop-test.taken (sfits_of p.p.given) _ (index_at p).is (sfits_of x.x.given) _ k.clamp-window-start.ensures.1) c.either-moved.ensures,
     )
 
 returns : tie.Need-returns invariant-loop decreases-loop
 returns c =
-    let h = c.before in
-    let a = h.before in (
-      h.loop.invariant.2 ∙ ap₂ (λ u v. u +ℤ start_at a.args.starts.now a.args.offsets.now a.args.strides.now a.args.limits.now v h.loop.c) (back a.ranges.s) (back a.ranges.t) ∙ ap (λ k. a.args.s +ℤ start_at a.args.starts.now a.args.offsets.now a.args.strides.now a.args.limits.now a.args.t k) (omega arith),
-      h.loop.invariant.3 ∙ ap (λ v. start_moved a.args.starts.now a.args.offsets.now a.args.limits.now v h.loop.c) (back a.ranges.t) ∙ ap (λ k. start_moved a.args.starts.now a.args.offsets.now a.args.limits.now a.args.t k) (omega arith),
+    let h = c in
+    let a = h in (
+      h.loop-c.invariant.2 ∙ ap₂ (λ u v. u +ℤ start_at a.args.starts.now a.args.offsets.now a.args.strides.now a.args.limits.now v h.loop-c.c) (back a.ranges.s) (back a.ranges.t) ∙ ap (λ k. a.args.s +ℤ start_at a.args.starts.now a.args.offsets.now a.args.strides.now a.args.limits.now a.args.t k) (omega arith),
+      h.loop-c.invariant.3 ∙ ap (λ v. start_moved a.args.starts.now a.args.offsets.now a.args.limits.now v h.loop-c.c) (back a.ranges.t) ∙ ap (λ k. start_moved a.args.starts.now a.args.offsets.now a.args.limits.now a.args.t k) (omega arith),
     )
 
-pub started-spec : {M : Type 1} → statement M
-started-spec =
+pub started_spec : {M : Type 1} → statement M
+started_spec =
     tie.close
     (tie.spec
     invariant-loop

@@ -20,41 +20,41 @@ use Rattle.indexed_runs.proofs.Counts.{one_below, many-turn, few-count}
 use Rattle.indexed_runs.proofs.take_few.Statement.{statement}
 use Rattle.indexed_runs.proofs.take_few.Tie as tie
 
-abbrev invariant-loop : tie.invariant-loop
+abbrev invariant-loop : tie.invariant-loop-i
 invariant-loop counts src starts dst₀ limit from to slid₀ i₀ dst slid i = (from ≤ i) × (i ≤ to) × (length dst ≡ length dst₀) × (dst ≡ in_order (λ k. cell_at (pos 0) (rule_i32 R.Replace) src (one_at starts (to_z w64 limit)) pos (k + from)) (i - from) dst₀) × (slid ≡ how_many (i - from) (λ k. counts && moves_at starts pos (nat_abs (to_z w64 limit)) (k + from)))
 
-abbrev decreases-loop : tie.decreases-loop
+abbrev decreases-loop : tie.decreases-loop-i
 decreases-loop counts src starts dst₀ limit from to slid₀ i₀ dst slid i = to - i
 
-loop-holds : tie.Need-loop-init invariant-loop decreases-loop
+loop-holds : tie.Need-loop-i-init invariant-loop decreases-loop
 loop-holds c =
     let a : tie.Start invariant-loop decreases-loop = search in
     (omega arith, omega (arith, a.pre.0), refl, none _ (a.args.from - a.args.from) a.args.dst.now (omega arith), many-none (a.args.from - a.args.from) _ (omega arith))
 
-take-one-requires : tie.Need-take-one-requires invariant-loop decreases-loop
+take-one-requires : tie.Need-take_one-one-requires invariant-loop decreases-loop
 take-one-requires c κs =
-    let h = c.before.before in
-    let a : tie.Start invariant-loop decreases-loop = search in (omega (arith, c.before.loop-test.true, a.pre.1, h.loop.invariant.2), ones-left _ _ _ _ _ _ a.fits.limit a.pre.2 h.loop.invariant.2 refl)
+    let h = c in
+    let a : tie.Start invariant-loop decreases-loop = search in (omega (arith, c.loop-i-test.true, a.pre.1, h.loop-i.invariant.2), ones-left _ _ _ _ _ _ a.fits.limit a.pre.2 h.loop-i.invariant.2 refl)
 
-add-slid : tie.Need-overflow-add-slid invariant-loop decreases-loop
+add-slid : tie.Need-overflow_add-slid invariant-loop decreases-loop
 add-slid c =
-    let p : tie.After-take-one invariant-loop decreases-loop = search in
-    let d : tie.In-loop invariant-loop decreases-loop = search in
-    let h : tie.At-loop invariant-loop decreases-loop = search in
+    let p : tie.After-take_one-one invariant-loop decreases-loop = search in
+    let d : tie.In-loop-i invariant-loop decreases-loop = search in
+    let h : tie.At-loop-i invariant-loop decreases-loop = search in
     let a : tie.Start invariant-loop decreases-loop = search in
     omega (arith, one_below (h.loop.i - a.args.from) _ _ _ (a.args.counts && moves_at a.args.starts.now pos (nat_abs (read a.args.limit)) h.loop.i) h.loop.inv.4 p.take-one.ensures.1, d.loop-test.taken)
 
-add-i : tie.Need-overflow-add-i invariant-loop decreases-loop
-add-i c = let d : tie.In-loop invariant-loop decreases-loop = search in omega (arith, d.loop-test.taken)
+add-i : tie.Need-overflow_add-i invariant-loop decreases-loop
+add-i c = let d : tie.In-loop-i invariant-loop decreases-loop = search in omega (arith, d.loop-test.taken)
 
-loop-less : tie.Need-loop-smaller invariant-loop decreases-loop
-loop-less c = let d : tie.In-loop invariant-loop decreases-loop = search in omega (arith, d.loop-test.taken)
+loop-less : tie.Need-loop-i-smaller invariant-loop decreases-loop
+loop-less c = let d : tie.In-loop-i invariant-loop decreases-loop = search in omega (arith, d.loop-test.taken)
 
-loop-again : tie.Need-loop-preserved invariant-loop decreases-loop
+loop-again : tie.Need-loop-i-preserved invariant-loop decreases-loop
 loop-again c =
-    let p : tie.After-take-one invariant-loop decreases-loop = search in
-    let d : tie.In-loop invariant-loop decreases-loop = search in
-    let h : tie.At-loop invariant-loop decreases-loop = search in
+    let p : tie.After-take_one-one invariant-loop decreases-loop = search in
+    let d : tie.In-loop-i invariant-loop decreases-loop = search in
+    let h : tie.At-loop-i invariant-loop decreases-loop = search in
     let a : tie.Start invariant-loop decreases-loop = search in (
       omega (arith, h.loop.inv.0),
       omega (arith, d.loop-test.taken),
@@ -63,17 +63,17 @@ loop-again c =
       many-turn a.args.from h.loop.i (λ k. a.args.counts && moves_at a.args.starts.now pos (nat_abs (read a.args.limit)) k) _ _ h.loop.inv.0 h.loop.inv.4 p.take-one.ensures.1,
     )
 
-same_length : tie.Need-same-length invariant-loop decreases-loop
-same_length c = c.before.loop.invariant.2
+same_length : tie.Need-shape_of-dst invariant-loop decreases-loop
+same_length c = c.loop-i.invariant.2
 
 returns : tie.Need-returns invariant-loop decreases-loop
 returns c =
-    let h = c.before in
+    let h = c in
     let a : tie.Start invariant-loop decreases-loop = search in
-    (take-few-end (pos 0) (rule_i32 R.Replace) a.args.src.now a.args.starts.now a.args.limit a.args.from h.loop.i a.args.to a.args.dst.now h.loop.dst a.fits.limit (omega (arith, h.loop.invariant.1, c.loop-test.false)) h.loop.invariant.3, few-count a.args.counts a.args.starts.now a.args.limit a.args.from h.loop.i a.args.to h.loop.slid a.fits.limit (omega (arith, h.loop.invariant.1, c.loop-test.false)) h.loop.invariant.4)
+    (take-few-end (pos 0) (rule_i32 R.Replace) a.args.src.now a.args.starts.now a.args.limit a.args.from h.loop-i.i a.args.to a.args.dst.now h.loop-i.dst a.fits.limit (omega (arith, h.loop-i.invariant.1, c.loop-i-test.false)) h.loop-i.invariant.3, few-count a.args.counts a.args.starts.now a.args.limit a.args.from h.loop-i.i a.args.to h.loop-i.slid a.fits.limit (omega (arith, h.loop-i.invariant.1, c.loop-i-test.false)) h.loop-i.invariant.4)
 
-pub take-few-spec : {M : Type 1} → statement M
-take-few-spec =
+pub take_few_spec : {M : Type 1} → statement M
+take_few_spec =
     tie.close
     (tie.spec
     invariant-loop

@@ -10,35 +10,35 @@ use Rattle.indexed_runs.proofs.Counts.{so-counted, moves-end}
 use Rattle.indexed_runs.proofs.take_strided.Statement.{statement}
 use Rattle.indexed_runs.proofs.take_strided.Tie as tie
 
-take-strided-by-requires : tie.Need-take-strided-by-requires
+take-strided-by-requires : tie.Need-take_strided_by-requires
 take-strided-by-requires c κs =
     let a : tie.Start = search in
     strided-asks _ _ _ _ _ _ _ _ _ _ _ a.fits.t a.fits.ts a.fits.base a.fits.stride a.fits.d a.fits.ds a.pre
 
-same_length : tie.Need-same-length
+same_length : tie.Need-shape_of-dst-then-counts
 same_length c = search rules
 
-returns : tie.Need-returns
+returns : tie.Need-returns-then-counts
 returns c =
-    let o : tie.After-take-strided-by = search in
-    let t : tie.Then1 = search in
+    let o : tie.After-take_strided_by = search in
+    let t : tie.Then-counts = search in
     let a : tie.Start = search in
     (take-end (pos 0) (rule_i32 R.Replace) a.args.src.now a.args.starts.now a.args.t a.args.ts a.args.base a.args.stride a.args.d a.args.ds a.args.limit a.args.n a.args.n a.args.dst.now _ a.fits.t a.fits.ts a.fits.base a.fits.stride a.fits.d a.fits.ds refl o.take-strided-by.ensures.0, so-counted a.args.counts true _ _ _ t.if1.taken (moves-end a.args.starts.now a.args.t a.args.ts a.args.n a.args.n _ a.fits.t a.fits.ts refl a.args.limit refl) o.take-strided-by.ensures.1)
 
-take-strided-by-requires-2 : tie.Need-take-strided-by-requires-2
+take-strided-by-requires-2 : tie.Need-take_strided_by-requires-2
 take-strided-by-requires-2 c κs =
     let a : tie.Start = search in
     strided-asks _ _ _ _ _ _ _ _ _ _ _ a.fits.t a.fits.ts a.fits.base a.fits.stride a.fits.d a.fits.ds a.pre
 
-same-length-2 : tie.Need-same-length-2
+same-length-2 : tie.Need-shape_of-dst
 same-length-2 c = search rules
 
-returns-2 : tie.Need-returns-2
+returns-2 : tie.Need-returns
 returns-2 c =
-    let o : tie.After-take-strided-by2 = search in
-    let f : tie.Else1 = search in
+    let o : tie.After-take_strided_by-2 = search in
+    let f : tie.Else-counts = search in
     let a : tie.Start = search in
     (take-end (pos 0) (rule_i32 R.Replace) a.args.src.now a.args.starts.now a.args.t a.args.ts a.args.base a.args.stride a.args.d a.args.ds a.args.limit a.args.n a.args.n a.args.dst.now _ a.fits.t a.fits.ts a.fits.base a.fits.stride a.fits.d a.fits.ds refl o.take-strided-by2.ensures.0, so-counted a.args.counts false _ _ _ f.if1.left (moves-end a.args.starts.now a.args.t a.args.ts a.args.n a.args.n _ a.fits.t a.fits.ts refl a.args.limit refl) o.take-strided-by2.ensures.1)
 
-pub take-strided-spec : {M : Type 1} → statement M
-take-strided-spec = tie.close (tie.spec take-strided-by-requires same_length returns take-strided-by-requires-2 same-length-2 returns-2)
+pub take_strided_spec : {M : Type 1} → statement M
+take_strided_spec = tie.close (tie.spec take-strided-by-requires same_length returns take-strided-by-requires-2 same-length-2 returns-2)

@@ -22,22 +22,22 @@ use Rattle.indexed_runs.proofs.Counts.{one_below, one-counts, all-or-none, moves
 use Rattle.indexed_runs.proofs.take_strided_by.Statement.{statement}
 use Rattle.indexed_runs.proofs.take_strided_by.Tie as tie
 
-abbrev invariant-loop : tie.invariant-loop
+abbrev invariant-loop : tie.invariant-loop-i
 invariant-loop counts src starts dst₀ n t ts base stride limit d ds slid₀ i₀ dst slid i = (i ≤ n) × (length dst ≡ length dst₀) × (dst ≡ in_order (cell_at (pos 0) (rule_i32 R.Replace) src (clamped_at starts (line (to_z w64 t) (to_z w64 ts)) (to_z w64 base) (to_z w64 stride) limit) (line (to_z w64 d) (to_z w64 ds))) i dst₀) × (slid ≡ how_many i (λ k. counts && moves_at starts (line (to_z w64 t) (to_z w64 ts)) limit k))
 
-abbrev decreases-loop : tie.decreases-loop
+abbrev decreases-loop : tie.decreases-loop-i
 decreases-loop counts src starts dst₀ n t ts base stride limit d ds slid₀ i₀ dst slid i = n - i
 
-abbrev start : tie.In-loop invariant-loop decreases-loop → tie.Start invariant-loop decreases-loop
+abbrev start : tie.In-loop-i invariant-loop decreases-loop → tie.Start invariant-loop decreases-loop
 start d = search
 
-starts-at : (d : tie.In-loop invariant-loop decreases-loop) → Step (start d).args.t (start d).args.ts d.before.loop.i (length (start d).args.starts.now)
-starts-at d = let a = start d in start-step _ _ _ _ _ _ _ _ _ _ _ a.pre a.fits.t a.fits.ts (omega (arith, a.good.1.1.0.1)) _ d.loop-test.true
+starts-at : (d : tie.In-loop-i invariant-loop decreases-loop) → Step (start d).args.t (start d).args.ts d.loop-i.i (length (start d).args.starts.now)
+starts-at d = let a = start d in start-step _ _ _ _ _ _ _ _ _ _ _ a.pre a.fits.t a.fits.ts (omega (arith, a.good.1.1.0.1)) _ d.loop-i-test.true
 
-plain_at : (d : tie.In-loop invariant-loop decreases-loop) → Step (start d).args.d (start d).args.ds d.before.loop.i (length (start d).args.dst.now)
-plain_at d = let a = start d in plain_step _ _ _ _ _ _ _ _ _ _ _ a.pre a.fits.d a.fits.ds (omega (arith, a.good.1.1.1.0.1)) _ d.loop-test.true
+plain_at : (d : tie.In-loop-i invariant-loop decreases-loop) → Step (start d).args.d (start d).args.ds d.loop-i.i (length (start d).args.dst.now)
+plain_at d = let a = start d in plain_step _ _ _ _ _ _ _ _ _ _ _ a.pre a.fits.d a.fits.ds (omega (arith, a.good.1.1.1.0.1)) _ d.loop-i-test.true
 
-module _ (c : tie.After-clamp-window-start invariant-loop decreases-loop) where
+module _ (c : tie.After-clamp_window_start-y invariant-loop decreases-loop) where
   clamped-at : Step (start c.before.before).args.base (start c.before.before).args.stride c.clamp-window-start.result.start (length (start c.before.before).args.src.now)
   clamped-at = let a = start c.before.before in clamped-step _ _ _ _ _ _ _ _ _ _ _ a.pre a.fits.t a.fits.ts a.fits.base a.fits.stride (omega (arith, a.good.1.0.1)) _ c.before.before.loop-test.true (starts-at c.before.before) (sfits_of c.before.x.given) _ c.clamp-window-start.ensures.0
 
@@ -46,143 +46,143 @@ module _ (c : tie.After-clamp-window-start invariant-loop decreases-loop) where
       ≡ clamped_at (start c.before.before).args.starts.now (line (read (start c.before.before).args.t) (read (start c.before.before).args.ts)) (read (start c.before.before).args.base) (read (start c.before.before).args.stride) (start c.before.before).args.limit c.before.before.before.loop.i
   by-start = let a = start c.before.before in clamped-is a.args.starts.now a.args.t a.args.ts a.args.base a.args.stride a.args.limit _ _ _ _ (starts-at c.before.before) (sfits_of c.before.x.given) clamped-at c.clamp-window-start.ensures.0
 
-loop-holds : tie.Need-loop-init invariant-loop decreases-loop
+loop-holds : tie.Need-loop-i-init invariant-loop decreases-loop
 loop-holds c =
     let a : tie.Start invariant-loop decreases-loop = search in
     (omega arith, refl, none _ 0 a.args.dst.now refl, many-none 0 _ refl)
 
-cast-k : tie.Need-overflow-cast-k invariant-loop decreases-loop
+cast-k : tie.Need-overflow_cast-k invariant-loop decreases-loop
 cast-k c =
-    let d : tie.In-loop invariant-loop decreases-loop = search in
+    let d : tie.In-loop-i invariant-loop decreases-loop = search in
     (starts-at d).count
 
-mul-p : tie.Need-overflow-mul-p invariant-loop decreases-loop
+mul-p : tie.Need-overflow_mul-p invariant-loop decreases-loop
 mul-p c =
-    let d : tie.In-loop invariant-loop decreases-loop = search in
+    let d : tie.In-loop-i invariant-loop decreases-loop = search in
     (starts-at d).multiple
 
-add-p : tie.Need-overflow-add-p invariant-loop decreases-loop
+add-p : tie.Need-overflow_add-p invariant-loop decreases-loop
 add-p c =
-    let d : tie.In-loop invariant-loop decreases-loop = search in
+    let d : tie.In-loop-i invariant-loop decreases-loop = search in
     (starts-at d).fits
 
-cast-p : tie.Need-overflow-cast-p invariant-loop decreases-loop
+cast-p : tie.Need-overflow_cast-p invariant-loop decreases-loop
 cast-p c =
-    let d : tie.In-loop invariant-loop decreases-loop = search in
+    let d : tie.In-loop-i invariant-loop decreases-loop = search in
     (starts-at d).cast
 
-mul-x : tie.Need-overflow-mul-x invariant-loop decreases-loop
+mul-x : tie.Need-offset_bounds-starts-p invariant-loop decreases-loop
 mul-x c =
-    let d : tie.In-loop invariant-loop decreases-loop = search in
+    let d : tie.In-loop-i invariant-loop decreases-loop = search in
     omega (arith, (starts-at d).below, (start d).good.1.1.0.1)
 
-shared-slice-copy-out-x : tie.Need-shared-slice-copy-out-x invariant-loop decreases-loop
+shared-slice-copy-out-x : tie.Need-bounds-starts-p invariant-loop decreases-loop
 shared-slice-copy-out-x c =
-    let d : tie.In-loop invariant-loop decreases-loop = search in
+    let d : tie.In-loop-i invariant-loop decreases-loop = search in
     (starts-at d).below
 
-clamp-window-start-requires : tie.Need-clamp-window-start-requires invariant-loop decreases-loop
+clamp-window-start-requires : tie.Need-clamp_window_start-y-requires invariant-loop decreases-loop
 clamp-window-start-requires c κs = tt
 
-cast-c : tie.Need-overflow-cast-c invariant-loop decreases-loop
+cast-c : tie.Need-overflow_cast-c invariant-loop decreases-loop
 cast-c c =
-    let k : tie.After-clamp-window-start invariant-loop decreases-loop = search in
+    let k : tie.After-clamp_window_start-y invariant-loop decreases-loop = search in
     (clamped-at k).count
 
-mul-a : tie.Need-overflow-mul-a invariant-loop decreases-loop
+mul-a : tie.Need-overflow_mul-a invariant-loop decreases-loop
 mul-a c =
-    let k : tie.After-clamp-window-start invariant-loop decreases-loop = search in
+    let k : tie.After-clamp_window_start-y invariant-loop decreases-loop = search in
     (clamped-at k).multiple
 
-add_a : tie.Need-overflow-add-a invariant-loop decreases-loop
+add_a : tie.Need-overflow_add-a invariant-loop decreases-loop
 add_a c =
-    let k : tie.After-clamp-window-start invariant-loop decreases-loop = search in
+    let k : tie.After-clamp_window_start-y invariant-loop decreases-loop = search in
     (clamped-at k).fits
 
-cast-a : tie.Need-overflow-cast-a invariant-loop decreases-loop
+cast-a : tie.Need-overflow_cast-a invariant-loop decreases-loop
 cast-a c =
-    let k : tie.After-clamp-window-start invariant-loop decreases-loop = search in
+    let k : tie.After-clamp_window_start-y invariant-loop decreases-loop = search in
     (clamped-at k).cast
 
-mul-b : tie.Need-overflow-mul-b invariant-loop decreases-loop
+mul-b : tie.Need-overflow_mul-b invariant-loop decreases-loop
 mul-b c =
-    let d : tie.In-loop invariant-loop decreases-loop = search in
+    let d : tie.In-loop-i invariant-loop decreases-loop = search in
     (plain_at d).multiple
 
-add-b : tie.Need-overflow-add-b invariant-loop decreases-loop
+add-b : tie.Need-overflow_add-b invariant-loop decreases-loop
 add-b c =
-    let d : tie.In-loop invariant-loop decreases-loop = search in
+    let d : tie.In-loop-i invariant-loop decreases-loop = search in
     (plain_at d).fits
 
-cast-b : tie.Need-overflow-cast-b invariant-loop decreases-loop
+cast-b : tie.Need-overflow_cast-b invariant-loop decreases-loop
 cast-b c =
-    let d : tie.In-loop invariant-loop decreases-loop = search in
+    let d : tie.In-loop-i invariant-loop decreases-loop = search in
     (plain_at d).cast
 
-mul-dst : tie.Need-overflow-mul-dst invariant-loop decreases-loop
+mul-dst : tie.Need-offset_bounds-src-a invariant-loop decreases-loop
 mul-dst c =
-    let d : tie.In-loop invariant-loop decreases-loop = search in
-    let k : tie.After-clamp-window-start invariant-loop decreases-loop = search in
+    let d : tie.In-loop-i invariant-loop decreases-loop = search in
+    let k : tie.After-clamp_window_start-y invariant-loop decreases-loop = search in
     omega (arith, (clamped-at k).below, (start d).good.1.0.1)
 
-shared-slice-copy-out-dst : tie.Need-shared-slice-copy-out-dst invariant-loop decreases-loop
+shared-slice-copy-out-dst : tie.Need-bounds-src-a invariant-loop decreases-loop
 shared-slice-copy-out-dst c =
-    let l : tie.After-clamp-window-start invariant-loop decreases-loop = search in
+    let l : tie.After-clamp_window_start-y invariant-loop decreases-loop = search in
     (clamped-at l).below
 
-mul-t32 : tie.Need-overflow-mul-t32 invariant-loop decreases-loop
+mul-t32 : tie.Need-offset_bounds-dst-b invariant-loop decreases-loop
 mul-t32 c =
-    let d : tie.In-loop invariant-loop decreases-loop = search in
+    let d : tie.In-loop-i invariant-loop decreases-loop = search in
     omega (arith, (plain_at d).below, (start d).good.1.1.1.0.1)
 
-slice-set-from-dst : tie.Need-slice-set-from-dst invariant-loop decreases-loop
+slice-set-from-dst : tie.Need-bounds-dst-b invariant-loop decreases-loop
 slice-set-from-dst c =
-    let d : tie.In-loop invariant-loop decreases-loop = search in
-    let h : tie.At-loop invariant-loop decreases-loop = search in
+    let d : tie.In-loop-i invariant-loop decreases-loop = search in
+    let h : tie.At-loop-i invariant-loop decreases-loop = search in
     omega (arith, (plain_at d).below, h.loop.inv.1)
 
-add-slid : tie.Need-overflow-add-slid invariant-loop decreases-loop
+add-slid : tie.Need-overflow_add-slid invariant-loop decreases-loop
 add-slid c =
-    let q : tie.After-clamp-window-start invariant-loop decreases-loop = search in
-    let h : tie.At-loop invariant-loop decreases-loop = search in
+    let q : tie.After-clamp_window_start-y invariant-loop decreases-loop = search in
+    let h : tie.At-loop-i invariant-loop decreases-loop = search in
     let a = start q.before.before in
-    omega (arith, one_below h.loop.i _ _ _ (a.args.counts && q.clamp-window-start.result.moved) h.loop.inv.3 (one-counts a.args.counts _ _ _ c.before.count-if.ensures c.count-if2.ensures))
+    omega (arith, one_below h.loop.i _ _ _ (a.args.counts && q.clamp-window-start.result.moved) h.loop.inv.3 (one-counts a.args.counts _ _ _ c.count_if-one.ensures c.count_if-more.ensures))
 
-add-i : tie.Need-overflow-add-i invariant-loop decreases-loop
+add-i : tie.Need-overflow_add-i invariant-loop decreases-loop
 add-i c = omega arith
 
-loop-less : tie.Need-loop-smaller invariant-loop decreases-loop
+loop-less : tie.Need-loop-i-smaller invariant-loop decreases-loop
 loop-less c = omega arith
 
-loop-again : tie.Need-loop-preserved invariant-loop decreases-loop
+loop-again : tie.Need-loop-i-preserved invariant-loop decreases-loop
 loop-again c =
-    let q : tie.After-clamp-window-start invariant-loop decreases-loop = search in
+    let q : tie.After-clamp_window_start-y invariant-loop decreases-loop = search in
     let d = q.before.before in
     let h = d.before in
     let a = start d in (
       omega arith,
       length-set h.loop.dst _ _ ∙ h.loop.inv.1,
-      cell-more (pos 0) (rule_i32 R.Replace) a.args.src.now (clamped_at a.args.starts.now (line (read a.args.t) (read a.args.ts)) (read a.args.base) (read a.args.stride) a.args.limit) (line (read a.args.d) (read a.args.ds)) a.args.dst.now h.loop.dst h.loop.i (nat_abs (machine a.args.base a.args.stride q.clamp-window-start.result.start)) (nat_abs (machine a.args.d a.args.ds h.loop.i)) _ h.loop.inv.2 (by-start q) (plain_at d).index_is (back (sfits_of c.before.before.dst.given)),
+      cell-more (pos 0) (rule_i32 R.Replace) a.args.src.now (clamped_at a.args.starts.now (line (read a.args.t) (read a.args.ts)) (read a.args.base) (read a.args.stride) a.args.limit) (line (read a.args.d) (read a.args.ds)) a.args.dst.now h.loop.dst h.loop.i (nat_abs (machine a.args.base a.args.stride q.clamp-window-start.result.start)) (nat_abs (machine a.args.d a.args.ds h.loop.i)) _ h.loop.inv.2 (by-start q) (plain_at d).index_is (back (sfits_of c.dst-1.given)),
       many_more h.loop.i (λ k. a.args.counts && moves_at a.args.starts.now (line (read a.args.t) (read a.args.ts)) a.args.limit k) _ _ (a.args.counts && q.clamp-window-start.result.moved) h.loop.inv.3
-          (one-counts a.args.counts _ _ _ c.before.count-if.ensures c.count-if2.ensures)
+          (one-counts a.args.counts _ _ _ c.count_if-one.ensures c.count_if-more.ensures)
           (ap (λ (b : Bool). a.args.counts && b) (moves-is a.args.starts.now _ _ a.args.limit _ _ (starts-at d) (sfits_of q.before.x.given) _ q.clamp-window-start.ensures.1)),
     )
 
-same_length : tie.Need-same-length invariant-loop decreases-loop
-same_length c = c.before.loop.invariant.1
+same_length : tie.Need-shape_of-dst invariant-loop decreases-loop
+same_length c = c.loop-i.invariant.1
 
 returns : tie.Need-returns invariant-loop decreases-loop
 returns c =
-    let h = c.before in
+    let h = c in
     let a : tie.Start invariant-loop decreases-loop = search in (
-      take-end (pos 0) (rule_i32 R.Replace) a.args.src.now a.args.starts.now a.args.t a.args.ts a.args.base a.args.stride a.args.d a.args.ds a.args.limit h.loop.i a.args.n a.args.dst.now h.loop.dst a.fits.t a.fits.ts a.fits.base a.fits.stride a.fits.d a.fits.ds (omega arith) h.loop.invariant.2,
-      h.loop.invariant.3
-          ∙ all-or-none a.args.counts h.loop.i (moves_at a.args.starts.now (line (read a.args.t) (read a.args.ts)) a.args.limit)
-          ∙ ap (λ (m : ℕ). cond a.args.counts m 0) (moves-end a.args.starts.now a.args.t a.args.ts h.loop.i a.args.n _ a.fits.t a.fits.ts (omega arith) a.args.limit refl),
+      take-end (pos 0) (rule_i32 R.Replace) a.args.src.now a.args.starts.now a.args.t a.args.ts a.args.base a.args.stride a.args.d a.args.ds a.args.limit h.loop-i.i a.args.n a.args.dst.now h.loop-i.dst a.fits.t a.fits.ts a.fits.base a.fits.stride a.fits.d a.fits.ds (omega arith) h.loop-i.invariant.2,
+      h.loop-i.invariant.3
+          ∙ all-or-none a.args.counts h.loop-i.i (moves_at a.args.starts.now (line (read a.args.t) (read a.args.ts)) a.args.limit)
+          ∙ ap (λ (m : ℕ). cond a.args.counts m 0) (moves-end a.args.starts.now a.args.t a.args.ts h.loop-i.i a.args.n _ a.fits.t a.fits.ts (omega arith) a.args.limit refl),
     )
 
-pub take-strided-by-spec : {M : Type 1} → statement M
-take-strided-by-spec =
+pub take_strided_by_spec : {M : Type 1} → statement M
+take_strided_by_spec =
     tie.close
     (tie.spec
     invariant-loop

@@ -22,15 +22,15 @@ use Rattle.indexed_runs.proofs.Counts.{few-below, all-or-none, many-first, ones-
 use Rattle.indexed_runs.proofs.take_turns.Statement.{statement}
 use Rattle.indexed_runs.proofs.take_turns.Tie as tie
 
-abbrev invariant-loop : tie.invariant-loop
+abbrev invariant-loop : tie.invariant-loop-left
 invariant-loop counts src starts dst₀ limit over turns width slid₀ i₀ left₀ dst slid i left =
     (i + width * left ≡ length starts) × (length dst ≡ length dst₀) × ((x : List ℤ) → dst₀ ≡ in_order (cell_at (pos 0) (rule_i32 R.Replace) src (one_at starts (to_z w64 limit)) pos) i₀ x → dst ≡ in_order (cell_at (pos 0) (rule_i32 R.Replace) src (one_at starts (to_z w64 limit)) pos) i x)
     × (slid ≡ how_many i (λ k. counts && moves_at starts pos (nat_abs (to_z w64 limit)) k))
 
-abbrev decreases-loop : tie.decreases-loop
+abbrev decreases-loop : tie.decreases-loop-left
 decreases-loop counts src starts dst₀ limit over turns width slid₀ i₀ left₀ dst slid i left = left
 
-module _ (d : tie.In-loop invariant-loop decreases-loop) where
+module _ (d : tie.In-loop-left invariant-loop decreases-loop) where
   abbrev start : tie.Start invariant-loop decreases-loop
   start = search
 
@@ -41,51 +41,51 @@ module _ (d : tie.In-loop invariant-loop decreases-loop) where
   fits : d.before.loop.i + start.args.width ≤ length start.args.starts.now
   fits = omega (arith, turn)
 
-returns : tie.Need-returns invariant-loop decreases-loop
+returns : tie.Need-returns-then-limit-lt0 invariant-loop decreases-loop
 returns c =
     let a : tie.Start invariant-loop decreases-loop = search in
-    absurd (omega (arith, zfacts, a.pre.1.low, known a.fits.limit, only a.args.limit, c.if1.true))
+    absurd (omega (arith, zfacts, a.pre.1.low, known a.fits.limit, only a.args.limit, c.if-limit-lt0.true))
 
-take-few-requires : tie.Need-take-few-requires invariant-loop decreases-loop
+take-few-requires : tie.Need-take_few-slid-requires invariant-loop decreases-loop
 take-few-requires c κs =
     let a : tie.Start invariant-loop decreases-loop = search in
     (omega arith, omega (arith, a.pre.0), ones-left _ _ _ _ _ _ a.fits.limit a.pre.1 refl refl)
 
-loop-holds : tie.Need-loop-init invariant-loop decreases-loop
+loop-holds : tie.Need-loop-left-init invariant-loop decreases-loop
 loop-holds c =
-    let f : tie.After-take-few invariant-loop decreases-loop = search in
+    let f : tie.After-take_few-slid invariant-loop decreases-loop = search in
     let a : tie.Start invariant-loop decreases-loop = search in
     (a.pre.0 ∙ sym a.pre.1.each, refl, (λ x e. e), many-first a.args.over (λ k. a.args.counts && moves_at a.args.starts.now pos (nat_abs (read a.args.limit)) k) _ f.take-few.ensures.1)
 
-add-e : tie.Need-overflow-add-e invariant-loop decreases-loop
+add-e : tie.Need-overflow_add-e invariant-loop decreases-loop
 add-e c = omega (arith, fits c, (start c).well-formed.1.1.0.1)
 
-take-few-requires-2 : tie.Need-take-few-requires-2 invariant-loop decreases-loop
+take-few-requires-2 : tie.Need-take_few-few-requires invariant-loop decreases-loop
 take-few-requires-2 c κs =
-    let d : tie.In-loop invariant-loop decreases-loop = search in
-    let h : tie.At-loop invariant-loop decreases-loop = search in
-    let f : tie.After-take-few invariant-loop decreases-loop = search in
+    let d : tie.In-loop-left invariant-loop decreases-loop = search in
+    let h : tie.At-loop-left invariant-loop decreases-loop = search in
+    let f : tie.After-take_few-slid invariant-loop decreases-loop = search in
     let k = h.loop.inv.1 ∙ f.take-few.kept.1.1.1.0 in
     (omega arith, omega (arith, fits d, (start d).pre.1.each, k), ones-left _ _ _ _ _ _ (start d).fits.limit (start d).pre.1 k refl)
 
-add-slid : tie.Need-overflow-add-slid invariant-loop decreases-loop
+add-slid : tie.Need-overflow_add-slid invariant-loop decreases-loop
 add-slid c =
-    let p : tie.After-take-few2 invariant-loop decreases-loop = search in
-    let d : tie.In-loop invariant-loop decreases-loop = search in
-    let h : tie.At-loop invariant-loop decreases-loop = search in
+    let p : tie.After-take_few-few invariant-loop decreases-loop = search in
+    let d : tie.In-loop-left invariant-loop decreases-loop = search in
+    let h : tie.At-loop-left invariant-loop decreases-loop = search in
     omega (arith, few-below h.loop.i (h.loop.i + (start d).args.width) _ _ _ _ (omega arith) h.loop.inv.3 p.take-few2.ensures.1, fits d, (start d).good.1.1.0.1)
 
-sub-left : tie.Need-overflow-sub-left invariant-loop decreases-loop
-sub-left c = let d : tie.In-loop invariant-loop decreases-loop = search in omega (arith, d.loop-test.taken)
+sub-left : tie.Need-overflow_sub-left invariant-loop decreases-loop
+sub-left c = let d : tie.In-loop-left invariant-loop decreases-loop = search in omega (arith, d.loop-test.taken)
 
-loop-less : tie.Need-loop-smaller invariant-loop decreases-loop
-loop-less c = let d : tie.In-loop invariant-loop decreases-loop = search in omega (arith, d.loop-test.taken)
+loop-less : tie.Need-loop-left-smaller invariant-loop decreases-loop
+loop-less c = let d : tie.In-loop-left invariant-loop decreases-loop = search in omega (arith, d.loop-test.taken)
 
-loop-again : tie.Need-loop-preserved invariant-loop decreases-loop
+loop-again : tie.Need-loop-left-preserved invariant-loop decreases-loop
 loop-again c =
-    let p : tie.After-take-few2 invariant-loop decreases-loop = search in
-    let d : tie.In-loop invariant-loop decreases-loop = search in
-    let h : tie.At-loop invariant-loop decreases-loop = search in
+    let p : tie.After-take_few-few invariant-loop decreases-loop = search in
+    let d : tie.In-loop-left invariant-loop decreases-loop = search in
+    let h : tie.At-loop-left invariant-loop decreases-loop = search in
     let a = start d in (
       turn d,
       p.take-few2.kept.1.1.1.0 ∙ h.loop.inv.1,
@@ -93,25 +93,25 @@ loop-again c =
       many-on h.loop.i (h.loop.i + a.args.width) (λ k. a.args.counts && moves_at a.args.starts.now pos (nat_abs (read a.args.limit)) k) _ _ (omega arith) h.loop.inv.3 p.take-few2.ensures.1,
     )
 
-same_length : tie.Need-same-length invariant-loop decreases-loop
+same_length : tie.Need-shape_of-dst invariant-loop decreases-loop
 same_length c =
-    let f : tie.After-take-few invariant-loop decreases-loop = search in
-    c.before.loop.invariant.1 ∙ f.take-few.kept.1.1.1.0
+    let f : tie.After-take_few-slid invariant-loop decreases-loop = search in
+    c.loop-left.invariant.1 ∙ f.take-few.kept.1.1.1.0
 
-returns-2 : tie.Need-returns-2 invariant-loop decreases-loop
+returns-2 : tie.Need-returns invariant-loop decreases-loop
 returns-2 c =
-    let f : tie.After-take-few invariant-loop decreases-loop = search in
-    let h = c.before in
+    let f : tie.After-take_few-slid invariant-loop decreases-loop = search in
+    let h = c in
     let a : tie.Start invariant-loop decreases-loop = search in (
-      take-ones-end (pos 0) (rule_i32 R.Replace) a.args.src.now a.args.starts.now a.args.limit h.loop.i _ a.args.dst.now h.loop.dst a.fits.limit (none_left h.loop.i a.args.width h.loop.left _ (h.loop.invariant.0 ∙ a.pre.1.each) (omega (arith, c.loop-test.false)))
-          (h.loop.invariant.2 a.args.dst.now (turns-on (cell_at (pos 0) (rule_i32 R.Replace) a.args.src.now (one_at a.args.starts.now (read a.args.limit)) pos) 0 _ a.args.dst.now a.args.dst.now _ (omega arith) (none _ 0 a.args.dst.now refl) f.take-few.ensures.0)),
-      h.loop.invariant.3
-          ∙ all-or-none a.args.counts h.loop.i (moves_at a.args.starts.now pos (nat_abs (read a.args.limit)))
-          ∙ ap (λ (m : ℕ). cond a.args.counts m 0) (ones-count a.args.starts.now a.args.limit h.loop.i _ _ a.fits.limit (none_left h.loop.i a.args.width h.loop.left _ (h.loop.invariant.0 ∙ a.pre.1.each) (omega (arith, c.loop-test.false))) refl),
+      take-ones-end (pos 0) (rule_i32 R.Replace) a.args.src.now a.args.starts.now a.args.limit h.loop-left.i _ a.args.dst.now h.loop-left.dst a.fits.limit (none_left h.loop-left.i a.args.width h.loop-left.left _ (h.loop-left.invariant.0 ∙ a.pre.1.each) (omega (arith, c.loop-left-test.false)))
+          (h.loop-left.invariant.2 a.args.dst.now (turns-on (cell_at (pos 0) (rule_i32 R.Replace) a.args.src.now (one_at a.args.starts.now (read a.args.limit)) pos) 0 _ a.args.dst.now a.args.dst.now _ (omega arith) (none _ 0 a.args.dst.now refl) f.take-few.ensures.0)),
+      h.loop-left.invariant.3
+          ∙ all-or-none a.args.counts h.loop-left.i (moves_at a.args.starts.now pos (nat_abs (read a.args.limit)))
+          ∙ ap (λ (m : ℕ). cond a.args.counts m 0) (ones-count a.args.starts.now a.args.limit h.loop-left.i _ _ a.fits.limit (none_left h.loop-left.i a.args.width h.loop-left.left _ (h.loop-left.invariant.0 ∙ a.pre.1.each) (omega (arith, c.loop-left-test.false))) refl),
     )
 
-pub take-turns-spec : {M : Type 1} → statement M
-take-turns-spec =
+pub take_turns_spec : {M : Type 1} → statement M
+take_turns_spec =
     tie.close
     (tie.spec
     invariant-loop

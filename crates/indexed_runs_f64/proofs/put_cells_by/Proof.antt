@@ -19,16 +19,16 @@ use Rattle.indexed_runs.proofs.Counts.{one_below, started-is, starts-end}
 use Rattle.indexed_runs_f64.proofs.put_cells_by.Statement.{statement}
 use Rattle.indexed_runs_f64.proofs.put_cells_by.Tie as tie
 
-abbrev invariant-loop : tie.invariant-loop
+abbrev invariant-loop : tie.invariant-loop-i
 invariant-loop rule src starts dst₀ n s t d ss ts count offsets strides limits slid₀ i₀ dst slid i =
     (i ≤ n) × (length dst ≡ length dst₀)
     × (dst ≡ in_order (cell_at nan (rule_f64 rule) src (line (to_z w64 s) (to_z w64 ss)) (moved_at starts offsets strides limits count (λ _. to_z w64 d) (line (to_z w64 t) (to_z w64 ts)))) i dst₀)
     × (slid ≡ starts_moved starts offsets limits count i (line (to_z w64 t) (to_z w64 ts)))
 
-abbrev decreases-loop : tie.decreases-loop
+abbrev decreases-loop : tie.decreases-loop-i
 decreases-loop rule src starts dst₀ n s t d ss ts count offsets strides limits slid₀ i₀ dst slid i = n - i
 
-abbrev start : tie.In-loop invariant-loop decreases-loop → tie.Start invariant-loop decreases-loop
+abbrev start : tie.In-loop-i invariant-loop decreases-loop → tie.Start invariant-loop decreases-loop
 start d = search
 
 module _ (a : tie.Start invariant-loop decreases-loop) where
@@ -38,117 +38,117 @@ module _ (a : tie.Start invariant-loop decreases-loop) where
   dst-room : length a.args.dst.now < 2 ^ 63
   dst-room = omega (arith, a.good.1.1.1.0.1)
 
-module _ (d : tie.In-loop invariant-loop decreases-loop) where
+module _ (d : tie.In-loop-i invariant-loop decreases-loop) where
   from : Step (start d).args.s (start d).args.ss d.before.loop.i (length (start d).args.src.now)
   from = let a = start d in source-step _ _ _ _ _ _ _ _ _ _ _ _ _ a.pre.1 _ d.loop-test.true a.fits.s a.fits.ss (src-room a)
 
   index : Step (start d).args.t (start d).args.ts d.before.loop.i (2 ^ 63 - 1)
   index = let a = start d in index-step _ _ _ _ _ _ _ _ _ _ _ _ _ a.pre.1 _ d.loop-test.taken a.fits.t a.fits.ts
 
-put-at : (c : tie.After-started invariant-loop decreases-loop) → Index c.started.result.at (length (start c.before).args.dst.now)
-put-at c = let a = start c.before in place-index _ _ _ _ _ _ _ _ _ _ _ _ _ a.pre.1 _ c.before.loop-test.true (index c.before) a.fits.d (dst-room a) _ c.started.ensures.0
+put-at : (c : tie.After-started-m invariant-loop decreases-loop) → Index c.started-m.result.at (length (start c.before).args.dst.now)
+put-at c = let a = start c.before in place-index _ _ _ _ _ _ _ _ _ _ _ _ _ a.pre.1 _ c.loop-i-test.true (index c.before) a.fits.d (dst-room a) _ c.started-m.ensures.0
 
-returns : tie.Need-returns invariant-loop decreases-loop
+returns : tie.Need-returns-then-count-eq0 invariant-loop decreases-loop
 returns c =
     let a : tie.Start invariant-loop decreases-loop = search in
-    absurd (omega (arith, a.pre.0, c.if1.true))
+    absurd (omega (arith, a.pre.0, c.if-count-eq0.true))
 
-loop-holds : tie.Need-loop-init invariant-loop decreases-loop
+loop-holds : tie.Need-loop-i-init invariant-loop decreases-loop
 loop-holds c =
     let a : tie.Start invariant-loop decreases-loop = search in
     (omega arith, refl, none _ 0 a.args.dst.now refl, many-none 0 _ refl)
 
-cast-k : tie.Need-overflow-cast-k invariant-loop decreases-loop
+cast-k : tie.Need-overflow_cast-k invariant-loop decreases-loop
 cast-k c =
-    let d : tie.In-loop invariant-loop decreases-loop = search in
+    let d : tie.In-loop-i invariant-loop decreases-loop = search in
     (from d).count
 
-mul-q : tie.Need-overflow-mul-q invariant-loop decreases-loop
+mul-q : tie.Need-overflow_mul-q invariant-loop decreases-loop
 mul-q c =
-    let d : tie.In-loop invariant-loop decreases-loop = search in
+    let d : tie.In-loop-i invariant-loop decreases-loop = search in
     (index d).multiple
 
-add-q : tie.Need-overflow-add-q invariant-loop decreases-loop
+add-q : tie.Need-overflow_add-q invariant-loop decreases-loop
 add-q c =
-    let d : tie.In-loop invariant-loop decreases-loop = search in
+    let d : tie.In-loop-i invariant-loop decreases-loop = search in
     (index d).fits
 
-started-requires : tie.Need-started-requires invariant-loop decreases-loop
+started-requires : tie.Need-started-m-requires invariant-loop decreases-loop
 started-requires c κs =
-    let d : tie.In-loop invariant-loop decreases-loop = search in
-    let a = start d in started-asks _ _ _ _ _ _ _ _ _ _ _ _ _ a.pre.1 _ c.loop-test.true (index d) a.fits.d (dst-room a)
+    let d : tie.In-loop-i invariant-loop decreases-loop = search in
+    let a = start d in started-asks _ _ _ _ _ _ _ _ _ _ _ _ _ a.pre.1 _ c.loop-i-test.true (index d) a.fits.d (dst-room a)
 
-cast-b : tie.Need-overflow-cast-b invariant-loop decreases-loop
+cast-b : tie.Need-overflow_cast-b invariant-loop decreases-loop
 cast-b c =
-    let s : tie.After-started invariant-loop decreases-loop = search in
+    let s : tie.After-started-m invariant-loop decreases-loop = search in
     (put-at s).cast
 
-mul-a : tie.Need-overflow-mul-a invariant-loop decreases-loop
+mul-a : tie.Need-overflow_mul-a invariant-loop decreases-loop
 mul-a c =
-    let d : tie.In-loop invariant-loop decreases-loop = search in
+    let d : tie.In-loop-i invariant-loop decreases-loop = search in
     (from d).multiple
 
-add_a : tie.Need-overflow-add-a invariant-loop decreases-loop
+add_a : tie.Need-overflow_add-a invariant-loop decreases-loop
 add_a c =
-    let d : tie.In-loop invariant-loop decreases-loop = search in
+    let d : tie.In-loop-i invariant-loop decreases-loop = search in
     (from d).fits
 
-cast-a : tie.Need-overflow-cast-a invariant-loop decreases-loop
+cast-a : tie.Need-overflow_cast-a invariant-loop decreases-loop
 cast-a c =
-    let d : tie.In-loop invariant-loop decreases-loop = search in
+    let d : tie.In-loop-i invariant-loop decreases-loop = search in
     (from d).cast
 
-mul-apply-f64 : tie.Need-overflow-mul-apply-f64 invariant-loop decreases-loop
+mul-apply-f64 : tie.Need-offset_bounds-dst-b invariant-loop decreases-loop
 mul-apply-f64 c =
-    let d : tie.In-loop invariant-loop decreases-loop = search in
-    let s : tie.After-started invariant-loop decreases-loop = search in
+    let d : tie.In-loop-i invariant-loop decreases-loop = search in
+    let s : tie.After-started-m invariant-loop decreases-loop = search in
     omega (arith, (put-at s).below, (start d).good.1.1.1.0.1)
 
-slice-read-apply-f64 : tie.Need-slice-read-apply-f64 invariant-loop decreases-loop
+slice-read-apply-f64 : tie.Need-bounds-dst-b invariant-loop decreases-loop
 slice-read-apply-f64 c =
-    let s : tie.After-started invariant-loop decreases-loop = search in
-    let h : tie.At-loop invariant-loop decreases-loop = search in
+    let s : tie.After-started-m invariant-loop decreases-loop = search in
+    let h : tie.At-loop-i invariant-loop decreases-loop = search in
     omega (arith, (put-at s).below, h.loop.inv.1)
 
-mul-apply-f64-2 : tie.Need-overflow-mul-apply-f64-2 invariant-loop decreases-loop
+mul-apply-f64-2 : tie.Need-offset_bounds-src-a invariant-loop decreases-loop
 mul-apply-f64-2 c =
-    let d : tie.In-loop invariant-loop decreases-loop = search in
+    let d : tie.In-loop-i invariant-loop decreases-loop = search in
     omega (arith, (from d).below, (start d).good.1.0.1)
 
-shared-slice-read-apply-f64 : tie.Need-shared-slice-read-apply-f64 invariant-loop decreases-loop
-shared-slice-read-apply-f64 c = let d : tie.In-loop invariant-loop decreases-loop = search in (from d).below
+shared-slice-read-apply-f64 : tie.Need-bounds-src-a invariant-loop decreases-loop
+shared-slice-read-apply-f64 c = let d : tie.In-loop-i invariant-loop decreases-loop = search in (from d).below
 
-apply-f64-requires : tie.Need-apply-f64-requires invariant-loop decreases-loop
+apply-f64-requires : tie.Need-apply_f64-v-requires invariant-loop decreases-loop
 apply-f64-requires c κs = tt
 
-mul-dst : tie.Need-overflow-mul-dst invariant-loop decreases-loop
+mul-dst : tie.Need-offset_bounds-dst-b-in-loop-i invariant-loop decreases-loop
 mul-dst c =
-    let s : tie.After-started invariant-loop decreases-loop = search in
-    let d : tie.In-loop invariant-loop decreases-loop = search in
+    let s : tie.After-started-m invariant-loop decreases-loop = search in
+    let d : tie.In-loop-i invariant-loop decreases-loop = search in
     omega (arith, (put-at s).below, (start d).good.1.1.1.0.1)
 
-slice-write-dst : tie.Need-slice-write-dst invariant-loop decreases-loop
+slice-write-dst : tie.Need-bounds-dst-b-in-loop-i invariant-loop decreases-loop
 slice-write-dst c =
-    let s : tie.After-started invariant-loop decreases-loop = search in
-    let h : tie.At-loop invariant-loop decreases-loop = search in
+    let s : tie.After-started-m invariant-loop decreases-loop = search in
+    let h : tie.At-loop-i invariant-loop decreases-loop = search in
     omega (arith, (put-at s).below, h.loop.inv.1)
 
-add-slid : tie.Need-overflow-add-slid invariant-loop decreases-loop
+add-slid : tie.Need-overflow_add-slid invariant-loop decreases-loop
 add-slid c =
-    let q : tie.After-started invariant-loop decreases-loop = search in
-    let h : tie.At-loop invariant-loop decreases-loop = search in
-    omega (arith, one_below h.loop.i _ _ _ q.started.result.moved h.loop.inv.3 c.count-if.ensures)
+    let q : tie.After-started-m invariant-loop decreases-loop = search in
+    let h : tie.At-loop-i invariant-loop decreases-loop = search in
+    omega (arith, one_below h.loop.i _ _ _ q.started.result.moved h.loop.inv.3 c.count_if-one.ensures)
 
-add-i : tie.Need-overflow-add-i invariant-loop decreases-loop
+add-i : tie.Need-overflow_add-i invariant-loop decreases-loop
 add-i c = omega arith
 
-loop-less : tie.Need-loop-smaller invariant-loop decreases-loop
+loop-less : tie.Need-loop-i-smaller invariant-loop decreases-loop
 loop-less c = omega arith
 
-loop-again : tie.Need-loop-preserved invariant-loop decreases-loop
+loop-again : tie.Need-loop-i-preserved invariant-loop decreases-loop
 loop-again c =
-    let w : tie.After-apply-f64 invariant-loop decreases-loop = search in
-    let q : tie.After-started invariant-loop decreases-loop = search in
+    let w : tie.After-apply_f64-v invariant-loop decreases-loop = search in
+    let q : tie.After-started-m invariant-loop decreases-loop = search in
     let d = q.before in
     let h = d.before in
     let a = start d in
@@ -160,23 +160,23 @@ loop-again c =
           (moved_at a.args.starts.now a.args.offsets.now a.args.strides.now a.args.limits.now a.args.count (λ _. read a.args.d) (line (read a.args.t) (read a.args.ts)))
           a.args.dst.now h.loop.dst h.loop.i at to _ h.loop.inv.2 (from d).index_is
           (place_is _ _ _ _ _ _ _ _ _ _ _ _ _ a.pre.1 _ d.loop-test.taken (index d) a.fits.d (dst-room a) _ q.started.ensures.0) w.apply-f64.ensures,
-      many_more h.loop.i (λ k. start_moved a.args.starts.now a.args.offsets.now a.args.limits.now (line (read a.args.t) (read a.args.ts) k) a.args.count) _ _ q.started.result.moved h.loop.inv.3 c.count-if.ensures
+      many_more h.loop.i (λ k. start_moved a.args.starts.now a.args.offsets.now a.args.limits.now (line (read a.args.t) (read a.args.ts) k) a.args.count) _ _ q.started.result.moved h.loop.inv.3 c.count_if-one.ensures
           (started-is a.args.starts.now a.args.offsets.now a.args.limits.now a.args.count _ _ _ _ (index d) _ q.started.ensures.1),
     )
 
-same_length : tie.Need-same-length invariant-loop decreases-loop
-same_length c = c.before.loop.invariant.1
+same_length : tie.Need-shape_of-dst invariant-loop decreases-loop
+same_length c = c.loop-i.invariant.1
 
-returns-2 : tie.Need-returns-2 invariant-loop decreases-loop
+returns-2 : tie.Need-returns invariant-loop decreases-loop
 returns-2 c =
-    let h = c.before in
+    let h = c in
     let a : tie.Start invariant-loop decreases-loop = search in (
-      puts-end nan (rule_f64 a.args.rule) a.args.src.now a.args.starts.now a.args.offsets.now a.args.strides.now a.args.limits.now a.args.count _ _ _ _ _ _ _ a.args.dst.now h.loop.dst a.fits.s a.fits.t a.fits.d a.fits.ss a.fits.ts (omega arith) h.loop.invariant.2,
-      starts-end a.args.starts.now a.args.t a.args.ts h.loop.i a.args.n h.loop.slid a.fits.t a.fits.ts (omega arith) a.args.offsets.now a.args.limits.now a.args.count h.loop.invariant.3,
+      puts-end nan (rule_f64 a.args.rule) a.args.src.now a.args.starts.now a.args.offsets.now a.args.strides.now a.args.limits.now a.args.count _ _ _ _ _ _ _ a.args.dst.now h.loop-i.dst a.fits.s a.fits.t a.fits.d a.fits.ss a.fits.ts (omega arith) h.loop-i.invariant.2,
+      starts-end a.args.starts.now a.args.t a.args.ts h.loop-i.i a.args.n h.loop-i.slid a.fits.t a.fits.ts (omega arith) a.args.offsets.now a.args.limits.now a.args.count h.loop-i.invariant.3,
     )
 
-pub put-cells-by-spec : {M : Type 1} → statement M
-put-cells-by-spec =
+pub put_cells_by_spec : {M : Type 1} → statement M
+put_cells_by_spec =
     tie.close
     (tie.spec
     invariant-loop

@@ -10,103 +10,103 @@ use Rattle.indexed_runs.proofs.Counts.{starts-end}
 use Rattle.indexed_runs_f64.proofs.put_pairs.Statement.{statement}
 use Rattle.indexed_runs_f64.proofs.put_pairs.Tie as tie
 
-enum_told : tie.Need-enum-told
+enum_told : tie.Need-enum_told-1
 enum_told c = search rules
 
-put-cells-by-requires : tie.Need-put-cells-by-requires
+put-cells-by-requires : tie.Need-put_cells_by-requires
 put-cells-by-requires c κs =
     let a : tie.Start = search in
     (omega arith, puts-ask _ _ _ _ _ _ _ _ _ _ _ _ _ a.fits.s a.fits.t a.fits.d a.fits.ss a.fits.ts a.pre)
 
-enum-told-2 : tie.Need-enum-told-2
+enum-told-2 : tie.Need-enum_told-in-Lowest
 enum-told-2 c = search rules
 
-put-cells-by-requires-2 : tie.Need-put-cells-by-requires-2
+put-cells-by-requires-2 : tie.Need-put_cells_by-requires-in-Lowest
 put-cells-by-requires-2 c κs =
     let a : tie.Start = search in
     (omega arith, puts-ask _ _ _ _ _ _ _ _ _ _ _ _ _ a.fits.s a.fits.t a.fits.d a.fits.ss a.fits.ts a.pre)
 
-enum-told-3 : tie.Need-enum-told-3
+enum-told-3 : tie.Need-enum_told-in-Highest
 enum-told-3 c = search rules
 
-put-cells-by-requires-3 : tie.Need-put-cells-by-requires-3
+put-cells-by-requires-3 : tie.Need-put_cells_by-requires-in-Highest
 put-cells-by-requires-3 c κs =
     let a : tie.Start = search in
     (omega arith, puts-ask _ _ _ _ _ _ _ _ _ _ _ _ _ a.fits.s a.fits.t a.fits.d a.fits.ss a.fits.ts a.pre)
 
-enum-told-4 : tie.Need-enum-told-4
+enum-told-4 : tie.Need-enum_told-in-Replace
 enum-told-4 c = search rules
 
-put-cells-by-requires-4 : tie.Need-put-cells-by-requires-4
+put-cells-by-requires-4 : tie.Need-put_cells_by-requires-in-Replace
 put-cells-by-requires-4 c κs =
     let a : tie.Start = search in
     (omega arith, puts-ask _ _ _ _ _ _ _ _ _ _ _ _ _ a.fits.s a.fits.t a.fits.d a.fits.ss a.fits.ts a.pre)
 
-enum-known-rule : tie.Need-enum-known-rule
+enum-known-rule : tie.Need-enum_known-rule
 enum-known-rule c = search rules
 
-put-cells-by-requires-5 : tie.Need-put-cells-by-requires-5
+put-cells-by-requires-5 : tie.Need-put_cells_by-requires-in-Ceiling
 put-cells-by-requires-5 c κs =
     let a : tie.Start = search in
     (omega arith, puts-ask _ _ _ _ _ _ _ _ _ _ _ _ _ a.fits.s a.fits.t a.fits.d a.fits.ss a.fits.ts a.pre)
 
-same_length : tie.Need-same-length
+same_length : tie.Need-shape_of-dst-in-Add
 same_length c = search rules
 
-returns : tie.Need-returns
+returns : tie.Need-returns-in-Add
 returns c =
-    let e : tie.After-enum-told = search in
-    let o : tie.After-put-cells-by = search in
+    let e : tie.In-Add = search in
+    let o : tie.After-put_cells_by = search in
     let a : tie.Start = search in
     rw e.enum_told.given.1
     (puts-end nan (rule_f64 R.Add) a.args.src.now a.args.starts.now a.args.offsets.now a.args.strides.now a.args.limits.now 2 _ _ _ _ _ a.args.n a.args.n a.args.dst.now _ a.fits.s a.fits.t a.fits.d a.fits.ss a.fits.ts refl o.put-cells-by.ensures.0, starts-end a.args.starts.now a.args.t a.args.ts a.args.n a.args.n _ a.fits.t a.fits.ts refl a.args.offsets.now a.args.limits.now 2 o.put-cells-by.ensures.1)
 
-same-length-2 : tie.Need-same-length-2
+same-length-2 : tie.Need-shape_of-dst-in-Lowest
 same-length-2 c = search rules
 
-returns-2 : tie.Need-returns-2
+returns-2 : tie.Need-returns-in-Lowest
 returns-2 c =
-    let e : tie.After-enum-told2 = search in
-    let o : tie.After-put-cells-by2 = search in
+    let e : tie.In-Lowest = search in
+    let o : tie.After-put_cells_by-in-Lowest = search in
     let a : tie.Start = search in
     rw e.enum-told2.given.1
     (puts-end nan (rule_f64 R.Lowest) a.args.src.now a.args.starts.now a.args.offsets.now a.args.strides.now a.args.limits.now 2 _ _ _ _ _ a.args.n a.args.n a.args.dst.now _ a.fits.s a.fits.t a.fits.d a.fits.ss a.fits.ts refl o.put-cells-by2.ensures.0, starts-end a.args.starts.now a.args.t a.args.ts a.args.n a.args.n _ a.fits.t a.fits.ts refl a.args.offsets.now a.args.limits.now 2 o.put-cells-by2.ensures.1)
 
-same-length-3 : tie.Need-same-length-3
+same-length-3 : tie.Need-shape_of-dst-in-Highest
 same-length-3 c = search rules
 
-returns-3 : tie.Need-returns-3
+returns-3 : tie.Need-returns-in-Highest
 returns-3 c =
-    let e : tie.After-enum-told3 = search in
-    let o : tie.After-put-cells-by3 = search in
+    let e : tie.In-Highest = search in
+    let o : tie.After-put_cells_by-in-Highest = search in
     let a : tie.Start = search in
     rw e.enum-told3.given.1
     (puts-end nan (rule_f64 R.Highest) a.args.src.now a.args.starts.now a.args.offsets.now a.args.strides.now a.args.limits.now 2 _ _ _ _ _ a.args.n a.args.n a.args.dst.now _ a.fits.s a.fits.t a.fits.d a.fits.ss a.fits.ts refl o.put-cells-by3.ensures.0, starts-end a.args.starts.now a.args.t a.args.ts a.args.n a.args.n _ a.fits.t a.fits.ts refl a.args.offsets.now a.args.limits.now 2 o.put-cells-by3.ensures.1)
 
-same-length-4 : tie.Need-same-length-4
+same-length-4 : tie.Need-shape_of-dst-in-Replace
 same-length-4 c = search rules
 
-returns-4 : tie.Need-returns-4
+returns-4 : tie.Need-returns-in-Replace
 returns-4 c =
-    let e : tie.After-enum-told4 = search in
-    let o : tie.After-put-cells-by4 = search in
+    let e : tie.In-Replace = search in
+    let o : tie.After-put_cells_by-in-Replace = search in
     let a : tie.Start = search in
     rw e.enum-told4.given.1
     (puts-end nan (rule_f64 R.Replace) a.args.src.now a.args.starts.now a.args.offsets.now a.args.strides.now a.args.limits.now 2 _ _ _ _ _ a.args.n a.args.n a.args.dst.now _ a.fits.s a.fits.t a.fits.d a.fits.ss a.fits.ts refl o.put-cells-by4.ensures.0, starts-end a.args.starts.now a.args.t a.args.ts a.args.n a.args.n _ a.fits.t a.fits.ts refl a.args.offsets.now a.args.limits.now 2 o.put-cells-by4.ensures.1)
 
-same-length-5 : tie.Need-same-length-5
+same-length-5 : tie.Need-shape_of-dst-in-Ceiling
 same-length-5 c = search rules
 
-returns-5 : tie.Need-returns-5
+returns-5 : tie.Need-returns-in-Ceiling
 returns-5 c =
-    let e : tie.After-rule = search in
-    let o : tie.After-put-cells-by5 = search in
+    let e : tie.In-Ceiling-2 = search in
+    let o : tie.After-put_cells_by-in-Ceiling = search in
     let a : tie.Start = search in
     rw e.rule.given.1
     (puts-end nan (rule_f64 (R.Ceiling e.rule.given.0.0)) a.args.src.now a.args.starts.now a.args.offsets.now a.args.strides.now a.args.limits.now 2 _ _ _ _ _ a.args.n a.args.n a.args.dst.now _ a.fits.s a.fits.t a.fits.d a.fits.ss a.fits.ts refl o.put-cells-by5.ensures.0, starts-end a.args.starts.now a.args.t a.args.ts a.args.n a.args.n _ a.fits.t a.fits.ts refl a.args.offsets.now a.args.limits.now 2 o.put-cells-by5.ensures.1)
 
-pub put-pairs-spec : {M : Type 1} → statement M
-put-pairs-spec =
+pub put_pairs_spec : {M : Type 1} → statement M
+put_pairs_spec =
     tie.close
     (tie.spec
     enum_told

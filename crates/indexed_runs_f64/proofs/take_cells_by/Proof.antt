@@ -21,13 +21,13 @@ use Rattle.indexed_runs.proofs.Counts.{one_below, one-counts, all-or-none, start
 use Rattle.indexed_runs_f64.proofs.take_cells_by.Statement.{statement}
 use Rattle.indexed_runs_f64.proofs.take_cells_by.Tie as tie
 
-abbrev invariant-loop : tie.invariant-loop
+abbrev invariant-loop : tie.invariant-loop-i
 invariant-loop counts src starts dst₀ n s t d ss ts ds count offsets strides limits slid₀ i₀ dst slid i = (i ≤ n) × (length dst ≡ length dst₀) × (dst ≡ in_order (cell_at nan (rule_f64 R.Replace) src (moved_at starts offsets strides limits count (line (to_z w64 s) (to_z w64 ss)) (line (to_z w64 t) (to_z w64 ts))) (line (to_z w64 d) (to_z w64 ds))) i dst₀) × (slid ≡ how_many i (λ k. counts && start_moved starts offsets limits (line (to_z w64 t) (to_z w64 ts) k) count))
 
-abbrev decreases-loop : tie.decreases-loop
+abbrev decreases-loop : tie.decreases-loop-i
 decreases-loop counts src starts dst₀ n s t d ss ts ds count offsets strides limits slid₀ i₀ dst slid i = n - i
 
-abbrev start : tie.In-loop invariant-loop decreases-loop → tie.Start invariant-loop decreases-loop
+abbrev start : tie.In-loop-i invariant-loop decreases-loop → tie.Start invariant-loop decreases-loop
 start d = search
 
 module _ (a : tie.Start invariant-loop decreases-loop) where
@@ -37,7 +37,7 @@ module _ (a : tie.Start invariant-loop decreases-loop) where
   dst-room : length a.args.dst.now < 2 ^ 63
   dst-room = omega (arith, a.good.1.1.1.0.1)
 
-module _ (d : tie.In-loop invariant-loop decreases-loop) where
+module _ (d : tie.In-loop-i invariant-loop decreases-loop) where
   from : Step (start d).args.s (start d).args.ss d.before.loop.i (length (start d).args.src.now)
   from = let a = start d in source-step _ _ _ _ _ _ _ _ _ _ _ _ _ _ a.pre _ d.loop-test.true a.fits.s a.fits.ss (src-room a)
 
@@ -47,100 +47,100 @@ module _ (d : tie.In-loop invariant-loop decreases-loop) where
   to : Step (start d).args.d (start d).args.ds d.before.loop.i (length (start d).args.dst.now)
   to = let a = start d in dest-step _ _ _ _ _ _ _ _ _ _ _ _ _ _ a.pre _ d.loop-test.taken a.fits.d a.fits.ds (dst-room a)
 
-read-at : (c : tie.After-started invariant-loop decreases-loop) → Index c.started.result.at (length (start c.before).args.src.now)
-read-at c = let a = start c.before in place-index _ _ _ _ _ _ _ _ _ _ _ _ _ _ a.pre _ c.before.loop-test.true (from c.before) (index c.before) _ c.started.ensures.0 (src-room a)
+read-at : (c : tie.After-started-m invariant-loop decreases-loop) → Index c.started-m.result.at (length (start c.before).args.src.now)
+read-at c = let a = start c.before in place-index _ _ _ _ _ _ _ _ _ _ _ _ _ _ a.pre _ c.loop-i-test.true (from c.before) (index c.before) _ c.started-m.ensures.0 (src-room a)
 
-loop-holds : tie.Need-loop-init invariant-loop decreases-loop
+loop-holds : tie.Need-loop-i-init invariant-loop decreases-loop
 loop-holds c =
     let a : tie.Start invariant-loop decreases-loop = search in
     (omega arith, refl, none _ 0 a.args.dst.now refl, many-none 0 _ refl)
 
-cast-k : tie.Need-overflow-cast-k invariant-loop decreases-loop
+cast-k : tie.Need-overflow_cast-k invariant-loop decreases-loop
 cast-k c =
-    let d : tie.In-loop invariant-loop decreases-loop = search in
+    let d : tie.In-loop-i invariant-loop decreases-loop = search in
     (from d).count
 
-mul-p : tie.Need-overflow-mul-p invariant-loop decreases-loop
+mul-p : tie.Need-overflow_mul-p invariant-loop decreases-loop
 mul-p c =
-    let d : tie.In-loop invariant-loop decreases-loop = search in
+    let d : tie.In-loop-i invariant-loop decreases-loop = search in
     (from d).multiple
 
-add-p : tie.Need-overflow-add-p invariant-loop decreases-loop
+add-p : tie.Need-overflow_add-p invariant-loop decreases-loop
 add-p c =
-    let d : tie.In-loop invariant-loop decreases-loop = search in
+    let d : tie.In-loop-i invariant-loop decreases-loop = search in
     (from d).fits
 
-mul-q : tie.Need-overflow-mul-q invariant-loop decreases-loop
+mul-q : tie.Need-overflow_mul-q invariant-loop decreases-loop
 mul-q c =
-    let d : tie.In-loop invariant-loop decreases-loop = search in
+    let d : tie.In-loop-i invariant-loop decreases-loop = search in
     (index d).multiple
 
-add-q : tie.Need-overflow-add-q invariant-loop decreases-loop
+add-q : tie.Need-overflow_add-q invariant-loop decreases-loop
 add-q c =
-    let d : tie.In-loop invariant-loop decreases-loop = search in
+    let d : tie.In-loop-i invariant-loop decreases-loop = search in
     (index d).fits
 
-started-requires : tie.Need-started-requires invariant-loop decreases-loop
+started-requires : tie.Need-started-m-requires invariant-loop decreases-loop
 started-requires c κs =
-    let d : tie.In-loop invariant-loop decreases-loop = search in
-    let a = start d in started-asks _ _ _ _ _ _ _ _ _ _ _ _ _ _ a.pre _ c.loop-test.true (from d) (index d) (src-room a)
+    let d : tie.In-loop-i invariant-loop decreases-loop = search in
+    let a = start d in started-asks _ _ _ _ _ _ _ _ _ _ _ _ _ _ a.pre _ c.loop-i-test.true (from d) (index d) (src-room a)
 
-cast-a : tie.Need-overflow-cast-a invariant-loop decreases-loop
+cast-a : tie.Need-overflow_cast-a invariant-loop decreases-loop
 cast-a c =
-    let s : tie.After-started invariant-loop decreases-loop = search in
+    let s : tie.After-started-m invariant-loop decreases-loop = search in
     (read-at s).cast
 
-mul-b : tie.Need-overflow-mul-b invariant-loop decreases-loop
+mul-b : tie.Need-overflow_mul-b invariant-loop decreases-loop
 mul-b c =
-    let d : tie.In-loop invariant-loop decreases-loop = search in
+    let d : tie.In-loop-i invariant-loop decreases-loop = search in
     (to d).multiple
 
-add-b : tie.Need-overflow-add-b invariant-loop decreases-loop
+add-b : tie.Need-overflow_add-b invariant-loop decreases-loop
 add-b c =
-    let d : tie.In-loop invariant-loop decreases-loop = search in
+    let d : tie.In-loop-i invariant-loop decreases-loop = search in
     (to d).fits
 
-cast-b : tie.Need-overflow-cast-b invariant-loop decreases-loop
+cast-b : tie.Need-overflow_cast-b invariant-loop decreases-loop
 cast-b c =
-    let d : tie.In-loop invariant-loop decreases-loop = search in
+    let d : tie.In-loop-i invariant-loop decreases-loop = search in
     (to d).cast
 
-mul-dst : tie.Need-overflow-mul-dst invariant-loop decreases-loop
+mul-dst : tie.Need-offset_bounds-src-a invariant-loop decreases-loop
 mul-dst c =
-    let d : tie.In-loop invariant-loop decreases-loop = search in
-    let s : tie.After-started invariant-loop decreases-loop = search in
+    let d : tie.In-loop-i invariant-loop decreases-loop = search in
+    let s : tie.After-started-m invariant-loop decreases-loop = search in
     omega (arith, (read-at s).below, (start d).good.1.0.1)
 
-shared-slice-read-dst : tie.Need-shared-slice-read-dst invariant-loop decreases-loop
-shared-slice-read-dst c = let s : tie.After-started invariant-loop decreases-loop = search in (read-at s).below
+shared-slice-read-dst : tie.Need-bounds-src-a invariant-loop decreases-loop
+shared-slice-read-dst c = let s : tie.After-started-m invariant-loop decreases-loop = search in (read-at s).below
 
-mul-dst-2 : tie.Need-overflow-mul-dst-2 invariant-loop decreases-loop
+mul-dst-2 : tie.Need-offset_bounds-dst-b invariant-loop decreases-loop
 mul-dst-2 c =
-    let d : tie.In-loop invariant-loop decreases-loop = search in
+    let d : tie.In-loop-i invariant-loop decreases-loop = search in
     omega (arith, (to d).below, (start d).good.1.1.1.0.1)
 
-slice-write-dst : tie.Need-slice-write-dst invariant-loop decreases-loop
+slice-write-dst : tie.Need-bounds-dst-b invariant-loop decreases-loop
 slice-write-dst c =
-    let d : tie.In-loop invariant-loop decreases-loop = search in
-    let h : tie.At-loop invariant-loop decreases-loop = search in
+    let d : tie.In-loop-i invariant-loop decreases-loop = search in
+    let h : tie.At-loop-i invariant-loop decreases-loop = search in
     omega (arith, (to d).below, h.loop.inv.1)
 
-add-slid : tie.Need-overflow-add-slid invariant-loop decreases-loop
+add-slid : tie.Need-overflow_add-slid invariant-loop decreases-loop
 add-slid c =
-    let q : tie.After-started invariant-loop decreases-loop = search in
-    let h : tie.At-loop invariant-loop decreases-loop = search in
+    let q : tie.After-started-m invariant-loop decreases-loop = search in
+    let h : tie.At-loop-i invariant-loop decreases-loop = search in
     let a = start q.before in
-    omega (arith, one_below h.loop.i _ _ _ (a.args.counts && q.started.result.moved) h.loop.inv.3 (one-counts a.args.counts _ _ _ c.before.count-if.ensures c.count-if2.ensures))
+    omega (arith, one_below h.loop.i _ _ _ (a.args.counts && q.started.result.moved) h.loop.inv.3 (one-counts a.args.counts _ _ _ c.count_if-one.ensures c.count_if-more.ensures))
 
-add-i : tie.Need-overflow-add-i invariant-loop decreases-loop
+add-i : tie.Need-overflow_add-i invariant-loop decreases-loop
 add-i c = omega arith
 
-loop-less : tie.Need-loop-smaller invariant-loop decreases-loop
+loop-less : tie.Need-loop-i-smaller invariant-loop decreases-loop
 loop-less c = omega arith
 
-loop-again : tie.Need-loop-preserved invariant-loop decreases-loop
+loop-again : tie.Need-loop-i-preserved invariant-loop decreases-loop
 loop-again c =
-    let q : tie.After-started invariant-loop decreases-loop = search in
+    let q : tie.After-started-m invariant-loop decreases-loop = search in
     let d = q.before in
     let h = d.before in
     let a = start d in (
@@ -149,25 +149,25 @@ loop-again c =
       cell-more nan (rule_f64 R.Replace) a.args.src.now (moved_at a.args.starts.now a.args.offsets.now a.args.strides.now a.args.limits.now a.args.count (line (read a.args.s) (read a.args.ss)) (line (read a.args.t) (read a.args.ts))) (line (read a.args.d) (read a.args.ds)) a.args.dst.now h.loop.dst h.loop.i _ _ _ h.loop.inv.2
           (place_is _ _ _ _ _ _ _ _ _ _ _ _ _ _ a.pre _ d.loop-test.taken (from d) (index d) _ q.started.ensures.0 (src-room a)) (to d).index_is refl,
       many_more h.loop.i (λ k. a.args.counts && start_moved a.args.starts.now a.args.offsets.now a.args.limits.now (line (read a.args.t) (read a.args.ts) k) a.args.count) _ _ (a.args.counts && q.started.result.moved) h.loop.inv.3
-          (one-counts a.args.counts _ _ _ c.before.count-if.ensures c.count-if2.ensures)
+          (one-counts a.args.counts _ _ _ c.count_if-one.ensures c.count_if-more.ensures)
           (ap (λ (b : Bool). a.args.counts && b) (started-is a.args.starts.now a.args.offsets.now a.args.limits.now a.args.count _ _ _ _ (index d) _ q.started.ensures.1)),
     )
 
-same_length : tie.Need-same-length invariant-loop decreases-loop
-same_length c = c.before.loop.invariant.1
+same_length : tie.Need-shape_of-dst invariant-loop decreases-loop
+same_length c = c.loop-i.invariant.1
 
 returns : tie.Need-returns invariant-loop decreases-loop
 returns c =
-    let h = c.before in
+    let h = c in
     let a : tie.Start invariant-loop decreases-loop = search in (
-      cells-end nan (rule_f64 R.Replace) a.args.src.now a.args.starts.now a.args.offsets.now a.args.strides.now a.args.limits.now a.args.count _ _ _ _ _ _ _ _ a.args.dst.now h.loop.dst a.fits.s a.fits.t a.fits.d a.fits.ss a.fits.ts a.fits.ds (omega arith) h.loop.invariant.2,
-      h.loop.invariant.3
-          ∙ all-or-none a.args.counts h.loop.i (λ k. start_moved a.args.starts.now a.args.offsets.now a.args.limits.now (line (read a.args.t) (read a.args.ts) k) a.args.count)
-          ∙ ap (λ (m : ℕ). cond a.args.counts m 0) (starts-end a.args.starts.now a.args.t a.args.ts h.loop.i a.args.n _ a.fits.t a.fits.ts (omega arith) a.args.offsets.now a.args.limits.now a.args.count refl),
+      cells-end nan (rule_f64 R.Replace) a.args.src.now a.args.starts.now a.args.offsets.now a.args.strides.now a.args.limits.now a.args.count _ _ _ _ _ _ _ _ a.args.dst.now h.loop-i.dst a.fits.s a.fits.t a.fits.d a.fits.ss a.fits.ts a.fits.ds (omega arith) h.loop-i.invariant.2,
+      h.loop-i.invariant.3
+          ∙ all-or-none a.args.counts h.loop-i.i (λ k. start_moved a.args.starts.now a.args.offsets.now a.args.limits.now (line (read a.args.t) (read a.args.ts) k) a.args.count)
+          ∙ ap (λ (m : ℕ). cond a.args.counts m 0) (starts-end a.args.starts.now a.args.t a.args.ts h.loop-i.i a.args.n _ a.fits.t a.fits.ts (omega arith) a.args.offsets.now a.args.limits.now a.args.count refl),
     )
 
-pub take-cells-by-spec : {M : Type 1} → statement M
-take-cells-by-spec =
+pub take_cells_by_spec : {M : Type 1} → statement M
+take_cells_by_spec =
     tie.close
     (tie.spec
     invariant-loop

@@ -16,7 +16,7 @@ use Rattle.indexed_runs_f64.proofs.take_one.Statement.{statement}
 use Rattle.indexed_runs_f64.proofs.take_one.Tie as tie
 
 -- the place of the source
-module _ (c : tie.After-clamped) where
+module _ (c : tie.After-clamped-y) where
   abbrev at-start : tie.Start
   at-start = search
 
@@ -26,47 +26,47 @@ module _ (c : tie.After-clamped) where
   by-start : pos (nat_abs (read c.clamped.result.at)) ≡ one_at at-start.args.starts.now at-start.args.limit at-start.args.i
   by-start = let a = at-start in ones_is _ _ _ _ a.pre.1 a.fits.limit (omega (arith, a.good.1.0.1)) _ a.pre.0 (sfits_of c.before.x.given) _ c.clamped.ensures.0
 
-mul-x : tie.Need-overflow-mul-x
+mul-x : tie.Need-offset_bounds-starts-i
 mul-x c = search rules
 
-shared-slice-copy-out-x : tie.Need-shared-slice-copy-out-x
+shared-slice-copy-out-x : tie.Need-bounds-starts-i
 shared-slice-copy-out-x c = search rules
 
-clamped-requires : tie.Need-clamped-requires
+clamped-requires : tie.Need-clamped-y-requires
 clamped-requires c κs = search rules
 
-cast-a : tie.Need-overflow-cast-a
+cast-a : tie.Need-overflow_cast-a
 cast-a c =
-    let l : tie.After-clamped = search in
+    let l : tie.After-clamped-y = search in
     (place l).cast
 
-mul-dst : tie.Need-overflow-mul-dst
+mul-dst : tie.Need-offset_bounds-src-a
 mul-dst c =
-    let l : tie.After-clamped = search in
+    let l : tie.After-clamped-y = search in
     omega (arith, (place l).below, (at-start l).good.1.0.1)
 
-shared-slice-read-dst : tie.Need-shared-slice-read-dst
-shared-slice-read-dst c = let l : tie.After-clamped = search in (place l).below
+shared-slice-read-dst : tie.Need-bounds-src-a
+shared-slice-read-dst c = let l : tie.After-clamped-y = search in (place l).below
 
-mul-dst-2 : tie.Need-overflow-mul-dst-2
+mul-dst-2 : tie.Need-offset_bounds-dst-i
 mul-dst-2 c = search rules
 
-slice-write-dst : tie.Need-slice-write-dst
+slice-write-dst : tie.Need-bounds-dst-i
 slice-write-dst c = search rules
 
-same_length : tie.Need-same-length
+same_length : tie.Need-shape_of-dst
 same_length c = search rules
 
 returns : tie.Need-returns
 returns c =
-    let q : tie.After-clamped = search in
+    let q : tie.After-clamped-y = search in
     let a = at-start q in (
       one-turn nan (rule_f64 R.Replace) a.args.src.now (one_at a.args.starts.now a.args.limit) pos a.args.dst.now a.args.i (nat_abs (read q.clamped.result.at)) a.args.i _ (by-start q) refl refl,
-      one-counts a.args.counts _ _ _ c.before.count-if.ensures c.count-if2.ensures ∙ ap (λ (b : Bool). cond (a.args.counts && b) 1 0) (ones-moved a.args.starts.now a.args.limit a.args.i a.fits.limit (sfits_of q.before.x.given) _ q.clamped.ensures.1),
+      one-counts a.args.counts _ _ _ c.count_if-one.ensures c.count_if.ensures ∙ ap (λ (b : Bool). cond (a.args.counts && b) 1 0) (ones-moved a.args.starts.now a.args.limit a.args.i a.fits.limit (sfits_of q.before.x.given) _ q.clamped.ensures.1),
     )
 
-pub take-one-spec : {M : Type 1} → statement M
-take-one-spec =
+pub take_one_spec : {M : Type 1} → statement M
+take_one_spec =
     tie.close
     (tie.spec
     mul-x

@@ -14,10 +14,10 @@ use borrow.Author.Rules.{rules}
 use Rattle.integer.proofs.checked_mul_i64.Statement.{statement}
 use Rattle.integer.proofs.checked_mul_i64.Tie as tie
 
-enum-known-p : tie.Need-enum-known-p
+enum-known-p : tie.Need-enum_known-p
 enum-known-p c = search rules
 
-enum_told : tie.Need-enum-told
+enum_told : tie.Need-enum_told-1
 enum_told c = search rules
 
 -- the product, by what the callees ensure: its size m, and its sign
@@ -30,39 +30,39 @@ same a b x y m p ex ey ep e n = sym (mul-same a b n ∙ ap pos (size_is a b x y 
 other : (a b : ℤ) (x y m : ℕ) (p : CheckedU) → x ≡ nat_abs a → y ≡ nat_abs b → p ≡ checked_u (x * y) → p ≡ U.Fits m → is_neg a ≡ not (is_neg b) → neg_ℤ (pos m) ≡ a *ℤ b
 other a b x y m p ex ey ep e n = sym (mul-other a b n ∙ ap (λ (t : ℕ). neg_ℤ (pos t)) (size_is a b x y m p ex ey ep e))
 
-returns : tie.Need-returns
+returns : tie.Need-returns-then-b-lt0
 returns c =
-    let d = c.before.before.before in
-    let s = d.before.before.before.before.before.before in
-    c.signed-i64.ensures ∙ ap checked (same s.args.a s.args.b _ _ _ _ (d.before.before.before.before.before.magnitude-i64.ensures ∙ ap nat_abs (back s.ranges.a)) (d.before.before.before.before.magnitude-i642.ensures ∙ ap nat_abs (back s.ranges.b)) d.before.before.before.checked-mul-u64.ensures d.before.p.given.1 (is_neg-yes s.args.a (less s.ranges.a (sfits_lit {z = pos 0} tt) c.before.before.if1.true) ∙ sym (is_neg-yes s.args.b (less s.ranges.b (sfits_lit {z = pos 0} tt) c.before.if2.true))))
+    let d = c in
+    let s = d in
+    c.signed_i64.ensures ∙ ap checked (same s.args.a s.args.b _ _ _ _ (d.magnitude_i64-x.ensures ∙ ap nat_abs (back s.ranges.a)) (d.magnitude_i64-y.ensures ∙ ap nat_abs (back s.ranges.b)) d.checked_mul_u64-p.ensures d.in-Fits.is (is_neg-yes s.args.a (less s.ranges.a (sfits_lit {z = pos 0} tt) c.if-a-lt0.true) ∙ sym (is_neg-yes s.args.b (less s.ranges.b (sfits_lit {z = pos 0} tt) c.if-b-lt0.true))))
 
-returns-2 : tie.Need-returns-2
+returns-2 : tie.Need-returns-else-b-lt0
 returns-2 c =
-    let d = c.before.before.before in
-    let s = d.before.before.before.before.before.before in
-    c.signed-i642.ensures ∙ ap checked (other s.args.a s.args.b _ _ _ _ (d.before.before.before.before.before.magnitude-i64.ensures ∙ ap nat_abs (back s.ranges.a)) (d.before.before.before.before.magnitude-i642.ensures ∙ ap nat_abs (back s.ranges.b)) d.before.before.before.checked-mul-u64.ensures d.before.p.given.1 (is_neg-yes s.args.a (less s.ranges.a (sfits_lit {z = pos 0} tt) c.before.before.if1.true) ∙ sym (ap not (is_neg-no s.args.b (not-less s.ranges.b (sfits_lit {z = pos 0} tt) c.before.if2.false)))))
+    let d = c in
+    let s = d in
+    c.signed_i64-else-b-lt0.ensures ∙ ap checked (other s.args.a s.args.b _ _ _ _ (d.magnitude_i64-x.ensures ∙ ap nat_abs (back s.ranges.a)) (d.magnitude_i64-y.ensures ∙ ap nat_abs (back s.ranges.b)) d.checked_mul_u64-p.ensures d.in-Fits.is (is_neg-yes s.args.a (less s.ranges.a (sfits_lit {z = pos 0} tt) c.if-a-lt0.true) ∙ sym (ap not (is_neg-no s.args.b (not-less s.ranges.b (sfits_lit {z = pos 0} tt) c.if-b-lt0.false)))))
 
-returns-3 : tie.Need-returns-3
+returns-3 : tie.Need-returns-then-b-lt0-2
 returns-3 c =
-    let d = c.before.before.before in
-    let s = d.before.before.before.before.before.before in
-    c.signed-i643.ensures ∙ ap checked (other s.args.a s.args.b _ _ _ _ (d.before.before.before.before.before.magnitude-i64.ensures ∙ ap nat_abs (back s.ranges.a)) (d.before.before.before.before.magnitude-i642.ensures ∙ ap nat_abs (back s.ranges.b)) d.before.before.before.checked-mul-u64.ensures d.before.p.given.1 (is_neg-no s.args.a (not-less s.ranges.a (sfits_lit {z = pos 0} tt) c.before.before.if1.false) ∙ sym (ap not (is_neg-yes s.args.b (less s.ranges.b (sfits_lit {z = pos 0} tt) c.before.if3.true)))))
+    let d = c in
+    let s = d in
+    c.signed_i64-then-b-lt0-2.ensures ∙ ap checked (other s.args.a s.args.b _ _ _ _ (d.magnitude_i64-x.ensures ∙ ap nat_abs (back s.ranges.a)) (d.magnitude_i64-y.ensures ∙ ap nat_abs (back s.ranges.b)) d.checked_mul_u64-p.ensures d.in-Fits.is (is_neg-no s.args.a (not-less s.ranges.a (sfits_lit {z = pos 0} tt) c.if-a-lt0.false) ∙ sym (ap not (is_neg-yes s.args.b (less s.ranges.b (sfits_lit {z = pos 0} tt) c.if-b-lt0-2.true)))))
 
-returns-4 : tie.Need-returns-4
+returns-4 : tie.Need-returns-else-b-lt0-2
 returns-4 c =
-    let d = c.before.before.before in
-    let s = d.before.before.before.before.before.before in
-    c.signed-i644.ensures ∙ ap checked (same s.args.a s.args.b _ _ _ _ (d.before.before.before.before.before.magnitude-i64.ensures ∙ ap nat_abs (back s.ranges.a)) (d.before.before.before.before.magnitude-i642.ensures ∙ ap nat_abs (back s.ranges.b)) d.before.before.before.checked-mul-u64.ensures d.before.p.given.1 (is_neg-no s.args.a (not-less s.ranges.a (sfits_lit {z = pos 0} tt) c.before.before.if1.false) ∙ sym (is_neg-no s.args.b (not-less s.ranges.b (sfits_lit {z = pos 0} tt) c.before.if3.false))))
+    let d = c in
+    let s = d in
+    c.signed_i64-else-b-lt0-2.ensures ∙ ap checked (same s.args.a s.args.b _ _ _ _ (d.magnitude_i64-x.ensures ∙ ap nat_abs (back s.ranges.a)) (d.magnitude_i64-y.ensures ∙ ap nat_abs (back s.ranges.b)) d.checked_mul_u64-p.ensures d.in-Fits.is (is_neg-no s.args.a (not-less s.ranges.a (sfits_lit {z = pos 0} tt) c.if-a-lt0.false) ∙ sym (is_neg-no s.args.b (not-less s.ranges.b (sfits_lit {z = pos 0} tt) c.if-b-lt0-2.false))))
 
-returns-5 : tie.Need-returns-5
+returns-5 : tie.Need-returns-in-Overflow
 returns-5 c =
-    let s = c.before.before.before.before.before in
-    let x = c.before.before.before.before.magnitude-i64 in
-    let y = c.before.before.before.magnitude-i642 in
-    mul_wide s.args.a s.args.b (omega (arith, ap₂ ◌*◌ (x.ensures ∙ ap nat_abs (back s.ranges.a)) (y.ensures ∙ ap nat_abs (back s.ranges.b)), checked_u-over (x.result * y.result) (sym c.before.before.checked-mul-u64.ensures ∙ c.enum_told.given.1)))
+    let s = c in
+    let x = c.magnitude_i64-x in
+    let y = c.magnitude_i64-y in
+    mul_wide s.args.a s.args.b (omega (arith, ap₂ ◌*◌ (x.ensures ∙ ap nat_abs (back s.ranges.a)) (y.ensures ∙ ap nat_abs (back s.ranges.b)), checked_u-over (x.result * y.result) (sym c.checked_mul_u64-p.ensures ∙ c.in-Overflow.is)))
 
-pub checked-mul-i64-spec : {M : Type 1} → statement M
-checked-mul-i64-spec =
+pub checked_mul_i64_spec : {M : Type 1} → statement M
+checked_mul_i64_spec =
     tie.close
     (tie.spec
     (λ c κs. tt)

@@ -5,18 +5,18 @@ use Rattle.job.proofs.check_views.Tie as tie
 returns : tie.Need-returns
 unfolding views_refusal
 returns c =
-    let p3 = c.before.before.before in
-    let p4 = p3.before in
-    let p5 = p4.before in
-    let p6 = p5.before in
-    let p7 = p6.before in
-    let p8 = p7.before in
-    let p9 = p8.before in
-    let p10 = p9.before in
-    rw (c.or-else5.ensures, c.before.or-else4.ensures, c.before.before.or-else3.ensures, p3.or-else2.ensures, p4.or_else.ensures, p10.check-stride-length.ensures, p9.check-stride-length2.ensures, p8.check-stride-length3.ensures, p7.check-rank.ensures, p6.check-rank2.ensures, p5.check-rank3.ensures)
+    let p3 = c in
+    let p4 = p3 in
+    let p5 = p4 in
+    let p6 = p5 in
+    let p7 = p6 in
+    let p8 = p7 in
+    let p9 = p8 in
+    let p10 = p9 in
+    rw (c.or_else-4.ensures, c.or_else-3.ensures, c.or_else-2.ensures, p3.or_else-ranks.ensures, p4.or_else.ensures, p10.check_stride_length-a.ensures, p9.check_stride_length-b.ensures, p8.check_stride_length-c.ensures, p7.check_rank-d.ensures, p6.check_rank-e.ensures, p5.check_rank-f.ensures)
 
-pub check-views-spec : {M : Type 1} → statement M
-check-views-spec =
+pub check_views_spec : {M : Type 1} → statement M
+check_views_spec =
     tie.close
     (tie.spec
     (λ c κs. tt)

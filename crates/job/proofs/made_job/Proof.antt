@@ -2,11 +2,11 @@ use mathlib.Core.Path.{sym, ◌∙◌}
 use Rattle.job.proofs.made_job.Statement.{statement}
 use Rattle.job.proofs.made_job.Tie as tie
 
-returns : tie.Need-returns
-returns c = rw (sym c.before.is-done.ensures ∙ c.if1.true)
+returns : tie.Need-returns-then-is_done
+returns c = rw (sym c.is_done.ensures ∙ c.if-is_done.true)
 
-returns-2 : tie.Need-returns-2
-returns-2 c = rw (sym c.before.before.is-done.ensures ∙ c.before.if1.false, c.no-job.ensures)
+returns-2 : tie.Need-returns-else-is_done
+returns-2 c = rw (sym c.is_done.ensures ∙ c.if-is_done.false, c.no_job-none.ensures)
 
-pub made-job-spec : {M : Type 1} → statement M
-made-job-spec = tie.close (tie.spec (λ c κs. tt) (λ c κs. tt) returns returns-2)
+pub made_job_spec : {M : Type 1} → statement M
+made_job_spec = tie.close (tie.spec (λ c κs. tt) (λ c κs. tt) returns returns-2)

@@ -5,7 +5,7 @@ use Rattle.job.proofs.make_gather_job.Tie as tie
 returns : tie.Need-returns
 returns c =
     let s : tie.Start = search in
-    simp (back s.fits.operand-offset, back s.fits.index-offset, back s.fits.dest-offset) at c.make-job.ensures
+    simp (back s.fits.operand-offset, back s.fits.index-offset, back s.fits.dest-offset) at c.make_job.ensures
 
-pub make-gather-job-spec : {M : Type 1} → statement M
-make-gather-job-spec = tie.close (tie.spec (λ c κs. tt) returns)
+pub make_gather_job_spec : {M : Type 1} → statement M
+make_gather_job_spec = tie.close (tie.spec (λ c κs. tt) returns)

@@ -7,5 +7,5 @@ returns : tie.Need-returns
 unfolding padded
 returns c = refl
 
-pub no-list-spec : {M : Type 1} → statement M
-no-list-spec = tie.close (tie.spec returns)
+pub no_list_spec : {M : Type 1} → statement M
+no_list_spec = tie.close (tie.spec returns)

@@ -2,9 +2,9 @@ use Rattle.job.proofs.no_spec.Statement.{statement}
 use Rattle.job.proofs.no_spec.Tie as tie
 
 returns : tie.Need-returns
-returns c = rw (c.before.before.before.no-list.ensures, c.before.before.no-list2.ensures, c.before.no-list3.ensures, c.no-list4.ensures)
+returns c = rw (c.no_list-window_dims.ensures, c.no_list-unit_dims.ensures, c.no_list-start_map.ensures, c.no_list-slice_sizes.ensures)
 
-pub no-spec-spec : {M : Type 1} → statement M
-no-spec-spec =
+pub no_spec_spec : {M : Type 1} → statement M
+no_spec_spec =
     tie.close
     (tie.spec (λ c κs. tt) (λ c κs. tt) (λ c κs. tt) (λ c κs. tt) returns)

@@ -7,5 +7,5 @@ returns : tie.Need-returns
 unfolding padded
 returns c = refl
 
-pub no-view-spec : {M : Type 1} → statement M
-no-view-spec = tie.close (tie.spec returns)
+pub no_view_spec : {M : Type 1} → statement M
+no_view_spec = tie.close (tie.spec returns)

@@ -4,47 +4,47 @@ use borrow.Author.Rules.{rules}
 use Rattle.job_bytes.proofs.put_number.Statement.{statement}
 use Rattle.job_bytes.proofs.put_number.Tie as tie
 
-abbrev invariant-loop : tie.invariant-loop
+abbrev invariant-loop : tie.invariant-loop-i
 invariant-loop out₀ at width value i₀ out i = Putting out₀ at width value out i
 
-abbrev decreases-loop : tie.decreases-loop
+abbrev decreases-loop : tie.decreases-loop-i
 decreases-loop out₀ at width value i₀ out i = width - i
 
-loop-holds : tie.Need-loop-init invariant-loop decreases-loop
+loop-holds : tie.Need-loop-i-init invariant-loop decreases-loop
 loop-holds c = none-put _ _ _ _
 
-sub-digit : tie.Need-overflow-sub-digit invariant-loop decreases-loop
+sub-digit : tie.Need-overflow_sub-width invariant-loop decreases-loop
 sub-digit c = search rules
 
-sub-digit-2 : tie.Need-overflow-sub-digit-2 invariant-loop decreases-loop
+sub-digit-2 : tie.Need-overflow_sub-width-in-loop-i invariant-loop decreases-loop
 sub-digit-2 c = search rules
 
 digit-requires : tie.Need-digit-requires invariant-loop decreases-loop
 digit-requires c κs = search rules
 
-add-out : tie.Need-overflow-add-out invariant-loop decreases-loop
+add-out : tie.Need-overflow_add-out invariant-loop decreases-loop
 add-out c = search rules
 
-slice-write-out : tie.Need-slice-write-out invariant-loop decreases-loop
+slice-write-out : tie.Need-bounds-out-at invariant-loop decreases-loop
 slice-write-out c = search rules
 
-add-i : tie.Need-overflow-add-i invariant-loop decreases-loop
+add-i : tie.Need-overflow_add-i invariant-loop decreases-loop
 add-i c = search rules
 
-loop-less : tie.Need-loop-smaller invariant-loop decreases-loop
+loop-less : tie.Need-loop-i-smaller invariant-loop decreases-loop
 loop-less c = search rules
 
-loop-again : tie.Need-loop-preserved invariant-loop decreases-loop
-loop-again c = one-put _ _ _ _ _ _ _ c.before.loop-test.true c.digit.ensures c.before.before.loop.invariant
+loop-again : tie.Need-loop-i-preserved invariant-loop decreases-loop
+loop-again c = one-put _ _ _ _ _ _ _ c.loop-i-test.true c.digit.ensures c.loop-i.invariant
 
-same_length : tie.Need-same-length invariant-loop decreases-loop
+same_length : tie.Need-shape_of-out invariant-loop decreases-loop
 same_length c = search rules
 
 returns : tie.Need-returns invariant-loop decreases-loop
-returns c = all-put _ _ _ _ _ _ c.loop-test.false c.before.loop.invariant
+returns c = all-put _ _ _ _ _ _ c.loop-i-test.false c.loop-i.invariant
 
-pub put-number-spec : {M : Type 1} → statement M
-put-number-spec =
+pub put_number_spec : {M : Type 1} → statement M
+put_number_spec =
     tie.close
     (tie.spec
     invariant-loop

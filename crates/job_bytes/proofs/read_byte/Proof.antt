@@ -6,30 +6,30 @@ use borrow.Author.Rules.{rules}
 use Rattle.job_bytes.proofs.read_byte.Statement.{statement}
 use Rattle.job_bytes.proofs.read_byte.Tie as tie
 
-read-number-requires : tie.Need-read-number-requires
+read-number-requires : tie.Need-read_number-byte-requires
 read-number-requires c κs = search rules
 
-returns : tie.Need-returns
-returns c = let f = number-fault _ _ c.before.before.read_number.ensures (not-true _ c.if1.true) in c.before.before.read_number.ensures ∙ ap held_number (f ∙ sym (byte-fault _ _ _ _ _ f))
+returns : tie.Need-returns-then-not-byte
+returns c = let f = number-fault _ _ c.read_number-byte.ensures (not-true _ c.if-not-byte.true) in c.read_number-byte.ensures ∙ ap held_number (f ∙ sym (byte-fault _ _ _ _ _ f))
 
-returns-2 : tie.Need-returns-2
-returns-2 c = c.no_number.ensures ∙ sym (ap held_number (byte_low _ _ _ _ _ _ (number_read _ _ c.before.before.before.before.before.read_number.ensures (not-false _ c.before.before.before.if1.false)) c.before.if2.true))
+returns-2 : tie.Need-returns-then-byte-low
+returns-2 c = c.no_number.ensures ∙ sym (ap held_number (byte_low _ _ _ _ _ _ (number_read _ _ c.read_number-byte.ensures (not-false _ c.if-not-byte.false)) c.if-byte-low.true))
 
-returns-3 : tie.Need-returns-3
+returns-3 : tie.Need-returns-then-high-byte
 returns-3 c =
-    let p3 = c.before.before.before in
-    let p5 = p3.before.before in
-    let p7 = p5.before.before in
-    c.no-number2.ensures ∙ sym (ap held_number (byte_high _ _ _ _ _ _ (number_read _ _ p7.read_number.ensures (not-false _ p5.if1.false)) p3.if2.false c.before.if3.true))
+    let p3 = c in
+    let p5 = p3 in
+    let p7 = p5 in
+    c.no_number-then-high-byte.ensures ∙ sym (ap held_number (byte_high _ _ _ _ _ _ (number_read _ _ p7.read_number-byte.ensures (not-false _ p5.if-not-byte.false)) p3.if-byte-low.false c.if-high-byte.true))
 
-returns-4 : tie.Need-returns-4
+returns-4 : tie.Need-returns
 returns-4 c =
-    let p4 = c.before.before.before.before in
-    let p6 = p4.before.before in
-    let f = number_read _ _ p6.read_number.ensures (not-false _ p4.if1.false) in p6.read_number.ensures ∙ ap held_number (f ∙ sym (byte-here _ _ _ _ _ _ f c.before.before.if2.false c.if3.false))
+    let p4 = c in
+    let p6 = p4 in
+    let f = number_read _ _ p6.read_number-byte.ensures (not-false _ p4.if-not-byte.false) in p6.read_number-byte.ensures ∙ ap held_number (f ∙ sym (byte-here _ _ _ _ _ _ f c.if-byte-low.false c.if-high-byte.false))
 
-pub read-byte-spec : {M : Type 1} → statement M
-read-byte-spec =
+pub read_byte_spec : {M : Type 1} → statement M
+read_byte_spec =
     tie.close
     (tie.spec
     read-number-requires

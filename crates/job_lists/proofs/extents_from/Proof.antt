@@ -7,23 +7,23 @@ use borrow.Author.Rules.{rules}
 use Rattle.job_lists.proofs.extents_from.Statement.{statement}
 use Rattle.job_lists.proofs.extents_from.Tie as tie
 
-sub-padded-extents : tie.Need-overflow-sub-padded-extents
+sub-padded-extents : tie.Need-slice_bounds-padded_extents-count
 sub-padded-extents c = search rules
 
-part-padded-extents-start : tie.Need-slice-bounds-padded-extents-start
+part-padded-extents-start : tie.Need-slice_bounds-padded_extents-start
 part-padded-extents-start c = search rules
 
-part-padded-extents-end : tie.Need-slice-bounds-padded-extents-end
+part-padded-extents-end : tie.Need-slice_bounds-padded_extents-end
 part-padded-extents-end c = search rules
 
 returns : tie.Need-returns
 returns c =
-    let a = c.before.before.before.args in
+    let a = c.args in
     let z : a.n - 0 ≡ a.n = omega arith in
-    c.padded-extents.ensures ∙ ap (λ (k : ℕ). padded rank_limit 1 (take k a.t1)) z
+    c.padded_extents.ensures ∙ ap (λ (k : ℕ). padded rank_limit 1 (take k a.t1)) z
 
-pub extents-from-spec : {M : Type 1} → statement M
-extents-from-spec =
+pub extents_from_spec : {M : Type 1} → statement M
+extents_from_spec =
     tie.close
     (tie.spec
     sub-padded-extents

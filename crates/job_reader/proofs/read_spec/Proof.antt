@@ -8,68 +8,68 @@ use borrow.Author.Rules.{rules}
 use Rattle.job_reader.proofs.read_spec.Statement.{statement}
 use Rattle.job_reader.proofs.read_spec.Tie as tie
 
-returns : tie.Need-returns
-returns c = let f1 = no-list _ _ c.before.before.before.read-list.ensures (not-true _ c.before.if1.true) in c.spec-fault.ensures ∙ sym (ap held_spec (spec-1 _ _ _ _ f1))
+returns : tie.Need-returns-then-not-a
+returns c = let f1 = no-list _ _ c.read_list-a.ensures (not-true _ c.if-not-a.true) in c.spec_fault.ensures ∙ sym (ap held_spec (spec-1 _ _ _ _ f1))
 
-returns-2 : tie.Need-returns-2
+returns-2 : tie.Need-returns-then-not-b
 returns-2 c =
-    let p3 = c.before.before.before in
-    let p4 = p3.before in
-    let p6 = p4.before.before in
-    let f1 = got-list _ _ p6.read-list.ensures (not-false _ p4.if1.false) in let f2 = no-list _ _ p3.read-list2.ensures (not-true _ c.before.if2.true) in c.spec-fault2.ensures ∙ sym (ap held_spec (spec-2 _ _ _ _ _ _ f1.is f2))
+    let p3 = c in
+    let p4 = p3 in
+    let p6 = p4 in
+    let f1 = got-list _ _ p6.read_list-a.ensures (not-false _ p4.if-not-a.false) in let f2 = no-list _ _ p3.read_list-b.ensures (not-true _ c.if-not-b.true) in c.spec_fault-then-not-b.ensures ∙ sym (ap held_spec (spec-2 _ _ _ _ _ _ f1.is f2))
 
-returns-3 : tie.Need-returns-3
+returns-3 : tie.Need-returns-then-not-c
 returns-3 c =
-    let p3 = c.before.before.before in
-    let p4 = p3.before in
-    let p6 = p4.before.before in
-    let p7 = p6.before in
-    let p9 = p7.before.before in
-    let f1 = got-list _ _ p9.read-list.ensures (not-false _ p7.if1.false) in let f2 = got-list _ _ p6.read-list2.ensures (not-false _ p4.if2.false) in let f3 = no-list _ _ p3.read-list3.ensures (not-true _ c.before.if3.true) in c.spec-fault3.ensures ∙ sym (ap held_spec (spec-3 _ _ _ _ _ _ _ _ f1.is f2.is f3))
+    let p3 = c in
+    let p4 = p3 in
+    let p6 = p4 in
+    let p7 = p6 in
+    let p9 = p7 in
+    let f1 = got-list _ _ p9.read_list-a.ensures (not-false _ p7.if-not-a.false) in let f2 = got-list _ _ p6.read_list-b.ensures (not-false _ p4.if-not-b.false) in let f3 = no-list _ _ p3.read_list-c.ensures (not-true _ c.if-not-c.true) in c.spec_fault-then-not-c.ensures ∙ sym (ap held_spec (spec-3 _ _ _ _ _ _ _ _ f1.is f2.is f3))
 
-read-number-requires : tie.Need-read-number-requires
+read-number-requires : tie.Need-read_number-vector-requires
 read-number-requires c κs = search rules
 
-returns-4 : tie.Need-returns-4
+returns-4 : tie.Need-returns-then-not-vector
 returns-4 c =
-    let p3 = c.before.before.before in
-    let p4 = p3.before in
-    let p6 = p4.before.before in
-    let p7 = p6.before in
-    let p9 = p7.before.before in
-    let p10 = p9.before in
-    let p12 = p10.before.before in
-    let f1 = got-list _ _ p12.read-list.ensures (not-false _ p10.if1.false) in let f2 = got-list _ _ p9.read-list2.ensures (not-false _ p7.if2.false) in let f3 = got-list _ _ p6.read-list3.ensures (not-false _ p4.if3.false) in let f4 = number-fault _ _ p3.read_number.ensures (not-true _ c.before.if4.true) in c.spec-fault4.ensures ∙ sym (ap held_spec (spec-4 _ _ _ _ _ _ _ _ _ _ f1.is f2.is f3.is f4))
+    let p3 = c in
+    let p4 = p3 in
+    let p6 = p4 in
+    let p7 = p6 in
+    let p9 = p7 in
+    let p10 = p9 in
+    let p12 = p10 in
+    let f1 = got-list _ _ p12.read_list-a.ensures (not-false _ p10.if-not-a.false) in let f2 = got-list _ _ p9.read_list-b.ensures (not-false _ p7.if-not-b.false) in let f3 = got-list _ _ p6.read_list-c.ensures (not-false _ p4.if-not-c.false) in let f4 = number-fault _ _ p3.read_number-vector.ensures (not-true _ c.if-not-vector.true) in c.spec_fault-then-not-vector.ensures ∙ sym (ap held_spec (spec-4 _ _ _ _ _ _ _ _ _ _ f1.is f2.is f3.is f4))
 
-returns-5 : tie.Need-returns-5
+returns-5 : tie.Need-returns-then-not-d
 returns-5 c =
-    let p3 = c.before.before.before in
-    let p4 = p3.before in
-    let p6 = p4.before.before in
-    let p7 = p6.before in
-    let p9 = p7.before.before in
-    let p10 = p9.before in
-    let p12 = p10.before.before in
-    let p13 = p12.before in
-    let p15 = p13.before.before in
-    let f1 = got-list _ _ p15.read-list.ensures (not-false _ p13.if1.false) in let f2 = got-list _ _ p12.read-list2.ensures (not-false _ p10.if2.false) in let f3 = got-list _ _ p9.read-list3.ensures (not-false _ p7.if3.false) in let f4 = number_read _ _ p6.read_number.ensures (not-false _ p4.if4.false) in let f5 = no-list _ _ p3.read-sizes.ensures (not-true _ c.before.if5.true) in c.spec-fault5.ensures ∙ sym (ap held_spec (spec-5 _ _ _ _ _ _ _ _ _ _ _ _ f1.is f2.is f3.is f4 f5))
+    let p3 = c in
+    let p4 = p3 in
+    let p6 = p4 in
+    let p7 = p6 in
+    let p9 = p7 in
+    let p10 = p9 in
+    let p12 = p10 in
+    let p13 = p12 in
+    let p15 = p13 in
+    let f1 = got-list _ _ p15.read_list-a.ensures (not-false _ p13.if-not-a.false) in let f2 = got-list _ _ p12.read_list-b.ensures (not-false _ p10.if-not-b.false) in let f3 = got-list _ _ p9.read_list-c.ensures (not-false _ p7.if-not-c.false) in let f4 = number_read _ _ p6.read_number-vector.ensures (not-false _ p4.if-not-vector.false) in let f5 = no-list _ _ p3.read_sizes-d.ensures (not-true _ c.if-not-d.true) in c.spec_fault-then-not-d.ensures ∙ sym (ap held_spec (spec-5 _ _ _ _ _ _ _ _ _ _ _ _ f1.is f2.is f3.is f4 f5))
 
-returns-6 : tie.Need-returns-6
+returns-6 : tie.Need-returns
 returns-6 c =
-    let p4 = c.before.before.before.before in
-    let p6 = p4.before.before in
-    let p7 = p6.before in
-    let p9 = p7.before.before in
-    let p10 = p9.before in
-    let p12 = p10.before.before in
-    let p13 = p12.before in
-    let p15 = p13.before.before in
-    let p16 = p15.before in
-    let p18 = p16.before.before in
-    let f1 = got-list _ _ p18.read-list.ensures (not-false _ p16.if1.false) in let f2 = got-list _ _ p15.read-list2.ensures (not-false _ p13.if2.false) in let f3 = got-list _ _ p12.read-list3.ensures (not-false _ p10.if3.false) in let f4 = number_read _ _ p9.read_number.ensures (not-false _ p7.if4.false) in let f5 = got-list _ _ p6.read-sizes.ensures (not-false _ p4.if5.false) in spec-held _ _ _ _ _ _ _ _ _ _ f1.held f2.held f3.held f5.held ∙ sym (ap held_spec (spec-6 _ _ _ _ _ _ _ _ _ _ _ _ _ f1.is f2.is f3.is f4 f5.is))
+    let p4 = c in
+    let p6 = p4 in
+    let p7 = p6 in
+    let p9 = p7 in
+    let p10 = p9 in
+    let p12 = p10 in
+    let p13 = p12 in
+    let p15 = p13 in
+    let p16 = p15 in
+    let p18 = p16 in
+    let f1 = got-list _ _ p18.read_list-a.ensures (not-false _ p16.if-not-a.false) in let f2 = got-list _ _ p15.read_list-b.ensures (not-false _ p13.if-not-b.false) in let f3 = got-list _ _ p12.read_list-c.ensures (not-false _ p10.if-not-c.false) in let f4 = number_read _ _ p9.read_number-vector.ensures (not-false _ p7.if-not-vector.false) in let f5 = got-list _ _ p6.read_sizes-d.ensures (not-false _ p4.if-not-d.false) in spec-held _ _ _ _ _ _ _ _ _ _ f1.held f2.held f3.held f5.held ∙ sym (ap held_spec (spec-6 _ _ _ _ _ _ _ _ _ _ _ _ _ f1.is f2.is f3.is f4 f5.is))
 
-pub read-spec-spec : {M : Type 1} → statement M
-read-spec-spec =
+pub read_spec_spec : {M : Type 1} → statement M
+read_spec_spec =
     tie.close
     (tie.spec
     (λ c κs. tt)

@@ -6,37 +6,37 @@ use Rattle.job_reader.proofs.Chains.{views-1, views-2, views-3, views-4}
 use Rattle.job_reader.proofs.read_views.Statement.{statement}
 use Rattle.job_reader.proofs.read_views.Tie as tie
 
-returns : tie.Need-returns
-returns c = c.views-fault.ensures ∙ sym (ap held_views (views-1 _ _ _ (no-view _ _ c.before.before.before.read_view.ensures (not-true _ c.before.if1.true))))
+returns : tie.Need-returns-then-not-a
+returns c = c.views_fault.ensures ∙ sym (ap held_views (views-1 _ _ _ (no-view _ _ c.read_view-a.ensures (not-true _ c.if-not-a.true))))
 
-returns-2 : tie.Need-returns-2
+returns-2 : tie.Need-returns-then-not-b
 returns-2 c =
-    let p3 = c.before.before.before in
-    let p4 = p3.before in
-    let p6 = p4.before.before in
-    c.views-fault2.ensures ∙ sym (ap held_views (views-2 _ _ _ _ _ (got-view _ _ p6.read_view.ensures (not-false _ p4.if1.false)) (no-view _ _ p3.read-view2.ensures (not-true _ c.before.if2.true))))
+    let p3 = c in
+    let p4 = p3 in
+    let p6 = p4 in
+    c.views_fault-then-not-b.ensures ∙ sym (ap held_views (views-2 _ _ _ _ _ (got-view _ _ p6.read_view-a.ensures (not-false _ p4.if-not-a.false)) (no-view _ _ p3.read_view-b.ensures (not-true _ c.if-not-b.true))))
 
-returns-3 : tie.Need-returns-3
+returns-3 : tie.Need-returns-then-not-c
 returns-3 c =
-    let p3 = c.before.before.before in
-    let p4 = p3.before in
-    let p6 = p4.before.before in
-    let p7 = p6.before in
-    let p9 = p7.before.before in
-    c.views-fault3.ensures ∙ sym (ap held_views (views-3 _ _ _ _ _ _ _ (got-view _ _ p9.read_view.ensures (not-false _ p7.if1.false)) (got-view _ _ p6.read-view2.ensures (not-false _ p4.if2.false)) (no-view _ _ p3.read-view3.ensures (not-true _ c.before.if3.true))))
+    let p3 = c in
+    let p4 = p3 in
+    let p6 = p4 in
+    let p7 = p6 in
+    let p9 = p7 in
+    c.views_fault-then-not-c.ensures ∙ sym (ap held_views (views-3 _ _ _ _ _ _ _ (got-view _ _ p9.read_view-a.ensures (not-false _ p7.if-not-a.false)) (got-view _ _ p6.read_view-b.ensures (not-false _ p4.if-not-b.false)) (no-view _ _ p3.read_view-c.ensures (not-true _ c.if-not-c.true))))
 
-returns-4 : tie.Need-returns-4
+returns-4 : tie.Need-returns
 returns-4 c =
-    let p3 = c.before.before.before in
-    let p5 = p3.before.before in
-    let p6 = p5.before in
-    let p8 = p6.before.before in
-    let p9 = p8.before in
-    let p11 = p9.before.before in
-    sym (ap held_views (views-4 _ _ _ _ _ _ _ _ (got-view _ _ p11.read_view.ensures (not-false _ p9.if1.false)) (got-view _ _ p8.read-view2.ensures (not-false _ p6.if2.false)) (got-view _ _ p5.read-view3.ensures (not-false _ p3.if3.false))))
+    let p3 = c in
+    let p5 = p3 in
+    let p6 = p5 in
+    let p8 = p6 in
+    let p9 = p8 in
+    let p11 = p9 in
+    sym (ap held_views (views-4 _ _ _ _ _ _ _ _ (got-view _ _ p11.read_view-a.ensures (not-false _ p9.if-not-a.false)) (got-view _ _ p8.read_view-b.ensures (not-false _ p6.if-not-b.false)) (got-view _ _ p5.read_view-c.ensures (not-false _ p3.if-not-c.false))))
 
-pub read-views-spec : {M : Type 1} → statement M
-read-views-spec =
+pub read_views_spec : {M : Type 1} → statement M
+read_views_spec =
     tie.close
     (tie.spec
     (λ c κs. tt)

@@ -15,7 +15,7 @@ sizes = 9 ∷ 25 ∷ 41 ∷ 57 ∷ 73 ∷ 89 ∷ 105 ∷ 121 ∷ 137 ∷ []
 right : ℕ → ℕ → Bool
 right k x = eqb x (9 + 16 * k)
 
-mul-result : tie.Need-overflow-mul-result
+mul-result : tie.Need-offset_bounds-rank
 mul-result c = search rules
 
 array-read-result : tie.Need-array-read-result
@@ -25,5 +25,5 @@ returns : tie.Need-returns
 unfolding sizes right
 returns c = eqb→eq (get_or sizes c.args.rank 0) (9 + 16 * c.args.rank) (at right sizes tt c.args.rank (search rules))
 
-pub layout-size-spec : {M : Type 1} → statement M
-layout-size-spec = tie.close (tie.spec mul-result array-read-result returns)
+pub layout_size_spec : {M : Type 1} → statement M
+layout_size_spec = tie.close (tie.spec mul-result array-read-result returns)

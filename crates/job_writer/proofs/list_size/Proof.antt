@@ -7,14 +7,14 @@ use borrow.Author.Rules.{rules}
 use Rattle.job_writer.proofs.list_size.Statement.{statement}
 use Rattle.job_writer.proofs.list_size.Tie as tie
 
-mul-result : tie.Need-overflow-mul-result
+mul-result : tie.Need-overflow_mul-result
 mul-result c = search rules
 
-add-result : tie.Need-overflow-add-result
+add-result : tie.Need-overflow_add-result
 add-result c = search rules
 
 returns : tie.Need-returns
-returns c = let s : length c.before.args.list.entries ≡ list_limit = search rules in record { is = omega (arith, length-list c.before.args.list s, c.list_count.ensures); most = omega (arith, c.list_count.ensures) }
+returns c = let s : length c.args.list.entries ≡ list_limit = search rules in record { is = omega (arith, length-list c.args.list s, c.list_count-n.ensures); most = omega (arith, c.list_count-n.ensures) }
 
-pub list-size-spec : {M : Type 1} → statement M
-list-size-spec = tie.close (tie.spec (λ c κs. tt) mul-result add-result returns)
+pub list_size_spec : {M : Type 1} → statement M
+list_size_spec = tie.close (tie.spec (λ c κs. tt) mul-result add-result returns)

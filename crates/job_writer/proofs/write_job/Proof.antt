@@ -5,20 +5,20 @@ use borrow.Author.Rules.{rules}
 use Rattle.job_writer.proofs.write_job.Statement.{statement}
 use Rattle.job_writer.proofs.write_job.Tie as tie
 
-returns : tie.Need-returns
+returns : tie.Need-returns-then-not-is_done
 returns c =
     let s : tie.Start = search in
-    refused-whole s.args.job s.args.out.now _ c.before.before.job-refusal.ensures (sym c.before.is-done.ensures ∙ not-true _ c.if1.true)
+    refused-whole s.args.job s.args.out.now _ c.job_refusal-refusal.ensures (sym c.is_done.ensures ∙ not-true _ c.if-not-is_done.true)
 
-same_length : tie.Need-same-length
+same_length : tie.Need-shape_of-out
 same_length c = search rules
 
-returns-2 : tie.Need-returns-2
+returns-2 : tie.Need-returns
 returns-2 c =
     let s : tie.Start = search in
-    put_whole s.args.job s.args.out.now _ c.before.before.before.before.before.before.job-refusal.ensures (sym c.before.before.before.before.before.is-done.ensures ∙ not-false _ c.before.before.before.before.if1.false) _ _ c.before.before.put-job.ensures
+    put_whole s.args.job s.args.out.now _ c.job_refusal-refusal.ensures (sym c.is_done.ensures ∙ not-false _ c.if-not-is_done.false) _ _ c.put_job.ensures
 
-pub write-job-spec : {M : Type 1} → statement M
-write-job-spec =
+pub write_job_spec : {M : Type 1} → statement M
+write_job_spec =
     tie.close
     (tie.spec (λ c κs. tt) (λ c κs. tt) returns (λ c κs. tt) same_length returns-2)

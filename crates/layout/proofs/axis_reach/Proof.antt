@@ -11,10 +11,10 @@ use Rattle.layout.proofs.axis_reach.Tie as tie
 returns : tie.Need-returns
 unfolding reach_of
 returns c =
-    let s = c.before.before.before in
+    let s = c in
     let f = s.ranges.stride in
     c.scaled.ensures
-    ∙ ap₂ (λ (x : Checked) (t : ℤ). and_then x (λ m. checked (t *ℤ m))) (c.before.u64-to-i64.ensures ∙ ap (λ (n : ℕ). checked (pos n)) c.before.before.last-coordinate.ensures) (back f)
+    ∙ ap₂ (λ (x : Checked) (t : ℤ). and_then x (λ m. checked (t *ℤ m))) (c.u64_to_i64-last.ensures ∙ ap (λ (n : ℕ). checked (pos n)) c.last_coordinate-top.ensures) (back f)
 
-pub axis-reach-spec : {M : Type 1} → statement M
-axis-reach-spec = tie.close (tie.spec (λ c κs. tt) (λ c κs. tt) (λ c κs. tt) returns)
+pub axis_reach_spec : {M : Type 1} → statement M
+axis_reach_spec = tie.close (tie.spec (λ c κs. tt) (λ c κs. tt) (λ c κs. tt) returns)

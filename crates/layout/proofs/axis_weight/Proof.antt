@@ -7,9 +7,9 @@ use Rattle.layout.proofs.axis_weight.Statement.{statement}
 use Rattle.layout.proofs.axis_weight.Tie as tie
 
 returns : tie.Need-returns
-returns c = c.checked-mul-u64.ensures ∙ ap checked_u (ap₂ ◌*◌ (c.before.before.magnitude-i64.ensures ∙ ap nat_abs (back c.before.before.before.ranges.stride)) c.before.last-coordinate.ensures)
+returns c = c.checked_mul_u64.ensures ∙ ap checked_u (ap₂ ◌*◌ (c.magnitude_i64-m.ensures ∙ ap nat_abs (back c.ranges.stride)) c.last_coordinate-last.ensures)
 
-pub axis-weight-spec : {M : Type 1} → statement M
-axis-weight-spec =
+pub axis_weight_spec : {M : Type 1} → statement M
+axis_weight_spec =
     tie.close
     (tie.spec (λ c κs. tt) (λ c κs. tt) (λ c κs. tt) returns)

@@ -10,12 +10,12 @@ use Rattle.layout.proofs.checked_offset_add.Tie as tie
 returns : tie.Need-returns
 unfolding offset_add
 returns c =
-    let s = c.before.before.before in
+    let s = c in
     c.added.ensures
     ∙ ap₂ (λ (x : Checked) (b : ℤ). and_then x (λ e. checked (b +ℤ e)))
-    (c.before.scaled.ensures ∙ ap₂ (λ (x : Checked) (t : ℤ). and_then x (λ m. checked (t *ℤ m))) c.before.before.u64-to-i64.ensures (back s.ranges.stride))
+    (c.scaled-term.ensures ∙ ap₂ (λ (x : Checked) (t : ℤ). and_then x (λ m. checked (t *ℤ m))) c.u64_to_i64-at.ensures (back s.ranges.stride))
     (back s.ranges.base)
 
-pub checked-offset-add-spec : {M : Type 1} → statement M
-checked-offset-add-spec =
+pub checked_offset_add_spec : {M : Type 1} → statement M
+checked_offset_add_spec =
     tie.close (tie.spec (λ c κs. tt) (λ c κs. tt) (λ c κs. tt) returns)

@@ -19,13 +19,13 @@ unfolding reset_of
 not-zero zero s h = absurd (h refl)
 not-zero (suc n) s h = refl
 
-returns : tie.Need-returns
-returns c = is_zero c.before.args.extent c.before.args.step c.if1.true
+returns : tie.Need-returns-then-extent-eq0
+returns c = is_zero c.args.extent c.args.step c.if-extent-eq0.true
 
-returns-2 : tie.Need-returns-2
+returns-2 : tie.Need-returns-else-extent-eq0
 returns-2 c =
-    let s = c.before.before.before in
-    c.negated.ensures ∙ ap (λ (x : Checked). and_then x (λ e. checked (neg_ℤ e))) (c.before.axis-reach.ensures ∙ ap (reach_of s.args.extent) (back s.ranges.step)) ∙ not-zero s.args.extent s.args.step c.before.before.if1.false
+    let s = c in
+    c.negated.ensures ∙ ap (λ (x : Checked). and_then x (λ e. checked (neg_ℤ e))) (c.axis_reach-far.ensures ∙ ap (reach_of s.args.extent) (back s.ranges.step)) ∙ not-zero s.args.extent s.args.step c.if-extent-eq0.false
 
-pub checked-replay-reset-spec : {M : Type 1} → statement M
-checked-replay-reset-spec = tie.close (tie.spec (λ c κs. tt) (λ c κs. tt) returns returns-2)
+pub checked_replay_reset_spec : {M : Type 1} → statement M
+checked_replay_reset_spec = tie.close (tie.spec (λ c κs. tt) (λ c κs. tt) returns returns-2)

@@ -5,20 +5,20 @@ use Rattle.layout.proofs.First.{first-refuses, second-refuses, both-pass}
 use Rattle.layout.proofs.make_layout.Statement.{statement}
 use Rattle.layout.proofs.make_layout.Tie as tie
 
-returns : tie.Need-returns
+returns : tie.Need-returns-then-not-is_done
 unfolding layout_from
-returns c = c.refused-layout.ensures ∙ first-refuses _ _ c.before.before.before.check-stride-length.ensures c.before.before.is-done.ensures (not-true _ c.before.if1.true)
+returns c = c.refused_layout.ensures ∙ first-refuses _ _ c.check_stride_length-lengths.ensures c.is_done.ensures (not-true _ c.if-not-is_done.true)
 
-returns-2 : tie.Need-returns-2
+returns-2 : tie.Need-returns-then-not-is_done-2
 unfolding layout_from
-returns-2 c = c.refused-layout2.ensures ∙ second-refuses _ c.before.before.before.before.before.before.check-stride-length.ensures c.before.before.before.before.before.is-done.ensures (not-false _ c.before.before.before.before.if1.false) c.before.before.before.check-rank.ensures c.before.before.is-done2.ensures (not-true _ c.before.if2.true)
+returns-2 c = c.refused_layout-then-not-is_done-2.ensures ∙ second-refuses _ c.check_stride_length-lengths.ensures c.is_done.ensures (not-false _ c.if-not-is_done.false) c.check_rank-limit.ensures c.is_done-2.ensures (not-true _ c.if-not-is_done-2.true)
 
-returns-3 : tie.Need-returns-3
+returns-3 : tie.Need-returns
 unfolding layout_from
-returns-3 c = rw (c.before.padded-extents.ensures, c.padded-strides.ensures) (both-pass _ c.before.before.before.before.before.before.before.check-stride-length.ensures c.before.before.before.before.before.before.is-done.ensures (not-false _ c.before.before.before.before.before.if1.false) c.before.before.before.before.check-rank.ensures c.before.before.before.is-done2.ensures (not-false _ c.before.before.if2.false))
+returns-3 c = rw (c.padded_extents-e.ensures, c.padded_strides-s.ensures) (both-pass _ c.check_stride_length-lengths.ensures c.is_done.ensures (not-false _ c.if-not-is_done.false) c.check_rank-limit.ensures c.is_done-2.ensures (not-false _ c.if-not-is_done-2.false))
 
-pub make-layout-spec : {M : Type 1} → statement M
-make-layout-spec =
+pub make_layout_spec : {M : Type 1} → statement M
+make_layout_spec =
     tie.close
     (tie.spec
     (λ c κs. tt)

@@ -8,20 +8,20 @@ use Rattle.integer.specs.Defs.{checked}
 use Rattle.layout.proofs.negated.Statement.{statement}
 use Rattle.layout.proofs.negated.Tie as tie
 
-enum-known-x : tie.Need-enum-known-x
+enum-known-x : tie.Need-enum_known-x
 enum-known-x c = search rules
 
-enum_told : tie.Need-enum-told
+enum_told : tie.Need-enum_told-1
 enum_told c = search rules
 
-returns : tie.Need-returns
+returns : tie.Need-returns-in-Fits
 returns c =
-    let z : SFits w64 c.before.before.x.given.0.0 = sfits_of c.before.known-told.given.0.1 in
-    rw c.before.before.x.given.1 (c.checked-neg-i64.ensures ∙ ap (λ (t : ℤ). checked (neg_ℤ t)) (back z))
+    let z : SFits w64 c.in-Fits.e = sfits_of c.known_told-1.given.0.1 in
+    rw c.in-Fits.is (c.checked_neg_i64.ensures ∙ ap (λ (t : ℤ). checked (neg_ℤ t)) (back z))
 
-returns-2 : tie.Need-returns-2
+returns-2 : tie.Need-returns-in-Overflow
 returns-2 c = search rules
 
-pub negated-spec : {M : Type 1} → statement M
-negated-spec =
+pub negated_spec : {M : Type 1} → statement M
+negated_spec =
     tie.close (tie.spec enum-known-x (λ c κs. tt) enum_told returns returns-2)

@@ -29,36 +29,36 @@ never : (low high : ℤ) (d : ℕ) (s : ℤ) → reach_of d s ≡ C.Overflow →
 unfolding widened
 never low high d s r = rw r
 
-enum-known-far : tie.Need-enum-known-far
+enum-known-far : tie.Need-enum_known-far
 enum-known-far c = search rules
 
-enum_told : tie.Need-enum-told
+enum_told : tie.Need-enum_told-1
 enum_told c = search rules
 
-returns : tie.Need-returns
+returns : tie.Need-returns-then-e-lt0
 returns c =
-    let k = c.before.before.before in
-    let s = k.before.before.before.before in
-    let e = k.before.far.given.0.0 in
-    let z : SFits w64 e = sfits_of k.known-told.given.0.1 in
-    c.with-low.ensures
-    ∙ ap₂ (λ (x : Checked) (h : ℤ). span_of x (λ l. S.Fits l h)) (c.before.checked-add-i64.ensures ∙ ap checked (ap₂ ◌+ℤ◌ (back s.ranges.low) (back z))) (back s.ranges.high)
-    ∙ below s.args.low s.args.high s.args.extent s.args.stride e (sym (k.before.before.before.axis-reach.ensures ∙ ap (reach_of s.args.extent) (back s.ranges.stride)) ∙ k.before.far.given.1) (is_neg-yes e (less z (sfits_lit {z = pos 0} tt) c.before.before.if1.true))
+    let k = c in
+    let s = k in
+    let e = k.in-Fits.e in
+    let z : SFits w64 e = sfits_of k.known_told-1.given.0.1 in
+    c.with_low.ensures
+    ∙ ap₂ (λ (x : Checked) (h : ℤ). span_of x (λ l. S.Fits l h)) (c.checked_add_i64-sum.ensures ∙ ap checked (ap₂ ◌+ℤ◌ (back s.ranges.low) (back z))) (back s.ranges.high)
+    ∙ below s.args.low s.args.high s.args.extent s.args.stride e (sym (k.axis_reach-far.ensures ∙ ap (reach_of s.args.extent) (back s.ranges.stride)) ∙ k.in-Fits.is) (is_neg-yes e (less z (sfits_lit {z = pos 0} tt) c.if-e-lt0.true))
 
-returns-2 : tie.Need-returns-2
+returns-2 : tie.Need-returns-else-e-lt0
 returns-2 c =
-    let k = c.before.before.before in
-    let s = k.before.before.before.before in
-    let e = k.before.far.given.0.0 in
-    let z : SFits w64 e = sfits_of k.known-told.given.0.1 in
-    c.with-high.ensures
-    ∙ ap₂ (λ (x : Checked) (t : ℤ). span_of x (λ h. S.Fits t h)) (c.before.checked-add-i642.ensures ∙ ap checked (ap₂ ◌+ℤ◌ (back s.ranges.high) (back z))) (back s.ranges.low)
-    ∙ above s.args.low s.args.high s.args.extent s.args.stride e (sym (k.before.before.before.axis-reach.ensures ∙ ap (reach_of s.args.extent) (back s.ranges.stride)) ∙ k.before.far.given.1) (is_neg-no e (not-less z (sfits_lit {z = pos 0} tt) c.before.before.if1.false))
+    let k = c in
+    let s = k in
+    let e = k.in-Fits.e in
+    let z : SFits w64 e = sfits_of k.known_told-1.given.0.1 in
+    c.with_high.ensures
+    ∙ ap₂ (λ (x : Checked) (t : ℤ). span_of x (λ h. S.Fits t h)) (c.checked_add_i64-sum-else-e-lt0.ensures ∙ ap checked (ap₂ ◌+ℤ◌ (back s.ranges.high) (back z))) (back s.ranges.low)
+    ∙ above s.args.low s.args.high s.args.extent s.args.stride e (sym (k.axis_reach-far.ensures ∙ ap (reach_of s.args.extent) (back s.ranges.stride)) ∙ k.in-Fits.is) (is_neg-no e (not-less z (sfits_lit {z = pos 0} tt) c.if-e-lt0.false))
 
-returns-3 : tie.Need-returns-3
+returns-3 : tie.Need-returns-in-Overflow
 returns-3 c =
-    let s = c.before.before.before in
-    never s.args.low s.args.high s.args.extent s.args.stride (sym (c.before.before.axis-reach.ensures ∙ ap (reach_of s.args.extent) (back s.ranges.stride)) ∙ c.enum_told.given.1)
+    let s = c in
+    never s.args.low s.args.high s.args.extent s.args.stride (sym (c.axis_reach-far.ensures ∙ ap (reach_of s.args.extent) (back s.ranges.stride)) ∙ c.in-Overflow.is)
 
 pub widen_spec : {M : Type 1} → statement M
 widen_spec =

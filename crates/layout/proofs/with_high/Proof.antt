@@ -7,19 +7,19 @@ use Rattle.layout.specs.declared.OffsetSpan.TheVariants as S
 use Rattle.layout.proofs.with_high.Statement.{statement}
 use Rattle.layout.proofs.with_high.Tie as tie
 
-enum-known-x : tie.Need-enum-known-x
+enum-known-x : tie.Need-enum_known-x
 enum-known-x c = search rules
 
-enum_told : tie.Need-enum-told
+enum_told : tie.Need-enum_told-1
 enum_told c = search rules
 
-returns : tie.Need-returns
+returns : tie.Need-returns-in-Fits
 returns c =
-    let z : SFits w64 c.before.x.given.0.0 = sfits_of c.known-told.given.0.1 in
-    rw c.before.x.given.1 (ap₂ S.Fits (back c.before.before.before.ranges.low) (back z))
+    let z : SFits w64 c.in-Fits.h = sfits_of c.known_told-1.given.0.1 in
+    rw c.in-Fits.is (ap₂ S.Fits (back c.ranges.low) (back z))
 
-returns-2 : tie.Need-returns-2
+returns-2 : tie.Need-returns-in-Overflow
 returns-2 c = search rules
 
-pub with-high-spec : {M : Type 1} → statement M
-with-high-spec = tie.close (tie.spec enum-known-x enum_told returns returns-2)
+pub with_high_spec : {M : Type 1} → statement M
+with_high_spec = tie.close (tie.spec enum-known-x enum_told returns returns-2)

@@ -4,11 +4,11 @@ use Rattle.calls.proofs.Same.{extents-same}
 use Rattle.operand_checks.proofs.check_extents.Statement.{statement}
 use Rattle.operand_checks.proofs.check_extents.Tie as tie
 
-returns : tie.Need-returns
-returns c = rw (← extents-same c.before.same-extents.ensures, c.if1.true)
+returns : tie.Need-returns-then-same_extents
+returns c = rw (← extents-same c.same_extents.ensures, c.if-same_extents.true)
 
-returns-2 : tie.Need-returns-2
-returns-2 c = let s : tie.After-same-extents = search in let e : tie.Else1 = search in rw (← extents-same s.same-extents.ensures, e.if1.left)
+returns-2 : tie.Need-returns-else-same_extents
+returns-2 c = let s : tie.After-same_extents = search in let e : tie.Else-same_extents = search in rw (← extents-same s.same-extents.ensures, e.if1.left)
 
-pub check-extents-spec : {M : Type 1} → statement M
-check-extents-spec = tie.close (tie.spec (λ c κs. tt) returns returns-2)
+pub check_extents_spec : {M : Type 1} → statement M
+check_extents_spec = tie.close (tie.spec (λ c κs. tt) returns returns-2)

@@ -7,14 +7,14 @@ use Rattle.operand_checks.proofs.Sizes.{or_assoc}
 use Rattle.operand_checks.proofs.check_numbers.Statement.{statement}
 use Rattle.operand_checks.proofs.check_numbers.Tie as tie
 
-check-spans-requires : tie.Need-check-spans-requires
+check-spans-requires : tie.Need-check_spans-spans-requires
 check-spans-requires c κs = let s : tie.Start = search in s.pre
 
 returns : tie.Need-returns
 returns c =
     let s : tie.Start = search in
-    let e : tie.After-check-spans = search in
-    let p : tie.After-check-products = search in
+    let e : tie.After-check_spans-spans = search in
+    let p : tie.After-check_products-products = search in
     let a = total_fits (total_of s.args.operand.now) in
     let b = total_fits (total_of s.args.index.now) in
     let d = total_fits (total_of s.args.updates.now) in
@@ -22,5 +22,5 @@ returns c =
     c.or_else.ensures ∙ ap (λ (x : Answer). or_else x r) p.check-products.ensures ∙ or_assoc a (or_else b d) r ∙ ap (or_else a) (or_assoc b d r)
     ∙ ap (λ (x : Answer). or_else a (or_else b (or_else d x))) e.check-spans.ensures
 
-pub check-numbers-spec : {M : Type 1} → statement M
-check-numbers-spec = tie.close (tie.spec (λ c κs. tt) check-spans-requires (λ c κs. tt) returns)
+pub check_numbers_spec : {M : Type 1} → statement M
+check_numbers_spec = tie.close (tie.spec (λ c κs. tt) check-spans-requires (λ c κs. tt) returns)

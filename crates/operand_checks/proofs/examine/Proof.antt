@@ -9,24 +9,24 @@ use Rattle.operand_checks.proofs.Sizes.{sized, examined-on}
 use Rattle.operand_checks.proofs.examine.Statement.{statement}
 use Rattle.operand_checks.proofs.examine.Tie as tie
 
-returns : tie.Need-returns
+returns : tie.Need-returns-then-not-is_done
 returns c =
     let e = c.unexamined.ensures in
-    let f = c.before.before.is-done.ensures in
-    let g = not-true _ c.before.if1.true in
-    record { answered = e ∙ stops _ c.before.before.before.check-sizes.ensures f g; found = λ d. never (sym d ∙ ap is_done e ∙ sym f ∙ g) }
+    let f = c.is_done.ensures in
+    let g = not-true _ c.if-not-is_done.true in
+    record { answered = e ∙ stops _ c.check_sizes-sizes.ensures f g; found = λ d. never (sym d ∙ ap is_done e ∙ sym f ∙ g) }
 
-check-nested-requires : tie.Need-check-nested-requires
-check-nested-requires c κs = (sized _ _ _ _ _ _ _ _ (ap is_done (sym c.before.before.check-sizes.ensures) ∙ sym c.before.is-done.ensures ∙ not-false _ c.if1.false)).dest
+check-nested-requires : tie.Need-check_nested-four-requires
+check-nested-requires c κs = (sized _ _ _ _ _ _ _ _ (ap is_done (sym c.check_sizes-sizes.ensures) ∙ sym c.is_done.ensures ∙ not-false _ c.if-not-is_done.false)).dest
 
-examine-from-requires : tie.Need-examine-from-requires
-examine-from-requires c κs = (sized _ _ _ _ _ _ _ _ (ap is_done (sym c.before.before.before.check-sizes.ensures) ∙ sym c.before.before.is-done.ensures ∙ not-false _ c.before.if1.false)).scatter
+examine-from-requires : tie.Need-examine_from-requires
+examine-from-requires c κs = (sized _ _ _ _ _ _ _ _ (ap is_done (sym c.check_sizes-sizes.ensures) ∙ sym c.is_done.ensures ∙ not-false _ c.if-not-is_done.false)).scatter
 
-returns-2 : tie.Need-returns-2
-returns-2 c = examined-on _ _ (ap is_done (sym c.before.before.before.before.check-sizes.ensures) ∙ sym c.before.before.before.is-done.ensures ∙ not-false _ c.before.before.if1.false) c.before.check-nested.ensures c.examine-from.ensures
+returns-2 : tie.Need-returns
+returns-2 c = examined-on _ _ (ap is_done (sym c.check_sizes-sizes.ensures) ∙ sym c.is_done.ensures ∙ not-false _ c.if-not-is_done.false) c.check_nested-four.ensures c.examine_from.ensures
 
-pub examine-spec : {M : Type 1} → statement M
-examine-spec =
+pub examine_spec : {M : Type 1} → statement M
+examine_spec =
     tie.close
     (tie.spec
     (λ c κs. tt)

@@ -9,83 +9,83 @@ use Rattle.operand_copy.proofs.copy_operand.Statement.{statement}
 use Rattle.operand_copy.proofs.copy_operand.Tie as tie
 
 -- the count, where it fits
-module _ (k : tie.After-known-told) where
+module _ (k : tie.In-Fits) where
   abbrev start : tie.Start
   start = search
 
   counted : product (take start.args.rank start.args.extents) ≡ k.before.total.given.0.0
-  counted = let t : tie.After-total-len = search in total-told _ t.total-len.result _ t.total-len.ensures k.before.total.given.1
+  counted = let t : tie.After-total_len-total = search in total-told _ t.total-len.result _ t.total-len.ensures k.before.total.given.1
 
-enum-known-total : tie.Need-enum-known-total
+enum-known-total : tie.Need-enum_known-total
 enum-known-total c = search rules
 
-returns : tie.Need-returns
+returns : tie.Need-returns-then-n-eq0
 returns c =
     let a = start c.before in
-    none_end _ a.args.s a.args.d a.args.extents a.args.ss a.args.ds a.args.rank a.args.src.now a.args.dst.now (counted c.before ∙ c.if1.true)
+    none_end _ a.args.s a.args.d a.args.extents a.args.ss a.args.ds a.args.rank a.args.src.now a.args.dst.now (counted c.before ∙ c.if-n-eq0.true)
 
-over-fused-requires : tie.Need-over-fused-requires
+over-fused-requires : tie.Need-over_fused-requires
 over-fused-requires c κs =
-    let k : tie.After-known-told = search in
+    let k : tie.In-Fits = search in
     let p : tie.After-pays = search in
-    let q : tie.Then2 = search in
-    let f : tie.After-copy-axes = search in
+    let q : tie.Then-pays = search in
+    let f : tie.After-copy_axes-f = search in
     let a = start k in
     cells-by _ _ _ _ _ _ a.fits.s a.fits.d _ _ _ refl refl refl _ _
     (chosen-cells _ _ _ _ _ _ _ _ a.pre (omega (arith, counted k)) (omega (arith, counted k, pays-few a.args.rank _ _ a.args.extents (sym p.pays.ensures ∙ q.if2.taken) (counted k))) _ f.copy-axes.ensures)
 
-same_length : tie.Need-same-length
+same_length : tie.Need-shape_of-dst-then-pays
 same_length c = search rules
 
-returns-2 : tie.Need-returns-2
+returns-2 : tie.Need-returns-then-pays
 returns-2 c =
-    let k : tie.After-known-told = search in
-    let f : tie.After-copy-axes = search in
-    let x : tie.After-over-fused = search in
+    let k : tie.In-Fits = search in
+    let f : tie.After-copy_axes-f = search in
+    let x : tie.After-over_fused = search in
     let a = start k in
     chosen-end _ a.args.s a.args.d a.args.extents a.args.ss a.args.ds a.args.rank a.args.src.now a.args.dst.now a.fits.s a.fits.d _ _ _ a.pre _ f.copy-axes.ensures x.over-fused.ensures
 
-over-axes-requires : tie.Need-over-axes-requires
+over-axes-requires : tie.Need-over_axes-requires
 over-axes-requires c κs =
-    let k : tie.After-known-told = search in
+    let k : tie.In-Fits = search in
     let p : tie.After-pays = search in
-    let q : tie.Else2 = search in
+    let q : tie.Else-pays = search in
     let a = start k in
     cells-by _ _ _ _ _ _ a.fits.s a.fits.d _ _ _ refl refl refl _ _
     (given-cells _ _ _ _ _ _ _ _ a.pre (pays-not a.args.rank _ _ (sym p.pays.ensures ∙ q.if2.left)) (omega (arith, counted k)))
 
-enum_told : tie.Need-enum-told
+enum_told : tie.Need-enum_told-1
 enum_told c = search rules
 
-over-axes-requires-2 : tie.Need-over-axes-requires-2
+over-axes-requires-2 : tie.Need-over_axes-requires-in-Overflow
 over-axes-requires-2 c κs =
-    let t : tie.After-total-len = search in
-    let e : tie.After-enum-told = search in
+    let t : tie.After-total_len-total = search in
+    let e : tie.In-Overflow = search in
     let a : tie.Start = search in
     let m = total-many (take a.args.rank a.args.extents) t.total-len.result t.total-len.ensures e.enum_told.given.1 in
     cells-by _ _ _ _ _ _ a.fits.s a.fits.d _ _ _ refl refl refl _ _
     (given-cells _ _ _ _ _ _ _ _ a.pre (many-axes a.args.rank a.args.extents (omega arith)) (omega arith))
 
-same-length-2 : tie.Need-same-length-2
+same-length-2 : tie.Need-shape_of-dst-else-pays
 same-length-2 c = search rules
 
-returns-3 : tie.Need-returns-3
+returns-3 : tie.Need-returns-else-pays
 returns-3 c =
     let a : tie.Start = search in
-    let x : tie.After-over-axes = search in
+    let x : tie.After-over_axes = search in
     given-end _ a.args.s a.args.d a.args.extents a.args.ss a.args.ds a.args.rank a.args.src.now a.args.dst.now a.fits.s a.fits.d _ x.over-axes.ensures
 
-same-length-3 : tie.Need-same-length-3
+same-length-3 : tie.Need-shape_of-dst-in-Overflow
 same-length-3 c = search rules
 
-returns-4 : tie.Need-returns-4
+returns-4 : tie.Need-returns-in-Overflow
 returns-4 c =
     let a : tie.Start = search in
-    let x : tie.After-over-axes2 = search in
+    let x : tie.After-over_axes-in-Overflow = search in
     given-end _ a.args.s a.args.d a.args.extents a.args.ss a.args.ds a.args.rank a.args.src.now a.args.dst.now a.fits.s a.fits.d _ x.over-axes2.ensures
 
-pub copy-operand-spec : {M : Type 1} → statement M
-copy-operand-spec =
+pub copy_operand_spec : {M : Type 1} → statement M
+copy_operand_spec =
     tie.close
     (tie.spec
     (λ c κs. tt)

@@ -7,16 +7,16 @@ use borrow.Author.Rules.{rules}
 use Rattle.operand_copy.proofs.over_axes.Statement.{statement}
 use Rattle.operand_copy.proofs.over_axes.Tie as tie
 
-run-axis-requires : tie.Need-run-axis-requires
+run-axis-requires : tie.Need-run_axis-low-requires
 run-axis-requires c κs = search rules
 
 axes-requires : tie.Need-axes-requires
 axes-requires c κs =
     let a : tie.Start = search in
-    let l : tie.After-run-axis = search in
+    let l : tie.After-run_axis-low = search in
     cells-level _ _ _ _ _ _ a.fits.s a.fits.d _ _ _ a.pre l.run-axis.ensures
 
-same_length : tie.Need-same-length
+same_length : tie.Need-shape_of-dst
 same_length c = search rules
 
 returns : tie.Need-returns
@@ -25,5 +25,5 @@ returns c =
     let x : tie.After-axes = search in
     left_by _ _ a.args.t3 a.args.t4 a.args.t5 a.args.rank a.fits.s a.fits.d _ _ _ refl refl refl (pos 0) (rule_i32 R.Replace) a.args.src.now a.args.dst.now _ x.axes.ensures
 
-pub over-axes-spec : {M : Type 1} → statement M
-over-axes-spec = tie.close (tie.spec run-axis-requires axes-requires same_length returns)
+pub over_axes_spec : {M : Type 1} → statement M
+over_axes_spec = tie.close (tie.spec run-axis-requires axes-requires same_length returns)

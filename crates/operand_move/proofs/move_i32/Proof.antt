@@ -22,53 +22,53 @@ offsets : (s : tie.Start) → SFits w64 s.args.c.offset × SFits w64 s.args.p.de
 offsets s = (search rules, search rules)
 
 -- where the answer is not a refusal
-module _ (e : tie.Else1) where
+module _ (e : tie.Else-not-is_done) where
   abbrev start : tie.Start
   start = search
 
   ready : is_done start.args.p.answer ≡ true
   ready =
-      let d : tie.After-is-done = search in
+      let d : tie.After-is_done = search in
       sym d.is-done.ensures ∙ not-false _ e.if1.left
 
-returns : tie.Need-returns
+returns : tie.Need-returns-then-not-is_done
 returns c =
-    let d : tie.After-is-done = search in
-    let t : tie.Then1 = search in
-    λ k. refused (sym d.is-done.ensures ∙ not-true _ t.if1.taken) c.refused-call.ensures
+    let d : tie.After-is_done = search in
+    let t : tie.Then-not-is_done = search in
+    λ k. refused (sym d.is-done.ensures ∙ not-true _ t.if1.taken) c.refused_call.ensures
 
-copy-operand-requires : tie.Need-copy-operand-requires
+copy-operand-requires : tie.Need-copy_operand-requires
 copy-operand-requires c κs =
-    let e : tie.Else1 = search in
+    let e : tie.Else-not-is_done = search in
     let s : tie.Start = search in
     let k = s.pre in
     copy-window s.args.p s.args.c k.operand k.scatter _ _ _ _ (k.ready (ready e)) (k.copy (ready e)) (offsets s).0 (offsets s).1
 
-move-i32-requires : tie.Need-move-i32-requires
+move-i32-requires : tie.Need-move_i32-requires
 move-i32-requires c κs =
-    let e : tie.Else1 = search in
-    let o : tie.After-copy-operand = search in
+    let e : tie.Else-not-is_done = search in
+    let o : tie.After-copy_operand = search in
     let s : tie.Start = search in
     let k = s.pre in
     let q = o.copy-operand.ensures ∙ copy-leaves s.args.p s.args.c k.operand k.scatter _ _ _ _ (k.ready (ready e)) (k.copy (ready e)) (pos 0) s.args.operand.now s.args.into.now (offsets s).0 (offsets s).1 in
     moving _ (ap length q ∙ length-copied (pos 0) k.operand k.scatter.result s.args.operand.now s.args.into.now) k
 
-same_length : tie.Need-same-length
+same_length : tie.Need-shape_of-into
 same_length c = search rules
 
-returns-2 : tie.Need-returns-2
+returns-2 : tie.Need-returns
 returns-2 c =
-    let e : tie.Else1 = search in
-    let o : tie.After-copy-operand = search in
-    let m : tie.After-move-i32 = search in
+    let e : tie.Else-not-is_done = search in
+    let o : tie.After-copy_operand = search in
+    let m : tie.After-move_i32 = search in
     let s : tie.Start = search in
     λ k.
     let q = o.copy-operand.ensures ∙ copy-leaves s.args.p s.args.c k.operand k.scatter _ _ _ _ (k.ready (ready e)) (k.copy (ready e)) (pos 0) s.args.operand.now s.args.into.now (offsets s).0 (offsets s).1 in
     moved_on s.args.p.answer (slid_scatter k.scatter s.args.starts.now) (scattered (rule_i32 s.args.rule) (pos 0) k.scatter s.args.starts.now s.args.source.now) s.args.into.now _ (operand_copied (pos 0) k.operand k.scatter.result s.args.operand.now s.args.into.now) _ _ (ready e) q
     (m.move-i32.ensures (moving _ (ap length q ∙ length-copied (pos 0) k.operand k.scatter.result s.args.operand.now s.args.into.now) k))
 
-pub move-i32-spec : {M : Type 1} → statement M
-move-i32-spec =
+pub move_i32_spec : {M : Type 1} → statement M
+move_i32_spec =
     tie.close
     (tie.spec
     (λ c κs. tt)

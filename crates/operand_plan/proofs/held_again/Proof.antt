@@ -13,43 +13,43 @@ use Rattle.operand_plan.proofs.held_again.Tie as tie
 lengths : (s : tie.Start) → (length s.args.l.extents ≡ rank_limit) × (length s.args.l.strides ≡ rank_limit)
 lengths s = (search rules, search rules)
 
-sub-padded-numbers : tie.Need-overflow-sub-padded-numbers
+sub-padded-numbers : tie.Need-slice_bounds-padded_numbers-count
 sub-padded-numbers c = search rules
 
-part-padded-numbers-start : tie.Need-slice-bounds-padded-numbers-start
+part-padded-numbers-start : tie.Need-slice_bounds-padded_numbers-start
 part-padded-numbers-start c = search rules
 
-part-padded-numbers-end : tie.Need-slice-bounds-padded-numbers-end
+part-padded-numbers-end : tie.Need-slice_bounds-padded_numbers-end
 part-padded-numbers-end c =
     let s : tie.Start = search in
-    let a : tie.After-axis-count = search in
+    let a : tie.After-axis_count-n = search in
     part-fits a.axis-count.result s.args.l.rank s.args.l.extents a.axis-count.ensures (lengths s).0
 
-sub-padded-strides : tie.Need-overflow-sub-padded-strides
+sub-padded-strides : tie.Need-slice_bounds-padded_strides-count
 sub-padded-strides c = search rules
 
-part-padded-strides-start : tie.Need-slice-bounds-padded-strides-start
+part-padded-strides-start : tie.Need-slice_bounds-padded_strides-start
 part-padded-strides-start c = search rules
 
-part-padded-strides-end : tie.Need-slice-bounds-padded-strides-end
+part-padded-strides-end : tie.Need-slice_bounds-padded_strides-end
 part-padded-strides-end c =
     let s : tie.Start = search in
-    let a : tie.After-axis-count = search in
+    let a : tie.After-axis_count-n = search in
     part-fits a.axis-count.result s.args.l.rank s.args.l.strides a.axis-count.ensures (lengths s).1
 
 returns : tie.Need-returns
 returns c =
     let s : tie.Start = search in
-    let a : tie.After-axis-count = search in
-    let x : tie.After-padded-numbers = search in
-    let y : tie.After-padded-strides = search in
+    let a : tie.After-axis_count-n = search in
+    let x : tie.After-padded_numbers-es = search in
+    let y : tie.After-padded_strides-ss = search in
     let r : a.axis-count.result ≡ _ = a.axis-count.ensures ∙ sym (length-take s.args.l.rank s.args.l.extents ∙ omega (arith, (lengths s).0)) in
     let e = x.padded-numbers.ensures ∙ ap (λ (l : List ℕ). padded rank_limit 1 l) (part-read a.axis-count.result s.args.l.rank s.args.l.extents a.axis-count.ensures (lengths s).0) in
     let f = y.padded-strides.ensures ∙ ap (λ (l : List ℤ). padded rank_limit (pos 0) l) (part-read a.axis-count.result s.args.l.rank s.args.l.strides a.axis-count.ensures (lengths s).1) in
     λ i. record { rank = r i; extents = e i; strides = f i }
 
-pub held-again-spec : {M : Type 1} → statement M
-held-again-spec =
+pub held_again_spec : {M : Type 1} → statement M
+held_again_spec =
     tie.close
     (tie.spec
     (λ c κs. tt)

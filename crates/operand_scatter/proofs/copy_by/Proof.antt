@@ -7,5 +7,5 @@ use Rattle.operand_scatter.proofs.copy_by.Tie as tie
 returns : tie.Need-returns
 returns c = let s : tie.Start = search in ap (copy_by s.args.plan) (back s.fits.offset)
 
-pub copy-by-spec : {M : Type 1} → statement M
-copy-by-spec = tie.close (tie.spec returns)
+pub copy_by_spec : {M : Type 1} → statement M
+copy_by_spec = tie.close (tie.spec returns)

@@ -26,23 +26,23 @@ copied : (s : tie.Start) → is_done (call_answer s.args.plan s.args.batch-rows 
     → copy_by s.args.plan s.args.operand.offset ≡ copy_of (view_of s.args.operand) (scatter_of s.args.plan.scatter s.args.index s.args.updates s.args.dest)
 copied s = copy_is s.args.plan s.args.batch-rows s.args.window-rows s.args.operand s.args.index s.args.updates s.args.dest _ _ _ _
 
-move-i32-requires : tie.Need-move-i32-requires
+move-i32-requires : tie.Need-move_i32-requires
 move-i32-requires c κs =
-    let k : tie.After-copy-by = search in
-    let p : tie.After-prepare = search in
+    let k : tie.After-copy_by-c = search in
+    let p : tie.After-prepare-p = search in
     let s : tie.Start = search in
     movable p.prepare.ensures (λ d. k.copy-by.ensures ∙ ap (copy_by s.args.plan) (back (fits s)) ∙ copied s d)
 
-same_length : tie.Need-same-length
+same_length : tie.Need-shape_of-into
 same_length c = search rules
 
 returns : tie.Need-returns
 returns c =
-    let m : tie.After-move-i32 = search in
-    let k : tie.After-copy-by = search in
-    let p : tie.After-prepare = search in
+    let m : tie.After-move_i32 = search in
+    let k : tie.After-copy_by-c = search in
+    let p : tie.After-prepare-p = search in
     let s : tie.Start = search in
     by_answer p.prepare.ensures.answered (m.move-i32.ensures (movable p.prepare.ensures (λ d. k.copy-by.ensures ∙ ap (copy_by s.args.plan) (back (fits s)) ∙ copied s d)))
 
-pub scatter-i32-spec : {M : Type 1} → statement M
-scatter-i32-spec = tie.close (tie.spec (λ c κs. tt) (λ c κs. tt) move-i32-requires same_length returns)
+pub scatter_i32_spec : {M : Type 1} → statement M
+scatter_i32_spec = tie.close (tie.spec (λ c κs. tt) (λ c κs. tt) move-i32-requires same_length returns)

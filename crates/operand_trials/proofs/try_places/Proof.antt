@@ -3,35 +3,35 @@ use native.Mathlib.Omega.{arith}
 use Rattle.operand_trials.proofs.try_places.Statement.{statement}
 use Rattle.operand_trials.proofs.try_places.Tie as tie
 
-abbrev invariant-loop : tie.invariant-loop
+abbrev invariant-loop : tie.invariant-loop-i
 invariant-loop compiled change places counted₀ i₀ counted i = Unit {0}
 
-abbrev decreases-loop : tie.decreases-loop
+abbrev decreases-loop : tie.decreases-loop-i
 decreases-loop compiled change places counted₀ i₀ counted i = places - i
 
-none-requires : tie.Need-none-requires invariant-loop decreases-loop
+none-requires : tie.Need-none-counted-requires invariant-loop decreases-loop
 none-requires c κs = tt
 
-loop-holds : tie.Need-loop-init invariant-loop decreases-loop
+loop-holds : tie.Need-loop-i-init invariant-loop decreases-loop
 loop-holds c = tt
 
-try-place-requires : tie.Need-try-place-requires invariant-loop decreases-loop
+try-place-requires : tie.Need-try_place-counted-requires invariant-loop decreases-loop
 try-place-requires c κs = tt
 
-add-i : tie.Need-overflow-add-i invariant-loop decreases-loop
+add-i : tie.Need-overflow_add-i invariant-loop decreases-loop
 add-i c = omega arith
 
-loop-less : tie.Need-loop-smaller invariant-loop decreases-loop
+loop-less : tie.Need-loop-i-smaller invariant-loop decreases-loop
 loop-less c = omega arith
 
-loop-again : tie.Need-loop-preserved invariant-loop decreases-loop
+loop-again : tie.Need-loop-i-preserved invariant-loop decreases-loop
 loop-again c = tt
 
 returns : tie.Need-returns invariant-loop decreases-loop
 returns c = tt
 
-pub try-places-spec : {M : Type 1} → statement M
-try-places-spec =
+pub try_places_spec : {M : Type 1} → statement M
+try_places_spec =
     tie.close
     (tie.spec
     invariant-loop

@@ -4,24 +4,24 @@ use Rattle.order.proofs.Operands.{in-either-order-on}
 use Rattle.order.proofs.either_order_on.Statement.{statement}
 use Rattle.order.proofs.either_order_on.Tie as tie
 
-same_length : tie.Need-same-length
+same_length : tie.Need-shape_of-one
 same_length c = search rules
 
-same-length-2 : tie.Need-same-length-2
+same-length-2 : tie.Need-shape_of-other
 same-length-2 c = search rules
 
 returns : tie.Need-returns
 returns c =
-    let a : tie.After-scatter-on = search in
-    let b : tie.After-updates-by = search in
-    let d : tie.After-scatter-on2 = search in
-    let e : tie.After-updates-by2 = search in
+    let a : tie.After-scatter_on-north_first = search in
+    let b : tie.After-updates_by-south_second = search in
+    let d : tie.After-scatter_on-south_first = search in
+    let e : tie.After-updates_by-north_second = search in
     let s : tie.Start = search in
     in-either-order-on as_is _ _ _ _ _ _ _ s.args.one.now s.args.other.now _ _ _ _ _ _ _ _
     a.scatter-on.ensures b.updates-by.ensures d.scatter-on2.ensures e.updates-by2.ensures
 
-pub either-order-on-spec : {M : Type 1} → statement M
-either-order-on-spec =
+pub either_order_on_spec : {M : Type 1} → statement M
+either_order_on_spec =
     tie.close
     (tie.spec
     (λ c κs. tt)

@@ -4,47 +4,47 @@ use lib.ListN.{length}
 use Rattle.printing.proofs.put_strides.Statement.{statement}
 use Rattle.printing.proofs.put_strides.Tie as tie
 
-abbrev invariant-loop : tie.invariant-loop
+abbrev invariant-loop : tie.invariant-loop-i
 invariant-loop strides i₀ i = i ≤ length strides
 
-abbrev decreases-loop : tie.decreases-loop
+abbrev decreases-loop : tie.decreases-loop-i
 decreases-loop strides i₀ i = length strides - i
 
-open-list-requires : tie.Need-open-list-requires invariant-loop decreases-loop
+open-list-requires : tie.Need-open_list-requires invariant-loop decreases-loop
 open-list-requires c κs = tt
 
-loop-holds : tie.Need-loop-init invariant-loop decreases-loop
+loop-holds : tie.Need-loop-i-init invariant-loop decreases-loop
 loop-holds c = search rules
 
 separate-requires : tie.Need-separate-requires invariant-loop decreases-loop
 separate-requires c κs = tt
 
-mul-put-i64 : tie.Need-overflow-mul-put-i64 invariant-loop decreases-loop
+mul-put-i64 : tie.Need-offset_bounds-strides-i invariant-loop decreases-loop
 mul-put-i64 c = search rules
 
-shared-slice-copy-out-put-i64 : tie.Need-shared-slice-copy-out-put-i64 invariant-loop decreases-loop
+shared-slice-copy-out-put-i64 : tie.Need-bounds-strides-i invariant-loop decreases-loop
 shared-slice-copy-out-put-i64 c = search rules
 
-put-i64-requires : tie.Need-put-i64-requires invariant-loop decreases-loop
+put-i64-requires : tie.Need-put_i64-requires invariant-loop decreases-loop
 put-i64-requires c κs = tt
 
-add-i : tie.Need-overflow-add-i invariant-loop decreases-loop
+add-i : tie.Need-overflow_add-i invariant-loop decreases-loop
 add-i c = search rules
 
-loop-less : tie.Need-loop-smaller invariant-loop decreases-loop
+loop-less : tie.Need-loop-i-smaller invariant-loop decreases-loop
 loop-less c = search rules
 
-loop-again : tie.Need-loop-preserved invariant-loop decreases-loop
+loop-again : tie.Need-loop-i-preserved invariant-loop decreases-loop
 loop-again c = search rules
 
-close-list-requires : tie.Need-close-list-requires invariant-loop decreases-loop
+close-list-requires : tie.Need-close_list-requires invariant-loop decreases-loop
 close-list-requires c κs = tt
 
 returns : tie.Need-returns invariant-loop decreases-loop
 returns c = search rules
 
-pub put-strides-spec : {M : Type 1} → statement M
-put-strides-spec =
+pub put_strides_spec : {M : Type 1} → statement M
+put_strides_spec =
     tie.close
     (tie.spec
     invariant-loop

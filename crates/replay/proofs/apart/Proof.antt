@@ -8,8 +8,8 @@ use Rattle.replay.proofs.apart.Tie as tie
 
 returns : tie.Need-returns
 returns c =
-    let s = c.before.before in
-    c.as-apart.ensures ∙ ap as_apart (c.before.make-axis.ensures ∙ ap₂ (λ (x y : ℤ). checked_axis (axis_of s.args.extent x y)) (back s.ranges.source) (back s.ranges.dest))
+    let s = c in
+    c.as_apart.ensures ∙ ap as_apart (c.make_axis-a.ensures ∙ ap₂ (λ (x y : ℤ). checked_axis (axis_of s.args.extent x y)) (back s.ranges.source) (back s.ranges.dest))
 
-pub apart-spec : {M : Type 1} → statement M
-apart-spec = tie.close (tie.spec (λ c κs. tt) (λ c κs. tt) returns)
+pub apart_spec : {M : Type 1} → statement M
+apart_spec = tie.close (tie.spec (λ c κs. tt) (λ c κs. tt) returns)

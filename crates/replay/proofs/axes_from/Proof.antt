@@ -16,78 +16,78 @@ use Rattle.replay.proofs.Rows.{axis_at}
 use Rattle.replay.proofs.axes_from.Statement.{statement}
 use Rattle.replay.proofs.axes_from.Tie as tie
 
-abbrev invariant-loop : tie.invariant-loop
+abbrev invariant-loop : tie.invariant-loop-i
 invariant-loop extents rows out₀ i₀ out i = (i ≤ rank_limit) × (out ≡ filled rank_limit no_axis (axes_from extents rows) i)
 
-abbrev decreases-loop : tie.decreases-loop
+abbrev decreases-loop : tie.decreases-loop-i
 decreases-loop extents rows out₀ i₀ out i = rank_limit - i
 
-no-axis-requires : tie.Need-no-axis-requires invariant-loop decreases-loop
+no-axis-requires : tie.Need-no_axis-empty-requires invariant-loop decreases-loop
 no-axis-requires c κs = tt
 
-loop-holds : tie.Need-loop-init invariant-loop decreases-loop
-loop-holds c = (zero-le, ap (replicate rank_limit) c.no-axis.ensures)
+loop-holds : tie.Need-loop-i-init invariant-loop decreases-loop
+loop-holds c = (zero-le, ap (replicate rank_limit) c.no_axis-empty.ensures)
 
-mul-row : tie.Need-overflow-mul-row invariant-loop decreases-loop
+mul-row : tie.Need-offset_bounds-rows-i invariant-loop decreases-loop
 mul-row c = search rules
 
-array-copy-out-row : tie.Need-array-copy-out-row invariant-loop decreases-loop
+array-copy-out-row : tie.Need-bounds-rows-i invariant-loop decreases-loop
 array-copy-out-row c = search rules
 
-mul-extent : tie.Need-overflow-mul-extent invariant-loop decreases-loop
+mul-extent : tie.Need-offset_bounds-extents-i invariant-loop decreases-loop
 mul-extent c = search rules
 
-array-read-extent : tie.Need-array-read-extent invariant-loop decreases-loop
+array-read-extent : tie.Need-bounds-extents-i invariant-loop decreases-loop
 array-read-extent c = search rules
 
-array-copy-out-source-step : tie.Need-array-copy-out-source-step invariant-loop decreases-loop
+array-copy-out-source-step : tie.Need-bounds-row-0 invariant-loop decreases-loop
 array-copy-out-source-step c = search rules
 
-array-copy-out-source-reset : tie.Need-array-copy-out-source-reset invariant-loop decreases-loop
+array-copy-out-source-reset : tie.Need-bounds-row-1 invariant-loop decreases-loop
 array-copy-out-source-reset c = search rules
 
-array-copy-out-dest-step : tie.Need-array-copy-out-dest-step invariant-loop decreases-loop
+array-copy-out-dest-step : tie.Need-bounds-row-2 invariant-loop decreases-loop
 array-copy-out-dest-step c = search rules
 
-array-copy-out-dest-reset : tie.Need-array-copy-out-dest-reset invariant-loop decreases-loop
+array-copy-out-dest-reset : tie.Need-bounds-row-3 invariant-loop decreases-loop
 array-copy-out-dest-reset c = search rules
 
-mul-out : tie.Need-overflow-mul-out invariant-loop decreases-loop
+mul-out : tie.Need-offset_bounds-out-i invariant-loop decreases-loop
 mul-out c = search rules
 
-array-set-from-out : tie.Need-array-set-from-out invariant-loop decreases-loop
+array-set-from-out : tie.Need-bounds-out-i invariant-loop decreases-loop
 array-set-from-out c = search rules
 
-add-i : tie.Need-overflow-add-i invariant-loop decreases-loop
+add-i : tie.Need-overflow_add-i invariant-loop decreases-loop
 add-i c = search rules
 
-loop-less : tie.Need-loop-smaller invariant-loop decreases-loop
+loop-less : tie.Need-loop-i-smaller invariant-loop decreases-loop
 loop-less c = search rules
 
-loop-again : tie.Need-loop-preserved invariant-loop decreases-loop
+loop-again : tie.Need-loop-i-preserved invariant-loop decreases-loop
 loop-again c =
-    let l = c.before.before.before.before.before.before in
-    let s = l.before.before in
-    let i = l.loop.i in
+    let l = c in
+    let s = l in
+    let i = l.loop-i.i in
     let es = s.args.t1 in
     let rows = s.args.t2 in
     let row = get_or rows i [] in
-    let h = c.before.before.before.before.before.loop-test.true in
+    let h = c.loop-i-test.true in
     let k = length-tabulate rank_limit (axis_at es rows) in
-    let f0 : SFits w64 (get_or row 0 (pos 0)) = sfits_of c.before.before.before.source-step.given in
-    let f1 : SFits w64 (get_or row 1 (pos 0)) = sfits_of c.before.before.source-reset.given in
-    let f2 : SFits w64 (get_or row 2 (pos 0)) = sfits_of c.before.dest-step.given in
-    let f3 : SFits w64 (get_or row 3 (pos 0)) = sfits_of c.dest-reset.given in
-    (omega (arith, h), fill_one rank_limit no_axis no_axis (axes_from es rows) l.loop.out i _ (omega arith) (omega (arith, k)) l.loop.invariant.1 ((λ ι. the_axis (get_or es i 0) (back f0 ι) (back f1 ι) (back f2 ι) (back f3 ι)) ∙ sym (get_d_tabulate rank_limit (axis_at es rows) i no_axis (omega arith))))
+    let f0 : SFits w64 (get_or row 0 (pos 0)) = sfits_of c.source_step-1.given in
+    let f1 : SFits w64 (get_or row 1 (pos 0)) = sfits_of c.source_reset-1.given in
+    let f2 : SFits w64 (get_or row 2 (pos 0)) = sfits_of c.dest_step-1.given in
+    let f3 : SFits w64 (get_or row 3 (pos 0)) = sfits_of c.dest_reset-1.given in
+    (omega (arith, h), fill_one rank_limit no_axis no_axis (axes_from es rows) l.loop-i.out i _ (omega arith) (omega (arith, k)) l.loop-i.invariant.1 ((λ ι. the_axis (get_or es i 0) (back f0 ι) (back f1 ι) (back f2 ι) (back f3 ι)) ∙ sym (get_d_tabulate rank_limit (axis_at es rows) i no_axis (omega arith))))
 
 returns : tie.Need-returns invariant-loop decreases-loop
 returns c =
-    let l = c.before in
-    let s = l.before.before in
-    fill-all rank_limit no_axis (axes_from s.args.t1 s.args.t2) l.loop.out l.loop.i (length-tabulate rank_limit (axis_at s.args.t1 s.args.t2)) (omega arith) l.loop.invariant.1
+    let l = c in
+    let s = l in
+    fill-all rank_limit no_axis (axes_from s.args.t1 s.args.t2) l.loop-i.out l.loop-i.i (length-tabulate rank_limit (axis_at s.args.t1 s.args.t2)) (omega arith) l.loop-i.invariant.1
 
-pub axes-from-spec : {M : Type 1} → statement M
-axes-from-spec =
+pub axes_from_spec : {M : Type 1} → statement M
+axes_from_spec =
     tie.close
     (tie.spec
     invariant-loop

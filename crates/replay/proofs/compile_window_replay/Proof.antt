@@ -27,49 +27,49 @@ module _ (ds : List ℕ) (ss ts : List ℤ) (x y : OffsetSpan) (ex : x ≡ spann
   unfolding compiled_replay
   stops2 a b ox oy = rw (← ex, ox, ← ey, oy)
 
-enum-known-source-span : tie.Need-enum-known-source-span
+enum-known-source-span : tie.Need-enum_known-source_span
 enum-known-source-span c = search rules
 
-enum-known-dest-span : tie.Need-enum-known-dest-span
+enum-known-dest-span : tie.Need-enum_known-dest_span
 enum-known-dest-span c = search rules
 
-enum_told : tie.Need-enum-told
+enum_told : tie.Need-enum_told-1
 enum_told c = search rules
 
-enum-told-2 : tie.Need-enum-told-2
+enum-told-2 : tie.Need-enum_told-in-Overflow
 enum-told-2 c = search rules
 
-returns : tie.Need-returns
+returns : tie.Need-returns-in-Fits-dest_span
 returns c =
-    let u = c.before in
-    let k = u.before.before.before in
-    let v = k.before.before.before in
-    let s = v.before.before in
-    let x = k.before.source-span.given.0 in
-    let y = u.before.dest-span.given.0 in
-    let fa : SFits w64 x.0 = sfits_of k.known-told.given.0.1 in
-    let fb : SFits w64 x.1.0 = sfits_of k.known-told.given.1.0.1 in
-    let fc : SFits w64 y.0 = sfits_of u.known-told2.given.0.1 in
-    let fd : SFits w64 y.1.0 = sfits_of u.known-told2.given.1.0.1 in
+    let u = c in
+    let k = u in
+    let v = k in
+    let s = v in
+    let x = k.source_span-1.given.0 in
+    let y = u.dest_span-1.given.0 in
+    let fa : SFits w64 x.0 = sfits_of k.known_told-1.given.0.1 in
+    let fb : SFits w64 x.1.0 = sfits_of k.known_told-1.given.1.0.1 in
+    let fc : SFits w64 y.0 = sfits_of u.known_told-in-Fits-1.given.0.1 in
+    let fd : SFits w64 y.1.0 = sfits_of u.known_told-in-Fits-1.given.1.0.1 in
     c.fuse.ensures
     ∙ (λ ι. walk_of (given_axes (take s.args.rank s.args.shape) (take s.args.rank s.args.source-strides) (take s.args.rank s.args.dest-strides)) (the_spans (back fa ι) (back fb ι) (back fc ι) (back fd ι)))
-    ∙ passes (take s.args.rank s.args.shape) (take s.args.rank s.args.source-strides) (take s.args.rank s.args.dest-strides) v.before.held-span.result v.held-span2.result v.before.held-span.ensures v.held-span2.ensures x.0 x.1.0 y.0 y.1.0 k.before.source-span.given.1 u.before.dest-span.given.1
+    ∙ passes (take s.args.rank s.args.shape) (take s.args.rank s.args.source-strides) (take s.args.rank s.args.dest-strides) v.held_span-source_span.result v.held_span-dest_span.result v.held_span-source_span.ensures v.held_span-dest_span.ensures x.0 x.1.0 y.0 y.1.0 k.in-Fits.is u.in-Fits-dest_span.is
 
-returns-2 : tie.Need-returns-2
+returns-2 : tie.Need-returns-in-Overflow-dest_span
 returns-2 c =
-    let k = c.before.before.before in
-    let v = k.before.before.before in
-    let s = v.before.before in
-    c.refused-replay.ensures ∙ stops2 (take s.args.rank s.args.shape) (take s.args.rank s.args.source-strides) (take s.args.rank s.args.dest-strides) v.before.held-span.result v.held-span2.result v.before.held-span.ensures v.held-span2.ensures k.before.source-span.given.0.0 k.before.source-span.given.0.1.0 k.before.source-span.given.1 c.before.enum_told.given.1
+    let k = c in
+    let v = k in
+    let s = v in
+    c.refused_replay.ensures ∙ stops2 (take s.args.rank s.args.shape) (take s.args.rank s.args.source-strides) (take s.args.rank s.args.dest-strides) v.held_span-source_span.result v.held_span-dest_span.result v.held_span-source_span.ensures v.held_span-dest_span.ensures k.in-Fits.source_low k.in-Fits.source_high k.in-Fits.is c.in-Overflow-dest_span.is
 
-returns-3 : tie.Need-returns-3
+returns-3 : tie.Need-returns-in-Overflow
 returns-3 c =
-    let v = c.before.before.before in
-    let s = v.before.before in
-    c.refused-replay2.ensures ∙ stops (take s.args.rank s.args.shape) (take s.args.rank s.args.source-strides) (take s.args.rank s.args.dest-strides) v.before.held-span.result v.held-span2.result v.before.held-span.ensures v.held-span2.ensures c.before.enum-told2.given.1
+    let v = c in
+    let s = v in
+    c.refused_replay-in-Overflow.ensures ∙ stops (take s.args.rank s.args.shape) (take s.args.rank s.args.source-strides) (take s.args.rank s.args.dest-strides) v.held_span-source_span.result v.held_span-dest_span.result v.held_span-source_span.ensures v.held_span-dest_span.ensures c.in-Overflow.is
 
-pub compile-window-replay-spec : {M : Type 1} → statement M
-compile-window-replay-spec =
+pub compile_window_replay_spec : {M : Type 1} → statement M
+compile_window_replay_spec =
     tie.close
     (tie.spec
     (λ c κs. tt)

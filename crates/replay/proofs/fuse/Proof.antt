@@ -22,54 +22,54 @@ full s =
     let d : length s.args.t3 ≡ rank_limit = search rules in
     (a, b, d)
 
-some : (m : tie.After-make-axis) → 0 < m.before.before.before.before.args.rank
-some m = omega (arith, m.before.before.before.if1.false)
+some : (m : tie.After-make_axis-first) → 0 < m.args.rank
+some m = omega (arith, m.if-rank-eq0.false)
 
 -- what the call of `make_axis` returned, of the numbers themselves
-first-axis : (m : tie.After-make-axis) → m.make-axis.result ≡ checked_axis (axis_of (get_or m.before.before.before.before.args.t1 0 0) (get_or m.before.before.before.before.args.t2 0 (pos 0)) (get_or m.before.before.before.before.args.t3 0 (pos 0)))
+first-axis : (m : tie.After-make_axis-first) → m.make_axis-first.result ≡ checked_axis (axis_of (get_or m.args.t1 0 0) (get_or m.args.t2 0 (pos 0)) (get_or m.args.t3 0 (pos 0)))
 first-axis m =
-    let s = m.before.before.before.before in
+    let s = m in
     let f : SFits w64 (get_or s.args.t2 0 (pos 0)) = search rules in
     let g : SFits w64 (get_or s.args.t3 0 (pos 0)) = search rules in
-    m.make-axis.ensures ∙ ap₂ (λ (x y : ℤ). checked_axis (axis_of (get_or s.args.t1 0 0) x y)) (back f) (back g)
+    m.make_axis-first.ensures ∙ ap₂ (λ (x y : ℤ). checked_axis (axis_of (get_or s.args.t1 0 0) x y)) (back f) (back g)
 
-returns : tie.Need-returns
+returns : tie.Need-returns-then-rank-eq0
 returns c =
-    let s = c.before.before.before in
-    c.done-replay.ensures
-    ∙ ap (λ (x : WindowReplayAxis). done_replay 0 (replicate rank_limit x) s.args.spans) c.before.no-axis.ensures
-    ∙ fuse-none s.args.t1 s.args.t2 s.args.t3 s.args.rank c.before.before.if1.true s.args.spans
+    let s = c in
+    c.done_replay.ensures
+    ∙ ap (λ (x : WindowReplayAxis). done_replay 0 (replicate rank_limit x) s.args.spans) c.no_axis-empty.ensures
+    ∙ fuse-none s.args.t1 s.args.t2 s.args.t3 s.args.rank c.if-rank-eq0.true s.args.spans
 
-array-read-make-axis : tie.Need-array-read-make-axis
+array-read-make-axis : tie.Need-bounds-shape-0
 array-read-make-axis c = search rules
 
-array-copy-out-make-axis : tie.Need-array-copy-out-make-axis
+array-copy-out-make-axis : tie.Need-bounds-source_strides-0
 array-copy-out-make-axis c = search rules
 
-array-copy-out-make-axis-2 : tie.Need-array-copy-out-make-axis-2
+array-copy-out-make-axis-2 : tie.Need-bounds-dest_strides-0
 array-copy-out-make-axis-2 c = search rules
 
-enum-known-first : tie.Need-enum-known-first
+enum-known-first : tie.Need-enum_known-first
 enum-known-first c = search rules
 
-enum_told : tie.Need-enum-told
+enum_told : tie.Need-enum_told-1
 enum_told c = search rules
 
-returns-2 : tie.Need-returns-2
+returns-2 : tie.Need-returns-in-Fits
 returns-2 c =
-    let k = c.before.before in
-    let m = k.before.before in
-    let s = m.before.before.before.before in
-    c.fuse-rest.ensures ∙ first_fits s.args.t1 s.args.t2 s.args.t3 s.args.rank (full s).0 (full s).1 (full s).2 (some m) m.make-axis.result (first-axis m) s.args.spans k.first.given.0.0 k.first.given.1
+    let k = c in
+    let m = k in
+    let s = m in
+    c.fuse_rest.ensures ∙ first_fits s.args.t1 s.args.t2 s.args.t3 s.args.rank (full s.before.before.before.before.before.before.before.before).0 (full s.before.before.before.before.before.before.before.before).1 (full s.before.before.before.before.before.before.before.before).2 (some m.before.before.before.before) m.make_axis-first.result (first-axis m.before.before.before.before) s.args.spans k.in-Fits.axis k.in-Fits.is
 
-returns-3 : tie.Need-returns-3
+returns-3 : tie.Need-returns-in-Overflow
 returns-3 c =
-    let m = c.before.before.before in
-    let s = m.before.before.before.before in
-    c.refused-replay.ensures ∙ first-over s.args.t1 s.args.t2 s.args.t3 s.args.rank (full s).0 (full s).1 (full s).2 (some m) m.make-axis.result (first-axis m) s.args.spans c.before.enum_told.given.1
+    let m = c in
+    let s = m in
+    c.refused_replay.ensures ∙ first-over s.args.t1 s.args.t2 s.args.t3 s.args.rank (full s.before.before.before.before.before.before.before).0 (full s.before.before.before.before.before.before.before).1 (full s.before.before.before.before.before.before.before).2 (some m.before.before.before) m.make_axis-first.result (first-axis m.before.before.before) s.args.spans c.in-Overflow.is
 
-pub fuse-spec : {M : Type 1} → statement M
-fuse-spec =
+pub fuse_spec : {M : Type 1} → statement M
+fuse_spec =
     tie.close
     (tie.spec
     (λ c κs. tt)

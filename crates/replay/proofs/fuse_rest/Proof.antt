@@ -15,18 +15,18 @@ use Rattle.replay.proofs.Turns.{Fusing, fusing-first, fusing-over, fusing-merged
 use Rattle.replay.proofs.fuse_rest.Statement.{statement}
 use Rattle.replay.proofs.fuse_rest.Tie as tie
 
-abbrev invariant-loop : tie.invariant-loop
+abbrev invariant-loop : tie.invariant-loop-i
 invariant-loop rank spans shape source-strides dest-strides count axes₀ last₀ n₀ i₀ axes last n i = Fusing shape source-strides dest-strides rank last₀ axes last n i
 
-abbrev decreases-loop : tie.decreases-loop
+abbrev decreases-loop : tie.decreases-loop-i
 decreases-loop rank spans shape source-strides dest-strides count axes₀ last₀ n₀ i₀ axes last n i = count - i
 
-abbrev start : (l : tie.At-loop invariant-loop decreases-loop) → tie.Start invariant-loop decreases-loop
+abbrev start : (l : tie.At-loop-i invariant-loop decreases-loop) → tie.Start invariant-loop decreases-loop
 start l = l.before.before.before
 
 -- how many axes count
-counted : (l : tie.At-loop invariant-loop decreases-loop) → l.before.before.axis-count.result ≡ min (start l).args.rank rank_limit
-counted l = l.before.before.axis-count.ensures
+counted : (l : tie.At-loop-i invariant-loop decreases-loop) → l.axis_count-count.result ≡ min (start l).args.rank rank_limit
+counted l = l.axis_count-count.ensures
 
 full : (s : tie.Start invariant-loop decreases-loop) → (length s.args.t2 ≡ rank_limit) × (length s.args.t3 ≡ rank_limit) × (length s.args.t4 ≡ rank_limit)
 full s =
@@ -36,122 +36,122 @@ full s =
     (a, b, d)
 
 -- what the call of `join` returned, of the numbers themselves
-joined : (j : tie.After-join invariant-loop decreases-loop) → j.join.result ≡ joined_axis j.before.before.before.before.loop.last (axis_of (get_or (start j.before.before.before.before).args.t2 j.before.before.before.before.loop.i 0) (get_or (start j.before.before.before.before).args.t3 j.before.before.before.before.loop.i (pos 0)) (get_or (start j.before.before.before.before).args.t4 j.before.before.before.before.loop.i (pos 0)))
+joined : (j : tie.After-join-joined invariant-loop decreases-loop) → j.join-joined.result ≡ joined_axis j.loop-i.last (axis_of (get_or (start j.before.before.before.before).args.t2 j.loop-i.i 0) (get_or (start j.before.before.before.before).args.t3 j.loop-i.i (pos 0)) (get_or (start j.before.before.before.before).args.t4 j.loop-i.i (pos 0)))
 joined j =
-    let l = j.before.before.before.before in
-    let s = start l in
-    let i = l.loop.i in
+    let l = j in
+    let s = start l.before.before.before.before in
+    let i = l.loop-i.i in
     let f : SFits w64 (get_or s.args.t3 i (pos 0)) = search rules in
     let g : SFits w64 (get_or s.args.t4 i (pos 0)) = search rules in
-    j.join.ensures ∙ ap₂ (λ (x y : ℤ). joined_axis l.loop.last (axis_of (get_or s.args.t2 i 0) x y)) (back f) (back g)
+    j.join-joined.ensures ∙ ap₂ (λ (x y : ℤ). joined_axis l.loop-i.last (axis_of (get_or s.args.t2 i 0) x y)) (back f) (back g)
 
-here : (j : tie.After-join invariant-loop decreases-loop) → j.before.before.before.before.loop.i < min (start j.before.before.before.before).args.rank rank_limit
-here j = omega (arith, counted j.before.before.before.before, j.before.before.before.loop-test.true)
+here : (j : tie.After-join-joined invariant-loop decreases-loop) → j.loop-i.i < min (start j.before.before.before.before).args.rank rank_limit
+here j = omega (arith, counted j.before.before.before.before, j.loop-i-test.true)
 
-axis-count-requires : tie.Need-axis-count-requires invariant-loop decreases-loop
+axis-count-requires : tie.Need-axis_count-count-requires invariant-loop decreases-loop
 axis-count-requires c κs = tt
 
-no-axis-requires : tie.Need-no-axis-requires invariant-loop decreases-loop
+no-axis-requires : tie.Need-no_axis-empty-requires invariant-loop decreases-loop
 no-axis-requires c κs = tt
 
-loop-holds : tie.Need-loop-init invariant-loop decreases-loop
+loop-holds : tie.Need-loop-i-init invariant-loop decreases-loop
 loop-holds c =
-    let s = c.before.before in
-    subst (λ (z : WindowReplayAxis). Fusing s.args.t2 s.args.t3 s.args.t4 s.args.rank s.args.first (replicate rank_limit z) s.args.first 0 1) (sym c.no-axis.ensures)
+    let s = c in
+    subst (λ (z : WindowReplayAxis). Fusing s.args.t2 s.args.t3 s.args.t4 s.args.rank s.args.first (replicate rank_limit z) s.args.first 0 1) (sym c.no_axis-empty.ensures)
     (fusing-first s.args.t2 s.args.t3 s.args.t4 s.args.rank s.args.first)
 
-mul-join : tie.Need-overflow-mul-join invariant-loop decreases-loop
+mul-join : tie.Need-offset_bounds-shape-i invariant-loop decreases-loop
 mul-join c = search rules
 
-array-read-join : tie.Need-array-read-join invariant-loop decreases-loop
+array-read-join : tie.Need-bounds-shape-i invariant-loop decreases-loop
 array-read-join c = search rules
 
-mul-join-2 : tie.Need-overflow-mul-join-2 invariant-loop decreases-loop
+mul-join-2 : tie.Need-offset_bounds-source_strides-i invariant-loop decreases-loop
 mul-join-2 c = search rules
 
-array-copy-out-join : tie.Need-array-copy-out-join invariant-loop decreases-loop
+array-copy-out-join : tie.Need-bounds-source_strides-i invariant-loop decreases-loop
 array-copy-out-join c = search rules
 
-mul-join-3 : tie.Need-overflow-mul-join-3 invariant-loop decreases-loop
+mul-join-3 : tie.Need-offset_bounds-dest_strides-i invariant-loop decreases-loop
 mul-join-3 c = search rules
 
-array-copy-out-join-2 : tie.Need-array-copy-out-join-2 invariant-loop decreases-loop
+array-copy-out-join-2 : tie.Need-bounds-dest_strides-i invariant-loop decreases-loop
 array-copy-out-join-2 c = search rules
 
-join-requires : tie.Need-join-requires invariant-loop decreases-loop
+join-requires : tie.Need-join-joined-requires invariant-loop decreases-loop
 join-requires c κs = tt
 
-add-i : tie.Need-overflow-add-i invariant-loop decreases-loop
+add-i : tie.Need-overflow_add-i invariant-loop decreases-loop
 add-i c = search rules
 
-enum-known-joined : tie.Need-enum-known-joined invariant-loop decreases-loop
+enum-known-joined : tie.Need-enum_known-joined invariant-loop decreases-loop
 enum-known-joined c = search rules
 
-loop-less : tie.Need-loop-smaller invariant-loop decreases-loop
+loop-less : tie.Need-loop-i-smaller-in-Merged invariant-loop decreases-loop
 loop-less c = search rules
 
-loop-again : tie.Need-loop-preserved invariant-loop decreases-loop
+loop-again : tie.Need-loop-i-preserved-in-Merged invariant-loop decreases-loop
 loop-again c =
-    let j = c.before.before.before in
-    let l = j.before.before.before.before in
-    let s = start l in
-    fusing-merged s.args.t2 s.args.t3 s.args.t4 s.args.rank (full s).0 (full s).1 (full s).2 s.args.first l.loop.axes l.loop.last l.loop.n l.loop.i l.loop.invariant s.args.spans (here j) j.join.result (joined j) c.before.joined.given.0.0 c.before.joined.given.1
+    let j = c in
+    let l = j in
+    let s = start l.before.before.before.before.before.before.before in
+    fusing-merged s.args.t2 s.args.t3 s.args.t4 s.args.rank (full s).0 (full s).1 (full s).2 s.args.first l.loop-i.axes l.loop-i.last l.loop-i.n l.loop-i.i l.loop-i.invariant s.args.spans (here j.before.before.before) j.join-joined.result (joined j.before.before.before) c.in-Merged.axis c.in-Merged.is
 
-enum-known-joined-2 : tie.Need-enum-known-joined-2 invariant-loop decreases-loop
+enum-known-joined-2 : tie.Need-enum_known-joined-in-Apart-1 invariant-loop decreases-loop
 enum-known-joined-2 c = search rules
 
-mul-axes : tie.Need-overflow-mul-axes invariant-loop decreases-loop
+mul-axes : tie.Need-offset_bounds-axes-n invariant-loop decreases-loop
 mul-axes c = search rules
 
-array-set-from-axes : tie.Need-array-set-from-axes invariant-loop decreases-loop
+array-set-from-axes : tie.Need-bounds-axes-n invariant-loop decreases-loop
 array-set-from-axes c = search rules
 
-add-n : tie.Need-overflow-add-n invariant-loop decreases-loop
+add-n : tie.Need-overflow_add-n invariant-loop decreases-loop
 add-n c = search rules
 
-loop-less-2 : tie.Need-loop-smaller-2 invariant-loop decreases-loop
+loop-less-2 : tie.Need-loop-i-smaller invariant-loop decreases-loop
 loop-less-2 c = search rules
 
-loop-again-2 : tie.Need-loop-preserved-2 invariant-loop decreases-loop
+loop-again-2 : tie.Need-loop-i-preserved invariant-loop decreases-loop
 loop-again-2 c =
-    let j = c.before.before.before in
-    let l = j.before.before.before.before in
-    let s = start l in
-    fusing-apart s.args.t2 s.args.t3 s.args.t4 s.args.rank (full s).0 (full s).1 (full s).2 s.args.first l.loop.axes l.loop.last l.loop.n l.loop.i l.loop.invariant s.args.spans (here j) j.join.result (joined j) c.before.joined2.given.0.0 c.before.joined2.given.1
+    let j = c in
+    let l = j in
+    let s = start l.before.before.before.before.before.before.before in
+    fusing-apart s.args.t2 s.args.t3 s.args.t4 s.args.rank (full s).0 (full s).1 (full s).2 s.args.first l.loop-i.axes l.loop-i.last l.loop-i.n l.loop-i.i l.loop-i.invariant s.args.spans (here j.before.before.before) j.join-joined.result (joined j.before.before.before) c.in-Apart.axis c.in-Apart.is
 
-enum_told : tie.Need-enum-told invariant-loop decreases-loop
+enum_told : tie.Need-enum_told-1 invariant-loop decreases-loop
 enum_told c = search rules
 
-refused-replay-requires : tie.Need-refused-replay-requires invariant-loop decreases-loop
+refused-replay-requires : tie.Need-refused_replay-requires invariant-loop decreases-loop
 refused-replay-requires c κs = tt
 
-returns : tie.Need-returns invariant-loop decreases-loop
+returns : tie.Need-returns-in-Overflow invariant-loop decreases-loop
 returns c =
-    let j = c.before.before.before in
-    let l = j.before.before.before.before in
-    let s = start l in
-    c.refused-replay.ensures ∙ fusing-over s.args.t2 s.args.t3 s.args.t4 s.args.rank (full s).0 (full s).1 (full s).2 s.args.first l.loop.axes l.loop.last l.loop.n l.loop.i l.loop.invariant s.args.spans (here j) j.join.result (joined j) c.before.enum_told.given.1
+    let j = c in
+    let l = j in
+    let s = start l.before.before.before.before.before.before.before in
+    c.refused_replay.ensures ∙ fusing-over s.args.t2 s.args.t3 s.args.t4 s.args.rank (full s).0 (full s).1 (full s).2 s.args.first l.loop-i.axes l.loop-i.last l.loop-i.n l.loop-i.i l.loop-i.invariant s.args.spans (here j.before.before.before) j.join-joined.result (joined j.before.before.before) c.in-Overflow.is
 
-mul-axes-2 : tie.Need-overflow-mul-axes-2 invariant-loop decreases-loop
+mul-axes-2 : tie.Need-offset_bounds-axes-n-2 invariant-loop decreases-loop
 mul-axes-2 c = search rules
 
-array-set-from-axes-2 : tie.Need-array-set-from-axes-2 invariant-loop decreases-loop
+array-set-from-axes-2 : tie.Need-bounds-axes-n-2 invariant-loop decreases-loop
 array-set-from-axes-2 c = search rules
 
-add-done-replay : tie.Need-overflow-add-done-replay invariant-loop decreases-loop
+add-done-replay : tie.Need-overflow_add-n-2 invariant-loop decreases-loop
 add-done-replay c = search rules
 
-done-replay-requires : tie.Need-done-replay-requires invariant-loop decreases-loop
+done-replay-requires : tie.Need-done_replay-requires invariant-loop decreases-loop
 done-replay-requires c κs = tt
 
-returns-2 : tie.Need-returns-2 invariant-loop decreases-loop
+returns-2 : tie.Need-returns invariant-loop decreases-loop
 returns-2 c =
-    let l = c.before.before in
-    let s = start l in
-    c.done-replay.ensures ∙ fusing-done s.args.t2 s.args.t3 s.args.t4 s.args.rank (full s).0 (full s).1 (full s).2 s.args.first l.loop.axes l.loop.last l.loop.n l.loop.i l.loop.invariant s.args.spans (omega (arith, counted l, c.before.loop-test.false))
+    let l = c in
+    let s = start l.before.before in
+    c.done_replay.ensures ∙ fusing-done s.args.t2 s.args.t3 s.args.t4 s.args.rank (full s).0 (full s).1 (full s).2 s.args.first l.loop-i.axes l.loop-i.last l.loop-i.n l.loop-i.i l.loop-i.invariant s.args.spans (omega (arith, counted l.before.before, c.loop-i-test.false))
 
-pub fuse-rest-spec : {M : Type 1} → statement M
-fuse-rest-spec =
+pub fuse_rest_spec : {M : Type 1} → statement M
+fuse_rest_spec =
     tie.close
     (tie.spec
     invariant-loop

@@ -20,81 +20,81 @@ dest-fits : (c : tie.Start) → SFits w64 c.args.before.dest_step
 dest-fits c = search rules
 
 -- what the two calls returned
-expected : (h : tie.After-past-last2) → h.before.past-last.result ≡ past h.before.before.before.before.args.before.extent h.before.before.before.before.args.before.source_step
-expected h = h.before.past-last.ensures ∙ ap (past h.before.before.before.before.args.before.extent) (back (source_fits h.before.before.before.before))
+expected : (h : tie.After-past_last-expected_dest) → h.past_last-expected_source.result ≡ past h.args.before.extent h.args.before.source_step
+expected h = h.past_last-expected_source.ensures ∙ ap (past h.args.before.extent) (back (source_fits h.before.before.before.before))
 
-expected2 : (h : tie.After-past-last2) → h.past-last2.result ≡ past h.before.before.before.before.args.before.extent h.before.before.before.before.args.before.dest_step
-expected2 h = h.past-last2.ensures ∙ ap (past h.before.before.before.before.args.before.extent) (back (dest-fits h.before.before.before.before))
+expected2 : (h : tie.After-past_last-expected_dest) → h.past_last-expected_dest.result ≡ past h.args.before.extent h.args.before.dest_step
+expected2 h = h.past_last-expected_dest.ensures ∙ ap (past h.args.before.extent) (back (dest-fits h.before.before.before.before))
 
-enum-known-expected-source : tie.Need-enum-known-expected-source
+enum-known-expected-source : tie.Need-enum_known-expected_source
 enum-known-expected-source c = search rules
 
-enum-known-expected-dest : tie.Need-enum-known-expected-dest
+enum-known-expected-dest : tie.Need-enum_known-expected_dest
 enum-known-expected-dest c = search rules
 
-returns : tie.Need-returns
+returns : tie.Need-returns-then-not-same_i64
 returns c =
-    let z = c.before.before.before in
-    let k = z.before.before.before in
-    let h = k.before.before.before in
-    let s = h.before.before.before.before in
-    let a = k.before.expected-source.given.0.0 in
-    let b = z.before.expected-dest.given.0.0 in
-    let fa : SFits w64 a = sfits_of k.known-told.given.0.1 in
-    let fb : SFits w64 b = sfits_of z.known-told2.given.0.1 in
+    let z = c in
+    let k = z in
+    let h = k in
+    let s = h in
+    let a = k.in-Fits.s in
+    let b = z.in-Fits-expected_dest.d in
+    let fa : SFits w64 a = sfits_of k.known_told-1.given.0.1 in
+    let fb : SFits w64 b = sfits_of z.known_told-in-Fits-1.given.0.1 in
     c.apart.ensures
     ∙ ap₂ (λ (x y : ℤ). as_apart (checked_axis (axis_of s.args.extent x y))) (back s.ranges.source) (back s.ranges.dest)
-    ∙ join_apart s.args.before s.args.extent s.args.source s.args.dest h.before.past-last.result h.past-last2.result (expected h) (expected2 h) a b k.before.expected-source.given.1 z.before.expected-dest.given.1 (sym (c.before.before.same-i64.ensures ∙ ap₂ eq_z (back s.ranges.source) (back fa)) ∙ not-true _ c.before.if1.true)
+    ∙ join_apart s.args.before s.args.extent s.args.source s.args.dest h.past_last-expected_source.result h.past_last-expected_dest.result (expected h.before.before.before.before.before.before.before.before.before) (expected2 h.before.before.before.before.before.before.before.before.before) a b k.in-Fits.is z.in-Fits-expected_dest.is (sym (c.same_i64.ensures ∙ ap₂ eq_z (back s.ranges.source) (back fa)) ∙ not-true _ c.if-not-same_i64.true)
 
-returns-2 : tie.Need-returns-2
+returns-2 : tie.Need-returns-then-not-same_i64-2
 returns-2 c =
-    let z = c.before.before.before.before.before in
-    let k = z.before.before.before in
-    let h = k.before.before.before in
-    let s = h.before.before.before.before in
-    let a = k.before.expected-source.given.0.0 in
-    let b = z.before.expected-dest.given.0.0 in
-    let fa : SFits w64 a = sfits_of k.known-told.given.0.1 in
-    let fb : SFits w64 b = sfits_of z.known-told2.given.0.1 in
-    c.apart2.ensures
+    let z = c in
+    let k = z in
+    let h = k in
+    let s = h in
+    let a = k.in-Fits.s in
+    let b = z.in-Fits-expected_dest.d in
+    let fa : SFits w64 a = sfits_of k.known_told-1.given.0.1 in
+    let fb : SFits w64 b = sfits_of z.known_told-in-Fits-1.given.0.1 in
+    c.apart-then-not-same_i64-2.ensures
     ∙ ap₂ (λ (x y : ℤ). as_apart (checked_axis (axis_of s.args.extent x y))) (back s.ranges.source) (back s.ranges.dest)
-    ∙ join-apart2 s.args.before s.args.extent s.args.source s.args.dest h.before.past-last.result h.past-last2.result (expected h) (expected2 h) a b k.before.expected-source.given.1 z.before.expected-dest.given.1 (sym (c.before.before.before.before.same-i64.ensures ∙ ap₂ eq_z (back s.ranges.source) (back fa)) ∙ not-false _ c.before.before.before.if1.false) (sym (c.before.before.same-i642.ensures ∙ ap₂ eq_z (back s.ranges.dest) (back fb)) ∙ not-true _ c.before.if2.true)
+    ∙ join-apart2 s.args.before s.args.extent s.args.source s.args.dest h.past_last-expected_source.result h.past_last-expected_dest.result (expected h.before.before.before.before.before.before.before.before.before.before.before) (expected2 h.before.before.before.before.before.before.before.before.before.before.before) a b k.in-Fits.is z.in-Fits-expected_dest.is (sym (c.same_i64.ensures ∙ ap₂ eq_z (back s.ranges.source) (back fa)) ∙ not-false _ c.if-not-same_i64.false) (sym (c.same_i64-in-Fits-expected_dest.ensures ∙ ap₂ eq_z (back s.ranges.dest) (back fb)) ∙ not-true _ c.if-not-same_i64-2.true)
 
-enum_told : tie.Need-enum-told
+enum_told : tie.Need-enum_told-1
 enum_told c = search rules
 
-enum-told-2 : tie.Need-enum-told-2
+enum-told-2 : tie.Need-enum_told-in-Overflow
 enum-told-2 c = search rules
 
-returns-3 : tie.Need-returns-3
+returns-3 : tie.Need-returns-else-not-same_i64-2
 returns-3 c =
-    let z = c.before.before.before.before.before in
-    let k = z.before.before.before in
-    let h = k.before.before.before in
-    let s = h.before.before.before.before in
-    let a = k.before.expected-source.given.0.0 in
-    let b = z.before.expected-dest.given.0.0 in
-    let fa : SFits w64 a = sfits_of k.known-told.given.0.1 in
-    let fb : SFits w64 b = sfits_of z.known-told2.given.0.1 in
+    let z = c in
+    let k = z in
+    let h = k in
+    let s = h in
+    let a = k.in-Fits.s in
+    let b = z.in-Fits-expected_dest.d in
+    let fa : SFits w64 a = sfits_of k.known_told-1.given.0.1 in
+    let fb : SFits w64 b = sfits_of z.known_told-in-Fits-1.given.0.1 in
     c.merge.ensures
-    ∙ ap₂ (λ (x y : ℤ). as_merged (checked_axis (axis_of (s.args.before.extent * s.args.extent) x y))) (back (source_fits s)) (back (dest-fits s))
-    ∙ join-merge s.args.before s.args.extent s.args.source s.args.dest h.before.past-last.result h.past-last2.result (expected h) (expected2 h) a b k.before.expected-source.given.1 z.before.expected-dest.given.1 (sym (c.before.before.before.before.same-i64.ensures ∙ ap₂ eq_z (back s.ranges.source) (back fa)) ∙ not-false _ c.before.before.before.if1.false) (sym (c.before.before.same-i642.ensures ∙ ap₂ eq_z (back s.ranges.dest) (back fb)) ∙ not-false _ c.before.if2.false)
+    ∙ ap₂ (λ (x y : ℤ). as_merged (checked_axis (axis_of (s.args.before.extent * s.args.extent) x y))) (back (source_fits s.before.before.before.before.before.before.before.before.before.before.before.before.before.before.before)) (back (dest-fits s.before.before.before.before.before.before.before.before.before.before.before.before.before.before.before))
+    ∙ join-merge s.args.before s.args.extent s.args.source s.args.dest h.past_last-expected_source.result h.past_last-expected_dest.result (expected h.before.before.before.before.before.before.before.before.before.before.before) (expected2 h.before.before.before.before.before.before.before.before.before.before.before) a b k.in-Fits.is z.in-Fits-expected_dest.is (sym (c.same_i64.ensures ∙ ap₂ eq_z (back s.ranges.source) (back fa)) ∙ not-false _ c.if-not-same_i64.false) (sym (c.same_i64-in-Fits-expected_dest.ensures ∙ ap₂ eq_z (back s.ranges.dest) (back fb)) ∙ not-false _ c.if-not-same_i64-2.false)
 
-returns-4 : tie.Need-returns-4
+returns-4 : tie.Need-returns-in-Overflow-expected_dest
 returns-4 c =
-    let k = c.before.before in
-    let h = k.before.before.before in
-    let s = h.before.before.before.before in
-    join-over2 s.args.before s.args.extent s.args.source s.args.dest h.before.past-last.result h.past-last2.result (expected h) (expected2 h) c.enum_told.given.1
+    let k = c in
+    let h = k in
+    let s = h in
+    join-over2 s.args.before s.args.extent s.args.source s.args.dest h.past_last-expected_source.result h.past_last-expected_dest.result (expected h.before.before.before.before.before) (expected2 h.before.before.before.before.before) c.in-Overflow-expected_dest.is
 
-returns-5 : tie.Need-returns-5
+returns-5 : tie.Need-returns-in-Overflow
 returns-5 c =
-    let h = c.before.before in
-    let s = h.before.before.before.before in
-    join-over s.args.before s.args.extent s.args.source s.args.dest h.before.past-last.result h.past-last2.result (expected h) (expected2 h) c.enum-told2.given.1
+    let h = c in
+    let s = h in
+    join-over s.args.before s.args.extent s.args.source s.args.dest h.past_last-expected_source.result h.past_last-expected_dest.result (expected h.before.before) (expected2 h.before.before) c.in-Overflow.is
 
-pub join-spec : {M : Type 1} → statement M
-join-spec =
+pub join_spec : {M : Type 1} → statement M
+join_spec =
     tie.close
     (tie.spec
     (λ c κs. tt)

@@ -15,45 +15,45 @@ use Rattle.replay.proofs.make_axis.Tie as tie
 made : (d : ℕ) (s s' t t' a a' b b' : ℤ) → s ≡ s' → a ≡ a' → t ≡ t' → b ≡ b' → A.Fits (the_axis d s a t b) ≡ A.Fits (the_axis d s' a' t' b')
 made d s s' t t' a a' b b' e f g h = cc
 
-enum-known-source-reset : tie.Need-enum-known-source-reset
+enum-known-source-reset : tie.Need-enum_known-source_reset
 enum-known-source-reset c = search rules
 
-enum-known-dest-reset : tie.Need-enum-known-dest-reset
+enum-known-dest-reset : tie.Need-enum_known-dest_reset
 enum-known-dest-reset c = search rules
 
-enum_told : tie.Need-enum-told
+enum_told : tie.Need-enum_told-1
 enum_told c = search rules
 
-enum-told-2 : tie.Need-enum-told-2
+enum-told-2 : tie.Need-enum_told-in-Overflow
 enum-told-2 c = search rules
 
-returns : tie.Need-returns
+returns : tie.Need-returns-in-Fits-dest_reset
 returns c =
-    let k = c.before.before.before in
-    let h = k.before.before.before in
-    let s = h.before.before in
-    let a = k.before.source-reset.given.0.0 in
-    let b = c.before.dest-reset.given.0.0 in
-    let fa : SFits w64 a = sfits_of k.known-told.given.0.1 in
-    let fb : SFits w64 b = sfits_of c.known-told2.given.0.1 in
+    let k = c in
+    let h = k in
+    let s = h in
+    let a = k.in-Fits.back in
+    let b = c.in-Fits-dest_reset.home in
+    let fa : SFits w64 a = sfits_of k.known_told-1.given.0.1 in
+    let fb : SFits w64 b = sfits_of c.known_told-in-Fits-1.given.0.1 in
     made s.args.extent _ s.args.source _ s.args.dest _ a _ b (back s.ranges.source) (back fa) (back s.ranges.dest) (back fb)
-    ∙ axis-fits s.args.extent s.args.source s.args.dest a b (sym (h.before.checked-replay-reset.ensures ∙ ap (reset_of s.args.extent) (back s.ranges.source)) ∙ k.before.source-reset.given.1) (sym (h.checked-replay-reset2.ensures ∙ ap (reset_of s.args.extent) (back s.ranges.dest)) ∙ c.before.dest-reset.given.1)
+    ∙ axis-fits s.args.extent s.args.source s.args.dest a b (sym (h.checked_replay_reset-source_reset.ensures ∙ ap (reset_of s.args.extent) (back s.ranges.source)) ∙ k.in-Fits.is) (sym (h.checked_replay_reset-dest_reset.ensures ∙ ap (reset_of s.args.extent) (back s.ranges.dest)) ∙ c.in-Fits-dest_reset.is)
 
-returns-2 : tie.Need-returns-2
+returns-2 : tie.Need-returns-in-Overflow-dest_reset
 returns-2 c =
-    let k = c.before.before in
-    let h = k.before.before.before in
-    let s = h.before.before in
-    axis-over2 s.args.extent s.args.source s.args.dest (sym (h.checked-replay-reset2.ensures ∙ ap (reset_of s.args.extent) (back s.ranges.dest)) ∙ c.enum_told.given.1)
+    let k = c in
+    let h = k in
+    let s = h in
+    axis-over2 s.args.extent s.args.source s.args.dest (sym (h.checked_replay_reset-dest_reset.ensures ∙ ap (reset_of s.args.extent) (back s.ranges.dest)) ∙ c.in-Overflow-dest_reset.is)
 
-returns-3 : tie.Need-returns-3
+returns-3 : tie.Need-returns-in-Overflow
 returns-3 c =
-    let h = c.before.before in
-    let s = h.before.before in
-    axis-over s.args.extent s.args.source s.args.dest (sym (h.before.checked-replay-reset.ensures ∙ ap (reset_of s.args.extent) (back s.ranges.source)) ∙ c.enum-told2.given.1)
+    let h = c in
+    let s = h in
+    axis-over s.args.extent s.args.source s.args.dest (sym (h.checked_replay_reset-source_reset.ensures ∙ ap (reset_of s.args.extent) (back s.ranges.source)) ∙ c.in-Overflow.is)
 
-pub make-axis-spec : {M : Type 1} → statement M
-make-axis-spec =
+pub make_axis_spec : {M : Type 1} → statement M
+make_axis_spec =
     tie.close
     (tie.spec
     (λ c κs. tt)

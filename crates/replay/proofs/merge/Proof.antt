@@ -10,30 +10,30 @@ use Rattle.replay.proofs.Joins.{axis-large}
 use Rattle.replay.proofs.merge.Statement.{statement}
 use Rattle.replay.proofs.merge.Tie as tie
 
-enum-known-size : tie.Need-enum-known-size
+enum-known-size : tie.Need-enum_known-size
 enum-known-size c = search rules
 
-enum_told : tie.Need-enum-told
+enum_told : tie.Need-enum_told-1
 enum_told c = search rules
 
-returns : tie.Need-returns
+returns : tie.Need-returns-in-Fits
 returns c =
-    let k = c.before.before in
-    let m = k.before.before.before in
-    let s = m.before in
-    let n = k.before.size.given.0.0 in
-    let e = checked_u-fits (s.args.before * s.args.extent) n (sym m.checked-mul-u64.ensures ∙ k.before.size.given.1) in
-    c.as-merged.ensures
-    ∙ ap as_merged (c.before.make-axis.ensures ∙ ap₂ (λ (x y : ℤ). checked_axis (axis_of n x y)) (back s.ranges.source) (back s.ranges.dest) ∙ ap (λ (l : ℕ). checked_axis (axis_of l s.args.source s.args.dest)) (sym e))
+    let k = c in
+    let m = k in
+    let s = m in
+    let n = k.in-Fits.n in
+    let e = checked_u-fits (s.args.before * s.args.extent) n (sym m.checked_mul_u64-size.ensures ∙ k.in-Fits.is) in
+    c.as_merged.ensures
+    ∙ ap as_merged (c.make_axis-a.ensures ∙ ap₂ (λ (x y : ℤ). checked_axis (axis_of n x y)) (back s.ranges.source) (back s.ranges.dest) ∙ ap (λ (l : ℕ). checked_axis (axis_of l s.args.source s.args.dest)) (sym e))
 
-returns-2 : tie.Need-returns-2
+returns-2 : tie.Need-returns-in-Overflow
 returns-2 c =
-    let m = c.before.before in
-    let s = m.before in
-    ap as_merged (axis-large (s.args.before * s.args.extent) s.args.source s.args.dest (checked_u-over (s.args.before * s.args.extent) (sym m.checked-mul-u64.ensures ∙ c.enum_told.given.1)))
+    let m = c in
+    let s = m in
+    ap as_merged (axis-large (s.args.before * s.args.extent) s.args.source s.args.dest (checked_u-over (s.args.before * s.args.extent) (sym m.checked_mul_u64-size.ensures ∙ c.in-Overflow.is)))
 
-pub merge-spec : {M : Type 1} → statement M
-merge-spec =
+pub merge_spec : {M : Type 1} → statement M
+merge_spec =
     tie.close
     (tie.spec
     (λ c κs. tt)

@@ -11,8 +11,8 @@ use Rattle.replay.proofs.past_last.Tie as tie
 returns : tie.Need-returns
 unfolding past
 returns c =
-    let s = c.before.before in
-    c.scaled.ensures ∙ ap₂ (λ (x : Checked) (t : ℤ). and_then x (λ m. checked (t *ℤ m))) c.before.u64-to-i64.ensures (back s.ranges.step)
+    let s = c in
+    c.scaled.ensures ∙ ap₂ (λ (x : Checked) (t : ℤ). and_then x (λ m. checked (t *ℤ m))) c.u64_to_i64-size.ensures (back s.ranges.step)
 
-pub past-last-spec : {M : Type 1} → statement M
-past-last-spec = tie.close (tie.spec (λ c κs. tt) (λ c κs. tt) returns)
+pub past_last_spec : {M : Type 1} → statement M
+past_last_spec = tie.close (tie.spec (λ c κs. tt) (λ c κs. tt) returns)

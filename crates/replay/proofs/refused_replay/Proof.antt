@@ -7,7 +7,7 @@ use Rattle.replay.proofs.refused_replay.Statement.{statement}
 use Rattle.replay.proofs.refused_replay.Tie as tie
 
 returns : tie.Need-returns
-returns c = λ ι. record { answer = N.OffsetOverflow; replay = record { rank = 0; extents = replicate rank_limit 1; spans = the_spans (pos 0) (pos 0) (pos 0) (pos 0) }; axes = replicate rank_limit (c.no-axis.ensures ι) }
+returns c = λ ι. record { answer = N.OffsetOverflow; replay = record { rank = 0; extents = replicate rank_limit 1; spans = the_spans (pos 0) (pos 0) (pos 0) (pos 0) }; axes = replicate rank_limit (c.no_axis-empty.ensures ι) }
 
-pub refused-replay-spec : {M : Type 1} → statement M
-refused-replay-spec = tie.close (tie.spec (λ c κs. tt) returns)
+pub refused_replay_spec : {M : Type 1} → statement M
+refused_replay_spec = tie.close (tie.spec (λ c κs. tt) returns)

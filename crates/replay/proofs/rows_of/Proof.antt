@@ -14,38 +14,38 @@ use borrow.Author.Rules.{rules}
 use Rattle.replay.proofs.rows_of.Statement.{statement}
 use Rattle.replay.proofs.rows_of.Tie as tie
 
-abbrev invariant-loop : tie.invariant-loop
+abbrev invariant-loop : tie.invariant-loop-i
 invariant-loop axes out₀ i₀ out i = (i ≤ rank_limit) × (out ≡ filled rank_limit (replicate 4 (pos 0)) (rows_of axes) i)
 
-abbrev decreases-loop : tie.decreases-loop
+abbrev decreases-loop : tie.decreases-loop-i
 decreases-loop axes out₀ i₀ out i = rank_limit - i
 
-loop-holds : tie.Need-loop-init invariant-loop decreases-loop
+loop-holds : tie.Need-loop-i-init invariant-loop decreases-loop
 loop-holds c = (zero-le, refl)
 
-mul-a : tie.Need-overflow-mul-a invariant-loop decreases-loop
+mul-a : tie.Need-offset_bounds-axes-i invariant-loop decreases-loop
 mul-a c = search rules
 
-array-copy-out-a : tie.Need-array-copy-out-a invariant-loop decreases-loop
+array-copy-out-a : tie.Need-bounds-axes-i invariant-loop decreases-loop
 array-copy-out-a c = search rules
 
-mul-out : tie.Need-overflow-mul-out invariant-loop decreases-loop
+mul-out : tie.Need-offset_bounds-out-i invariant-loop decreases-loop
 mul-out c = search rules
 
-array-set-from-out : tie.Need-array-set-from-out invariant-loop decreases-loop
+array-set-from-out : tie.Need-bounds-out-i invariant-loop decreases-loop
 array-set-from-out c = search rules
 
-add-i : tie.Need-overflow-add-i invariant-loop decreases-loop
+add-i : tie.Need-overflow_add-i invariant-loop decreases-loop
 add-i c = search rules
 
-loop-less : tie.Need-loop-smaller invariant-loop decreases-loop
+loop-less : tie.Need-loop-i-smaller invariant-loop decreases-loop
 loop-less c = search rules
 
-loop-again : tie.Need-loop-preserved invariant-loop decreases-loop
+loop-again : tie.Need-loop-i-preserved invariant-loop decreases-loop
 loop-again c =
-    let l = c.before.before.before in
-    let s = l.before in
-    let a = get_or s.args.t1 l.loop.i (the_axis 0 (pos 0) (pos 0) (pos 0) (pos 0)) in
+    let l = c in
+    let s = l in
+    let a = get_or s.args.t1 l.loop-i.i (the_axis 0 (pos 0) (pos 0) (pos 0) (pos 0)) in
     let h : length s.args.t1 ≡ rank_limit = search rules in
     let f1 : SFits w64 a.source_step = search rules in
     let f2 : SFits w64 a.source_reset = search rules in
@@ -56,17 +56,17 @@ loop-again c =
     let e3 = back f3 in
     let e4 = back f4 in (
       search rules,
-      fill_one rank_limit (replicate 4 (pos 0)) (replicate 4 (pos 0)) (rows_of s.args.t1) l.loop.out l.loop.i _ (omega arith) (rw length-map (omega arith)) l.loop.invariant.1
-          ((λ ι. e1 ι ∷ e2 ι ∷ e3 ι ∷ e4 ι ∷ []) ∙ sym (get_or-map row_of s.args.t1 l.loop.i (the_axis 0 (pos 0) (pos 0) (pos 0) (pos 0)))),
+      fill_one rank_limit (replicate 4 (pos 0)) (replicate 4 (pos 0)) (rows_of s.args.t1) l.loop-i.out l.loop-i.i _ (omega arith) (rw length-map (omega arith)) l.loop-i.invariant.1
+          ((λ ι. e1 ι ∷ e2 ι ∷ e3 ι ∷ e4 ι ∷ []) ∙ sym (get_or-map row_of s.args.t1 l.loop-i.i (the_axis 0 (pos 0) (pos 0) (pos 0) (pos 0)))),
     )
 
 returns : tie.Need-returns invariant-loop decreases-loop
 returns c =
-    let h : length c.before.before.args.t1 ≡ rank_limit = search rules in
-    fill-all rank_limit (replicate 4 (pos 0)) (rows_of c.before.before.args.t1) c.before.loop.out c.before.loop.i (rw length-map h) (omega arith) c.before.loop.invariant.1
+    let h : length c.args.t1 ≡ rank_limit = search rules in
+    fill-all rank_limit (replicate 4 (pos 0)) (rows_of c.args.t1) c.loop-i.out c.loop-i.i (rw length-map h) (omega arith) c.loop-i.invariant.1
 
-pub rows-of-spec : {M : Type 1} → statement M
-rows-of-spec =
+pub rows_of_spec : {M : Type 1} → statement M
+rows_of_spec =
     tie.close
     (tie.spec
     invariant-loop

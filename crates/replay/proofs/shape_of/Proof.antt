@@ -11,49 +11,49 @@ use borrow.Author.Rules.{rules}
 use Rattle.replay.proofs.shape_of.Statement.{statement}
 use Rattle.replay.proofs.shape_of.Tie as tie
 
-abbrev invariant-loop : tie.invariant-loop
+abbrev invariant-loop : tie.invariant-loop-i
 invariant-loop axes out₀ i₀ out i = (i ≤ rank_limit) × (out ≡ filled rank_limit 0 (extents axes) i)
 
-abbrev decreases-loop : tie.decreases-loop
+abbrev decreases-loop : tie.decreases-loop-i
 decreases-loop axes out₀ i₀ out i = rank_limit - i
 
-loop-holds : tie.Need-loop-init invariant-loop decreases-loop
+loop-holds : tie.Need-loop-i-init invariant-loop decreases-loop
 loop-holds c = (zero-le, refl)
 
-mul-a : tie.Need-overflow-mul-a invariant-loop decreases-loop
+mul-a : tie.Need-offset_bounds-axes-i invariant-loop decreases-loop
 mul-a c = search rules
 
-array-copy-out-a : tie.Need-array-copy-out-a invariant-loop decreases-loop
+array-copy-out-a : tie.Need-bounds-axes-i invariant-loop decreases-loop
 array-copy-out-a c = search rules
 
-mul-out : tie.Need-overflow-mul-out invariant-loop decreases-loop
+mul-out : tie.Need-offset_bounds-out-i invariant-loop decreases-loop
 mul-out c = search rules
 
-array-write-out : tie.Need-array-write-out invariant-loop decreases-loop
+array-write-out : tie.Need-bounds-out-i invariant-loop decreases-loop
 array-write-out c = search rules
 
-add-i : tie.Need-overflow-add-i invariant-loop decreases-loop
+add-i : tie.Need-overflow_add-i invariant-loop decreases-loop
 add-i c = search rules
 
-loop-less : tie.Need-loop-smaller invariant-loop decreases-loop
+loop-less : tie.Need-loop-i-smaller invariant-loop decreases-loop
 loop-less c = search rules
 
-loop-again : tie.Need-loop-preserved invariant-loop decreases-loop
+loop-again : tie.Need-loop-i-preserved invariant-loop decreases-loop
 loop-again c =
-    let l = c.before.before in
-    let s = l.before in
+    let l = c in
+    let s = l in
     let h : length s.args.t1 ≡ rank_limit = search rules in (
       search rules,
-      fill_one rank_limit 0 0 (extents s.args.t1) l.loop.out l.loop.i _ (omega arith) (rw length-map (omega arith)) l.loop.invariant.1 (sym (get_or-map (λ (a : WindowReplayAxis). a.extent) s.args.t1 l.loop.i (the_axis 0 (pos 0) (pos 0) (pos 0) (pos 0)))),
+      fill_one rank_limit 0 0 (extents s.args.t1) l.loop-i.out l.loop-i.i _ (omega arith) (rw length-map (omega arith)) l.loop-i.invariant.1 (sym (get_or-map (λ (a : WindowReplayAxis). a.extent) s.args.t1 l.loop-i.i (the_axis 0 (pos 0) (pos 0) (pos 0) (pos 0)))),
     )
 
 returns : tie.Need-returns invariant-loop decreases-loop
 returns c =
-    let h : length c.before.before.args.t1 ≡ rank_limit = search rules in
-    fill-all rank_limit 0 (extents c.before.before.args.t1) c.before.loop.out c.before.loop.i (rw length-map h) (omega arith) c.before.loop.invariant.1
+    let h : length c.args.t1 ≡ rank_limit = search rules in
+    fill-all rank_limit 0 (extents c.args.t1) c.loop-i.out c.loop-i.i (rw length-map h) (omega arith) c.loop-i.invariant.1
 
-pub shape-of-spec : {M : Type 1} → statement M
-shape-of-spec =
+pub shape_of_spec : {M : Type 1} → statement M
+shape_of_spec =
     tie.close
     (tie.spec
     invariant-loop

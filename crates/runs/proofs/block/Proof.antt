@@ -11,38 +11,38 @@ use Rattle.runs.proofs.Blocks.{by_way, room}
 use Rattle.runs.proofs.block.Statement.{statement}
 use Rattle.runs.proofs.block.Tie as tie
 
-sub_each : tie.Need-overflow-sub-each
+sub_each : tie.Need-slice_bounds-each-count
 sub_each c = search rules
 
-part-held-start : tie.Need-slice-bounds-held-start
+part-held-start : tie.Need-slice_bounds-held-start
 part-held-start c = search rules
 
-part-held-end : tie.Need-slice-bounds-held-end
+part-held-end : tie.Need-slice_bounds-held-end
 part-held-end c = search rules
 
 each-requires : tie.Need-each-requires
 each-requires c κs = search rules
 
-sub-each-2 : tie.Need-overflow-sub-each-2
+sub-each-2 : tie.Need-slice_bounds-each-count-2
 sub-each-2 c = search rules
 
-part-each-start : tie.Need-slice-bounds-each-start
+part-each-start : tie.Need-slice_bounds-each-start
 part-each-start c = search rules
 
-part-each-end : tie.Need-slice-bounds-each-end
+part-each-end : tie.Need-slice_bounds-each-end
 part-each-end c =
     let a : tie.Start = search in
-    room (replicate block_cells (pos 0)) c.before.before.each.new.1.1.0 (length a.args.dst.now) (length a.args.dst.now - 0) c.before.before.each.auto.1.1.0 a.pre.1
+    room (replicate block_cells (pos 0)) c.each.new.1.1.0 (length a.args.dst.now) (length a.args.dst.now - 0) c.each.auto.1.1.0 a.pre.1
 
 each-requires-2 : tie.Need-each-requires-2
 each-requires-2 c κs = search rules
 
-same_length : tie.Need-same-length
+same_length : tie.Need-shape_of-dst
 same_length c = search rules
 
 returns : tie.Need-returns
 returns c =
-    let e2 : tie.After-each2 = search in
+    let e2 : tie.After-each-2 = search in
     let b : tie.After-each = search in
     let a : tie.Start = search in
     let n = length a.args.dst.now in

@@ -12,64 +12,64 @@ use Rattle.rules.proofs.Stored.{stored}
 use Rattle.runs.proofs.each.Statement.{statement}
 use Rattle.runs.proofs.each.Tie as tie
 
-abbrev invariant-loop : tie.invariant-loop
+abbrev invariant-loop : tie.invariant-loop-at
 invariant-loop rule src dst₀ at₀ dst at = (at ≤ length dst₀) × (length dst ≡ length dst₀) × (dst ≡ in_order (cell_at (pos 0) (rule_i32 rule) src pos pos) at dst₀)
 
-abbrev decreases-loop : tie.decreases-loop
+abbrev decreases-loop : tie.decreases-loop-at
 decreases-loop rule src dst₀ at₀ dst at = length dst₀ - at
 
-loop-holds : tie.Need-loop-init invariant-loop decreases-loop
+loop-holds : tie.Need-loop-at-init invariant-loop decreases-loop
 loop-holds c =
     let a : tie.Start invariant-loop decreases-loop = search in
     (omega arith, refl, none _ 0 a.args.dst.now refl)
 
-mul_apply : tie.Need-overflow-mul-apply invariant-loop decreases-loop
+mul_apply : tie.Need-offset_bounds-dst-at invariant-loop decreases-loop
 mul_apply c = search rules
 
-slice-copy-out-apply : tie.Need-slice-copy-out-apply invariant-loop decreases-loop
+slice-copy-out-apply : tie.Need-slice_copy_out-apply invariant-loop decreases-loop
 slice-copy-out-apply c = omega arith
 
-mul-apply-2 : tie.Need-overflow-mul-apply-2 invariant-loop decreases-loop
+mul-apply-2 : tie.Need-offset_bounds-src-at invariant-loop decreases-loop
 mul-apply-2 c = search rules
 
-shared-slice-copy-out-apply : tie.Need-shared-slice-copy-out-apply invariant-loop decreases-loop
+shared-slice-copy-out-apply : tie.Need-bounds-src-at invariant-loop decreases-loop
 shared-slice-copy-out-apply c = omega arith
 
-apply-requires : tie.Need-apply-requires invariant-loop decreases-loop
+apply-requires : tie.Need-apply-v-requires invariant-loop decreases-loop
 apply-requires c κs = tt
 
-mul-v : tie.Need-overflow-mul-v invariant-loop decreases-loop
+mul-v : tie.Need-offset_bounds-dst-at-in-loop-at invariant-loop decreases-loop
 mul-v c = search rules
 
-slice-set-from-v : tie.Need-slice-set-from-v invariant-loop decreases-loop
+slice-set-from-v : tie.Need-bounds-dst-at invariant-loop decreases-loop
 slice-set-from-v c = omega arith
 
-add_at : tie.Need-overflow-add-at invariant-loop decreases-loop
+add_at : tie.Need-overflow_add-at invariant-loop decreases-loop
 add_at c = omega arith
 
-loop-less : tie.Need-loop-smaller invariant-loop decreases-loop
+loop-less : tie.Need-loop-at-smaller invariant-loop decreases-loop
 loop-less c = omega arith
 
-loop-again : tie.Need-loop-preserved invariant-loop decreases-loop
+loop-again : tie.Need-loop-at-preserved invariant-loop decreases-loop
 loop-again c =
-    let h = c.before.before.before.before in
+    let h = c in
     let a : tie.Start invariant-loop decreases-loop = search in
-    let i = h.loop.at in (
+    let i = h.loop-at.at in (
       omega arith,
-      length-set h.loop.dst _ _ ∙ h.loop.invariant.1,
-      cell-more (pos 0) (rule_i32 a.args.rule) a.args.src.now pos pos a.args.dst.now h.loop.dst i i i _ h.loop.invariant.2 refl refl
-          (stored a.args.rule (get_or h.loop.dst i (pos 0)) (get_or a.args.src.now i (pos 0)) c.apply.result (sfits_of c.before.before.apply-arg.given) (sfits_of c.before.apply-arg2.given) c.apply.ensures),
+      length-set h.loop-at.dst _ _ ∙ h.loop-at.invariant.1,
+      cell-more (pos 0) (rule_i32 a.args.rule) a.args.src.now pos pos a.args.dst.now h.loop-at.dst i i i _ h.loop-at.invariant.2 refl refl
+          (stored a.args.rule (get_or h.loop-at.dst i (pos 0)) (get_or a.args.src.now i (pos 0)) c.apply-v.result (sfits_of c.apply-arg-1.given) (sfits_of c.apply-arg-in-loop-at-1.given) c.apply-v.ensures),
     )
 
-same_length : tie.Need-same-length invariant-loop decreases-loop
-same_length c = c.before.loop.invariant.1
+same_length : tie.Need-shape_of-dst invariant-loop decreases-loop
+same_length c = c.loop-at.invariant.1
 
 returns : tie.Need-returns invariant-loop decreases-loop
 returns c =
-    let h = c.before in
+    let h = c in
     let a : tie.Start invariant-loop decreases-loop = search in
-    let e : h.loop.at ≡ length a.args.dst.now = omega arith in
-    h.loop.invariant.2 ∙ ap (λ (m : ℕ). in_order (cell_at (pos 0) (rule_i32 a.args.rule) a.args.src.now pos pos) m a.args.dst.now) e
+    let e : h.loop-at.at ≡ length a.args.dst.now = omega arith in
+    h.loop-at.invariant.2 ∙ ap (λ (m : ℕ). in_order (cell_at (pos 0) (rule_i32 a.args.rule) a.args.src.now pos pos) m a.args.dst.now) e
 
 pub each_spec : {M : Type 1} → statement M
 each_spec =

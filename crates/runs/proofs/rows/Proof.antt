@@ -8,76 +8,76 @@ use borrow.Author.Rules.{rules}
 use Rattle.runs.proofs.rows.Statement.{statement}
 use Rattle.runs.proofs.rows.Tie as tie
 
-enum_told : tie.Need-enum-told
+enum_told : tie.Need-enum_told-1
 enum_told c = search rules
 
-rows-by-requires : tie.Need-rows-by-requires
+rows-by-requires : tie.Need-rows_by-requires
 rows-by-requires c κs = search rules
 
-enum-told-2 : tie.Need-enum-told-2
+enum-told-2 : tie.Need-enum_told-in-Lowest
 enum-told-2 c = search rules
 
-rows-by-requires-2 : tie.Need-rows-by-requires-2
+rows-by-requires-2 : tie.Need-rows_by-requires-in-Lowest
 rows-by-requires-2 c κs = search rules
 
-enum-told-3 : tie.Need-enum-told-3
+enum-told-3 : tie.Need-enum_told-in-Highest
 enum-told-3 c = search rules
 
-rows-by-requires-3 : tie.Need-rows-by-requires-3
+rows-by-requires-3 : tie.Need-rows_by-requires-in-Highest
 rows-by-requires-3 c κs = search rules
 
-enum-told-4 : tie.Need-enum-told-4
+enum-told-4 : tie.Need-enum_told-in-Replace
 enum-told-4 c = search rules
 
-copy-rows-requires : tie.Need-copy-rows-requires
+copy-rows-requires : tie.Need-copy_rows-requires
 copy-rows-requires c κs = search rules
 
-same_length : tie.Need-same-length
+same_length : tie.Need-shape_of-dst-in-Add
 same_length c = search rules
 
-returns : tie.Need-returns
+returns : tie.Need-returns-in-Add
 returns c =
-    let e : tie.After-enum-told = search in
-    let o : tie.After-rows-by = search in
+    let e : tie.In-Add = search in
+    let o : tie.After-rows_by = search in
     let a : tie.Start = search in
     rw e.enum_told.given.1
     (runs-end (pos 0) (rule_i32 R.Add) a.args.src.now a.args.s a.args.d (pos 1) (pos 1) a.args.st a.args.dt a.args.n a.args.m a.args.m a.args.dst.now _ a.fits.s a.fits.d (sfits_lit {z = pos 1} tt) (sfits_lit {z = pos 1} tt) a.fits.st a.fits.dt refl o.rows-by.ensures)
 
-same-length-2 : tie.Need-same-length-2
+same-length-2 : tie.Need-shape_of-dst-in-Lowest
 same-length-2 c = search rules
 
-returns-2 : tie.Need-returns-2
+returns-2 : tie.Need-returns-in-Lowest
 returns-2 c =
-    let e : tie.After-enum-told2 = search in
-    let o : tie.After-rows-by2 = search in
+    let e : tie.In-Lowest = search in
+    let o : tie.After-rows_by-in-Lowest = search in
     let a : tie.Start = search in
     rw e.enum-told2.given.1
     (runs-end (pos 0) (rule_i32 R.Lowest) a.args.src.now a.args.s a.args.d (pos 1) (pos 1) a.args.st a.args.dt a.args.n a.args.m a.args.m a.args.dst.now _ a.fits.s a.fits.d (sfits_lit {z = pos 1} tt) (sfits_lit {z = pos 1} tt) a.fits.st a.fits.dt refl o.rows-by2.ensures)
 
-same-length-3 : tie.Need-same-length-3
+same-length-3 : tie.Need-shape_of-dst-in-Highest
 same-length-3 c = search rules
 
-returns-3 : tie.Need-returns-3
+returns-3 : tie.Need-returns-in-Highest
 returns-3 c =
-    let e : tie.After-enum-told3 = search in
-    let o : tie.After-rows-by3 = search in
+    let e : tie.In-Highest = search in
+    let o : tie.After-rows_by-in-Highest = search in
     let a : tie.Start = search in
     rw e.enum-told3.given.1
     (runs-end (pos 0) (rule_i32 R.Highest) a.args.src.now a.args.s a.args.d (pos 1) (pos 1) a.args.st a.args.dt a.args.n a.args.m a.args.m a.args.dst.now _ a.fits.s a.fits.d (sfits_lit {z = pos 1} tt) (sfits_lit {z = pos 1} tt) a.fits.st a.fits.dt refl o.rows-by3.ensures)
 
-same-length-4 : tie.Need-same-length-4
+same-length-4 : tie.Need-shape_of-dst-in-Replace
 same-length-4 c = search rules
 
-returns-4 : tie.Need-returns-4
+returns-4 : tie.Need-returns-in-Replace
 returns-4 c =
-    let e : tie.After-enum-told4 = search in
-    let o : tie.After-copy-rows = search in
+    let e : tie.In-Replace = search in
+    let o : tie.After-copy_rows = search in
     let a : tie.Start = search in
     rw e.enum-told4.given.1
     (runs-end (pos 0) (rule_i32 R.Replace) a.args.src.now a.args.s a.args.d (pos 1) (pos 1) a.args.st a.args.dt a.args.n a.args.m a.args.m a.args.dst.now _ a.fits.s a.fits.d (sfits_lit {z = pos 1} tt) (sfits_lit {z = pos 1} tt) a.fits.st a.fits.dt refl o.copy-rows.ensures)
 
-pub rows-spec : {M : Type 1} → statement M
-rows-spec =
+pub rows_spec : {M : Type 1} → statement M
+rows_spec =
     tie.close
     (tie.spec
     enum_told

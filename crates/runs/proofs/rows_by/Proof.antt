@@ -15,55 +15,55 @@ use Rattle.runs.proofs.Runs.{Move, move-source, move-dest, runs-more, runs-end}
 use Rattle.runs.proofs.rows_by.Statement.{statement}
 use Rattle.runs.proofs.rows_by.Tie as tie
 
-abbrev invariant-loop : tie.invariant-loop
+abbrev invariant-loop : tie.invariant-loop-j
 invariant-loop rule src dst₀ n m s d st dt j₀ dst j = (j ≤ m) × (length dst ≡ length dst₀) × (dst ≡ in_order (run_at (pos 0) (rule_i32 rule) src (to_z w64 s) (to_z w64 d) (pos 1) (pos 1) (to_z w64 st) (to_z w64 dt) n) j dst₀)
 
-abbrev decreases-loop : tie.decreases-loop
+abbrev decreases-loop : tie.decreases-loop-j
 decreases-loop rule src dst₀ n m s d st dt j₀ dst j = m - j
 
-abbrev start : tie.In-loop invariant-loop decreases-loop → tie.Start invariant-loop decreases-loop
+abbrev start : tie.In-loop-j invariant-loop decreases-loop → tie.Start invariant-loop decreases-loop
 start d = search
 
-from : (d : tie.In-loop invariant-loop decreases-loop) → Move (start d).args.s (pos 1) (start d).args.st (start d).args.n (length (start d).args.src.now) d.before.loop.j
-from d = let a = start d in move-source _ _ _ _ _ _ _ _ _ _ a.pre _ d.loop-test.true a.fits.s (sfits_lit {z = pos 1} tt) a.fits.st (omega (arith, a.good.1.0.1))
+from : (d : tie.In-loop-j invariant-loop decreases-loop) → Move (start d).args.s (pos 1) (start d).args.st (start d).args.n (length (start d).args.src.now) d.loop-j.j
+from d = let a = start d in move-source _ _ _ _ _ _ _ _ _ _ a.pre _ d.loop-j-test.true a.fits.s (sfits_lit {z = pos 1} tt) a.fits.st (omega (arith, a.good.1.0.1))
 
-to : (d : tie.In-loop invariant-loop decreases-loop) → Move (start d).args.d (pos 1) (start d).args.dt (start d).args.n (length (start d).args.dst.now) d.before.loop.j
-to d = let a = start d in move-dest _ _ _ _ _ _ _ _ _ _ a.pre _ d.loop-test.true a.fits.d (sfits_lit {z = pos 1} tt) a.fits.dt (omega (arith, a.good.1.1.0.1))
+to : (d : tie.In-loop-j invariant-loop decreases-loop) → Move (start d).args.d (pos 1) (start d).args.dt (start d).args.n (length (start d).args.dst.now) d.loop-j.j
+to d = let a = start d in move-dest _ _ _ _ _ _ _ _ _ _ a.pre _ d.loop-j-test.true a.fits.d (sfits_lit {z = pos 1} tt) a.fits.dt (omega (arith, a.good.1.1.0.1))
 
-loop-holds : tie.Need-loop-init invariant-loop decreases-loop
+loop-holds : tie.Need-loop-j-init invariant-loop decreases-loop
 loop-holds c = (omega arith, refl, none _ 0 _ refl)
 
-cast-k : tie.Need-overflow-cast-k invariant-loop decreases-loop
+cast-k : tie.Need-overflow_cast-k invariant-loop decreases-loop
 cast-k c = (from c).step.count
 
-mul-row : tie.Need-overflow-mul-row invariant-loop decreases-loop
+mul-row : tie.Need-overflow_mul-st invariant-loop decreases-loop
 mul-row c = (from c.before).step.multiple
 
-add_row : tie.Need-overflow-add-row invariant-loop decreases-loop
+add_row : tie.Need-overflow_add-s invariant-loop decreases-loop
 add_row c = (from c.before).step.fits
 
-mul-row-2 : tie.Need-overflow-mul-row-2 invariant-loop decreases-loop
+mul-row-2 : tie.Need-overflow_mul-dt invariant-loop decreases-loop
 mul-row-2 c = (to c.before).step.multiple
 
-add-row-2 : tie.Need-overflow-add-row-2 invariant-loop decreases-loop
+add-row-2 : tie.Need-overflow_add-d invariant-loop decreases-loop
 add-row-2 c = (to c.before).step.fits
 
 row-requires : tie.Need-row-requires invariant-loop decreases-loop
 row-requires c κs =
-    let d = c.before in
+    let d = c in
     let a : tie.Start invariant-loop decreases-loop = search in
-    (a.pre.some, record { source = (from d).run; dest = subst (Line (machine a.args.d a.args.dt d.before.loop.j) (pos 1) a.args.n) (sym d.before.loop.invariant.1) (to d).run })
+    (a.pre.some, record { source = (from d.before).run; dest = subst (Line (machine a.args.d a.args.dt d.loop-j.j) (pos 1) a.args.n) (sym d.loop-j.invariant.1) (to d.before).run })
 
-add-j : tie.Need-overflow-add-j invariant-loop decreases-loop
+add-j : tie.Need-overflow_add-j invariant-loop decreases-loop
 add-j c = let a : tie.Start invariant-loop decreases-loop = search in omega (arith, a.pre.few)
 
-loop-less : tie.Need-loop-smaller invariant-loop decreases-loop
+loop-less : tie.Need-loop-j-smaller invariant-loop decreases-loop
 loop-less c = omega arith
 
-loop-again : tie.Need-loop-preserved invariant-loop decreases-loop
+loop-again : tie.Need-loop-j-preserved invariant-loop decreases-loop
 loop-again c =
     let r : tie.After-row invariant-loop decreases-loop = search in
-    let d : tie.In-loop invariant-loop decreases-loop = search in
+    let d : tie.In-loop-j invariant-loop decreases-loop = search in
     let h = d.before in
     let a : tie.Start invariant-loop decreases-loop = search in (
       omega arith,
@@ -71,17 +71,17 @@ loop-again c =
       runs-more (pos 0) (rule_i32 a.args.rule) a.args.src.now a.args.s a.args.d (pos 1) (pos 1) a.args.st a.args.dt a.args.n h.loop.j _ _ a.args.dst.now h.loop.dst _ h.loop.inv.2 (from d) (to d) r.row.ensures,
     )
 
-same_length : tie.Need-same-length invariant-loop decreases-loop
-same_length c = c.before.loop.invariant.1
+same_length : tie.Need-shape_of-dst invariant-loop decreases-loop
+same_length c = c.loop-j.invariant.1
 
 returns : tie.Need-returns invariant-loop decreases-loop
 returns c =
-    let h = c.before in
+    let h = c in
     let a : tie.Start invariant-loop decreases-loop = search in
-    runs-end (pos 0) (rule_i32 a.args.rule) a.args.src.now a.args.s a.args.d (pos 1) (pos 1) a.args.st a.args.dt a.args.n h.loop.j a.args.m a.args.dst.now h.loop.dst a.fits.s a.fits.d (sfits_lit {z = pos 1} tt) (sfits_lit {z = pos 1} tt) a.fits.st a.fits.dt (omega arith) h.loop.invariant.2
+    runs-end (pos 0) (rule_i32 a.args.rule) a.args.src.now a.args.s a.args.d (pos 1) (pos 1) a.args.st a.args.dt a.args.n h.loop-j.j a.args.m a.args.dst.now h.loop-j.dst a.fits.s a.fits.d (sfits_lit {z = pos 1} tt) (sfits_lit {z = pos 1} tt) a.fits.st a.fits.dt (omega arith) h.loop-j.invariant.2
 
-pub rows-by-spec : {M : Type 1} → statement M
-rows-by-spec =
+pub rows_by_spec : {M : Type 1} → statement M
+rows_by_spec =
     tie.close
     (tie.spec
     invariant-loop

@@ -16,105 +16,105 @@ use Rattle.runs.proofs.Runs.{turn, ends}
 use Rattle.runs.proofs.strided.Statement.{statement}
 use Rattle.runs.proofs.strided.Tie as tie
 
-abbrev invariant-loop : tie.invariant-loop
+abbrev invariant-loop : tie.invariant-loop-i
 invariant-loop rule src dst₀ n s d ss ds i₀ dst i = (i ≤ n) × (length dst ≡ length dst₀) × (dst ≡ in_order (cell_at (pos 0) (rule_i32 rule) src (line (to_z w64 s) (to_z w64 ss)) (line (to_z w64 d) (to_z w64 ds))) i dst₀)
 
-abbrev decreases-loop : tie.decreases-loop
+abbrev decreases-loop : tie.decreases-loop-i
 decreases-loop rule src dst₀ n s d ss ds i₀ dst i = n - i
 
-abbrev start : tie.In-loop invariant-loop decreases-loop → tie.Start invariant-loop decreases-loop
+abbrev start : tie.In-loop-i invariant-loop decreases-loop → tie.Start invariant-loop decreases-loop
 start d = search
 
-from : (d : tie.In-loop invariant-loop decreases-loop) → Step (start d).args.s (start d).args.ss d.before.loop.i (length (start d).args.src.now)
-from d = let a = start d in step _ _ a.args.n _ a.fits.s a.fits.ss a.pre.source (omega (arith, a.good.1.0.1)) _ d.loop-test.true
+from : (d : tie.In-loop-i invariant-loop decreases-loop) → Step (start d).args.s (start d).args.ss d.loop-i.i (length (start d).args.src.now)
+from d = let a = start d in step _ _ a.args.n _ a.fits.s a.fits.ss a.pre.source (omega (arith, a.good.1.0.1)) _ d.loop-i-test.true
 
-to : (d : tie.In-loop invariant-loop decreases-loop) → Step (start d).args.d (start d).args.ds d.before.loop.i (length (start d).args.dst.now)
-to d = let a = start d in step _ _ a.args.n _ a.fits.d a.fits.ds a.pre.dest (omega (arith, a.good.1.1.0.1)) _ d.loop-test.true
+to : (d : tie.In-loop-i invariant-loop decreases-loop) → Step (start d).args.d (start d).args.ds d.loop-i.i (length (start d).args.dst.now)
+to d = let a = start d in step _ _ a.args.n _ a.fits.d a.fits.ds a.pre.dest (omega (arith, a.good.1.1.0.1)) _ d.loop-i-test.true
 
-loop-holds : tie.Need-loop-init invariant-loop decreases-loop
+loop-holds : tie.Need-loop-i-init invariant-loop decreases-loop
 loop-holds c =
     let a : tie.Start invariant-loop decreases-loop = search in
     (omega arith, refl, none _ 0 a.args.dst.now refl)
 
-cast-k : tie.Need-overflow-cast-k invariant-loop decreases-loop
+cast-k : tie.Need-overflow_cast-k invariant-loop decreases-loop
 cast-k c = (from c).count
 
-mul-a : tie.Need-overflow-mul-a invariant-loop decreases-loop
+mul-a : tie.Need-overflow_mul-a invariant-loop decreases-loop
 mul-a c = (from c).multiple
 
-add_a : tie.Need-overflow-add-a invariant-loop decreases-loop
-add_a c = (from c).ranges
+add_a : tie.Need-overflow_add-a invariant-loop decreases-loop
+add_a c = (from c).fits
 
-cast-a : tie.Need-overflow-cast-a invariant-loop decreases-loop
+cast-a : tie.Need-overflow_cast-a invariant-loop decreases-loop
 cast-a c = (from c).cast
 
-mul-b : tie.Need-overflow-mul-b invariant-loop decreases-loop
+mul-b : tie.Need-overflow_mul-b invariant-loop decreases-loop
 mul-b c = (to c).multiple
 
-add-b : tie.Need-overflow-add-b invariant-loop decreases-loop
-add-b c = (to c).ranges
+add-b : tie.Need-overflow_add-b invariant-loop decreases-loop
+add-b c = (to c).fits
 
-cast-b : tie.Need-overflow-cast-b invariant-loop decreases-loop
+cast-b : tie.Need-overflow_cast-b invariant-loop decreases-loop
 cast-b c = (to c).cast
 
-mul_apply : tie.Need-overflow-mul-apply invariant-loop decreases-loop
+mul_apply : tie.Need-offset_bounds-dst-b invariant-loop decreases-loop
 mul_apply c = let a : tie.Start invariant-loop decreases-loop = search in omega (arith, (to c).below, a.good.1.1.0.1)
 
-slice-copy-out-apply : tie.Need-slice-copy-out-apply invariant-loop decreases-loop
+slice-copy-out-apply : tie.Need-slice_copy_out-apply invariant-loop decreases-loop
 slice-copy-out-apply c =
-    let d : tie.In-loop invariant-loop decreases-loop = search in
-    let h : tie.At-loop invariant-loop decreases-loop = search in
+    let d : tie.In-loop-i invariant-loop decreases-loop = search in
+    let h : tie.At-loop-i invariant-loop decreases-loop = search in
     omega (arith, (to d).below, h.loop.inv.1)
 
-mul-apply-2 : tie.Need-overflow-mul-apply-2 invariant-loop decreases-loop
+mul-apply-2 : tie.Need-offset_bounds-src-a invariant-loop decreases-loop
 mul-apply-2 c =
     let a : tie.Start invariant-loop decreases-loop = search in
-    let d = c.before in
-    omega (arith, (from d).below, a.good.1.0.1)
+    let d = c in
+    omega (arith, (from d.before).below, a.good.1.0.1)
 
-shared-slice-copy-out-apply : tie.Need-shared-slice-copy-out-apply invariant-loop decreases-loop
-shared-slice-copy-out-apply c = let d : tie.In-loop invariant-loop decreases-loop = search in (from d).below
+shared-slice-copy-out-apply : tie.Need-bounds-src-a invariant-loop decreases-loop
+shared-slice-copy-out-apply c = let d : tie.In-loop-i invariant-loop decreases-loop = search in (from d).below
 
-apply-requires : tie.Need-apply-requires invariant-loop decreases-loop
+apply-requires : tie.Need-apply-v-requires invariant-loop decreases-loop
 apply-requires c κs = tt
 
-mul-v : tie.Need-overflow-mul-v invariant-loop decreases-loop
+mul-v : tie.Need-offset_bounds-dst-b-in-loop-i invariant-loop decreases-loop
 mul-v c =
     let a : tie.Start invariant-loop decreases-loop = search in
-    let d = c.before.before.before in
-    omega (arith, (to d).below, a.good.1.1.0.1)
+    let d = c in
+    omega (arith, (to d.before.before.before).below, a.good.1.1.0.1)
 
-slice-set-from-v : tie.Need-slice-set-from-v invariant-loop decreases-loop
-slice-set-from-v c = let d = c.before.before.before in omega (arith, (to d).below, d.before.loop.invariant.1)
+slice-set-from-v : tie.Need-bounds-dst-b invariant-loop decreases-loop
+slice-set-from-v c = let d = c in omega (arith, (to d.before.before.before).below, d.loop-i.invariant.1)
 
-add-i : tie.Need-overflow-add-i invariant-loop decreases-loop
+add-i : tie.Need-overflow_add-i invariant-loop decreases-loop
 add-i c = omega arith
 
-loop-less : tie.Need-loop-smaller invariant-loop decreases-loop
+loop-less : tie.Need-loop-i-smaller invariant-loop decreases-loop
 loop-less c = omega arith
 
-loop-again : tie.Need-loop-preserved invariant-loop decreases-loop
+loop-again : tie.Need-loop-i-preserved invariant-loop decreases-loop
 loop-again c =
-    let d = c.before.before.before in
-    let h = d.before in
+    let d = c in
+    let h = d in
     let a : tie.Start invariant-loop decreases-loop = search in (
       omega arith,
-      length-set h.loop.dst _ _ ∙ h.loop.invariant.1,
-      turn (pos 0) (rule_i32 a.args.rule) a.args.src.now a.args.s a.args.d a.args.ss a.args.ds a.args.dst.now h.loop.dst h.loop.i _ _ _ h.loop.invariant.2 (from d) (to d)
-          (stored a.args.rule _ _ c.apply.result (sfits_of c.before.before.apply-arg.given) (sfits_of c.before.apply-arg2.given) c.apply.ensures),
+      length-set h.loop-i.dst _ _ ∙ h.loop-i.invariant.1,
+      turn (pos 0) (rule_i32 a.args.rule) a.args.src.now a.args.s a.args.d a.args.ss a.args.ds a.args.dst.now h.loop-i.dst h.loop-i.i _ _ _ h.loop-i.invariant.2 (from d.before.before.before) (to d.before.before.before)
+          (stored a.args.rule _ _ c.apply-v.result (sfits_of c.apply-arg-1.given) (sfits_of c.apply-arg-in-loop-i-1.given) c.apply-v.ensures),
     )
 
-same_length : tie.Need-same-length invariant-loop decreases-loop
-same_length c = c.before.loop.invariant.1
+same_length : tie.Need-shape_of-dst invariant-loop decreases-loop
+same_length c = c.loop-i.invariant.1
 
 returns : tie.Need-returns invariant-loop decreases-loop
 returns c =
-    let h = c.before in
+    let h = c in
     let a : tie.Start invariant-loop decreases-loop = search in
-    ends (pos 0) (rule_i32 a.args.rule) a.args.src.now a.args.s a.args.d a.args.ss a.args.ds h.loop.i a.args.n a.args.dst.now h.loop.dst a.fits.s a.fits.d a.fits.ss a.fits.ds (omega arith) h.loop.invariant.2
+    ends (pos 0) (rule_i32 a.args.rule) a.args.src.now a.args.s a.args.d a.args.ss a.args.ds h.loop-i.i a.args.n a.args.dst.now h.loop-i.dst a.fits.s a.fits.d a.fits.ss a.fits.ds (omega arith) h.loop-i.invariant.2
 
-pub strided-spec : {M : Type 1} → statement M
-strided-spec =
+pub strided_spec : {M : Type 1} → statement M
+strided_spec =
     tie.close
     (tie.spec
     invariant-loop

@@ -22,10 +22,10 @@ use Rattle.runs_c.proofs.Accepted.{accepted-plane, reads-back, runs_by, refused,
 use Rattle.runs_c.proofs.bench_run_f64.Statement.{statement}
 use Rattle.runs_c.proofs.bench_run_f64.Tie as tie
 
-abbrev invariant-loop : tie.invariant-loop
+abbrev invariant-loop : tie.invariant-loop-i
 invariant-loop add src dst₀ n s d ss ds times rule i₀ dst i = (i ≤ times) × (length dst ≡ length dst₀) × (dst ≡ in_order (λ _ x. in_order (cell_at nan (rule_f64 rule) src (line (to_z w64 s) (to_z w64 ss)) (line (to_z w64 d) (to_z w64 ds))) n x) i dst₀)
 
-abbrev decreases-loop : tie.decreases-loop
+abbrev decreases-loop : tie.decreases-loop-i
 decreases-loop add src dst₀ n s d ss ds times rule i₀ dst i = times - i
 
 module _ (p : tie.After-accepts invariant-loop decreases-loop) where
@@ -36,61 +36,61 @@ module _ (p : tie.After-accepts invariant-loop decreases-loop) where
   test-is : accepted 1 (replicate rank_limit start.args.n) (replicate rank_limit start.args.ss) (replicate rank_limit start.args.ds) start.args.s start.args.d (length start.args.src.now) (length start.args.dst.now) ≡ p.accepts.result
   test-is = let a = start in sym (p.accepts.ensures.is ∙ reads-back _ _ _ _ _ _ _ a.fits.s a.fits.d a.fits.ss a.fits.ds)
 
-module _ (e : tie.Else1 invariant-loop decreases-loop) where
+module _ (e : tie.Else-not-accepts invariant-loop decreases-loop) where
   passed : accepted 1 (replicate rank_limit (start e.before).args.n) (replicate rank_limit (start e.before).args.ss) (replicate rank_limit (start e.before).args.ds) (start e.before).args.s (start e.before).args.d (length (start e.before).args.src.now) (length (start e.before).args.dst.now) ≡ true
   passed = test-is e.before ∙ not-false _ e.if1.false
 
 accepts-requires : tie.Need-accepts-requires invariant-loop decreases-loop
 accepts-requires c κs = tt
 
-returns : tie.Need-returns invariant-loop decreases-loop
-returns c = refused _ _ _ _ (test-is c.before ∙ not-true _ c.if1.true)
+returns : tie.Need-returns-then-not-accepts invariant-loop decreases-loop
+returns c = refused _ _ _ _ (test-is c.before ∙ not-true _ c.if-not-accepts.true)
 
-rule-f64-requires : tie.Need-rule-f64-requires invariant-loop decreases-loop
+rule-f64-requires : tie.Need-rule_f64-rule-requires invariant-loop decreases-loop
 rule-f64-requires c κs = tt
 
-loop-holds : tie.Need-loop-init invariant-loop decreases-loop
+loop-holds : tie.Need-loop-i-init invariant-loop decreases-loop
 loop-holds c = (omega arith, refl, none _ 0 _ refl)
 
 plane-requires : tie.Need-plane-requires invariant-loop decreases-loop
 plane-requires c κs =
-    let e : tie.Else1 invariant-loop decreases-loop = search in
-    let h : tie.At-loop invariant-loop decreases-loop = search in
+    let e : tie.Else-not-accepts invariant-loop decreases-loop = search in
+    let h : tie.At-loop-i invariant-loop decreases-loop = search in
     let a = start e.before in
     simp (back a.fits.s, back a.fits.d, back a.fits.ss, back a.fits.ds)
     (subst (Plane a.args.s a.args.d a.args.ss a.args.ds (pos 0) (pos 0) a.args.n 1 (length a.args.src.now)) (sym h.loop.inv.1) (accepted-plane a.args.n a.args.ss a.args.ds a.args.s a.args.d _ _ (passed e)))
 
-add-i : tie.Need-overflow-add-i invariant-loop decreases-loop
+add-i : tie.Need-overflow_add-i invariant-loop decreases-loop
 add-i c = omega arith
 
-loop-less : tie.Need-loop-smaller invariant-loop decreases-loop
+loop-less : tie.Need-loop-i-smaller invariant-loop decreases-loop
 loop-less c = omega arith
 
-loop-again : tie.Need-loop-preserved invariant-loop decreases-loop
+loop-again : tie.Need-loop-i-preserved invariant-loop decreases-loop
 loop-again c =
     let r : tie.After-plane invariant-loop decreases-loop = search in
-    let h : tie.At-loop invariant-loop decreases-loop = search in
-    let e : tie.Else1 invariant-loop decreases-loop = search in
-    let k : tie.After-rule-f64 invariant-loop decreases-loop = search in
+    let h : tie.At-loop-i invariant-loop decreases-loop = search in
+    let e : tie.Else-not-accepts invariant-loop decreases-loop = search in
+    let k : tie.After-rule_f64-rule invariant-loop decreases-loop = search in
     let a = start e.before in (
       omega arith,
       r.plane.kept.1.1.0 ∙ h.loop.inv.1,
       more _ h.loop.i _ h.loop.dst _ h.loop.inv.2 (r.plane.ensures ∙ one-row nan (rule_f64 k.rule-f64.result) a.args.src.now (read a.args.s) (read a.args.d) (read a.args.ss) (read a.args.ds) (pos 0) (pos 0) a.args.n h.loop.dst),
     )
 
-same_length : tie.Need-same-length invariant-loop decreases-loop
-same_length c = c.before.loop.invariant.1
+same_length : tie.Need-shape_of-dst invariant-loop decreases-loop
+same_length c = c.loop-i.invariant.1
 
-returns-2 : tie.Need-returns-2 invariant-loop decreases-loop
+returns-2 : tie.Need-returns invariant-loop decreases-loop
 returns-2 c =
-    let e : tie.Else1 invariant-loop decreases-loop = search in
-    let r : tie.After-rule-f64 invariant-loop decreases-loop = search in
-    let h = c.before in
+    let e : tie.Else-not-accepts invariant-loop decreases-loop = search in
+    let r : tie.After-rule_f64-rule invariant-loop decreases-loop = search in
+    let h = c in
     let a = start e.before in
-    ran _ _ _ _ h.loop.dst h.loop.i (passed e) (omega arith) (runs_by nan rule_f64 a.args.src.now _ _ a.args.s a.args.d r.rule-f64.ensures a.fits.s a.fits.d h.loop.i a.args.dst.now h.loop.dst a.args.ss a.args.ds a.args.n a.fits.ss a.fits.ds h.loop.invariant.2)
+    ran _ _ _ _ h.loop-i.dst h.loop-i.i (passed e) (omega arith) (runs_by nan rule_f64 a.args.src.now _ _ a.args.s a.args.d r.rule-f64.ensures a.fits.s a.fits.d h.loop-i.i a.args.dst.now h.loop-i.dst a.args.ss a.args.ds a.args.n a.fits.ss a.fits.ds h.loop-i.invariant.2)
 
-pub bench-run-f64-spec : {M : Type 1} → statement M
-bench-run-f64-spec =
+pub bench_run_f64_spec : {M : Type 1} → statement M
+bench_run_f64_spec =
     tie.close
     (tie.spec
     invariant-loop

@@ -18,10 +18,10 @@ use Rattle.runs_c.proofs.Accepted.{accepted-some, accepted-window, accepted-leve
 use Rattle.runs_c.proofs.bench_window_f64.Statement.{statement}
 use Rattle.runs_c.proofs.bench_window_f64.Tie as tie
 
-abbrev invariant-loop : tie.invariant-loop
+abbrev invariant-loop : tie.invariant-loop-i
 invariant-loop add src dst₀ extents ss ds rank s d times rule i₀ dst i = (i ≤ times) × (length dst ≡ length dst₀) × (dst ≡ in_order (λ _ x. windowed nan (rule_f64 rule) src (to_z w64 s) (to_z w64 d) extents ss ds rank x) i dst₀)
 
-abbrev decreases-loop : tie.decreases-loop
+abbrev decreases-loop : tie.decreases-loop-i
 decreases-loop add src dst₀ extents ss ds rank s d times rule i₀ dst i = times - i
 
 module _ (p : tie.After-accepts invariant-loop decreases-loop) where
@@ -32,66 +32,66 @@ module _ (p : tie.After-accepts invariant-loop decreases-loop) where
   test-is : accepted start.args.rank start.args.extents.now start.args.ss.now start.args.ds.now start.args.s start.args.d (length start.args.src.now) (length start.args.dst.now) ≡ p.accepts.result
   test-is = let a = start in sym (p.accepts.ensures.is ∙ read_back _ _ _ _ _ _ _ _ a.fits.s a.fits.d)
 
-module _ (e : tie.Else1 invariant-loop decreases-loop) where
+module _ (e : tie.Else-not-accepts invariant-loop decreases-loop) where
   passed : accepted (start e.before).args.rank (start e.before).args.extents.now (start e.before).args.ss.now (start e.before).args.ds.now (start e.before).args.s (start e.before).args.d (length (start e.before).args.src.now) (length (start e.before).args.dst.now) ≡ true
   passed = test-is e.before ∙ not-false _ e.if1.false
 
 accepts-requires : tie.Need-accepts-requires invariant-loop decreases-loop
 accepts-requires c κs = tt
 
-returns : tie.Need-returns invariant-loop decreases-loop
-returns c = refused _ _ _ _ (test-is c.before ∙ not-true _ c.if1.true)
+returns : tie.Need-returns-then-not-accepts invariant-loop decreases-loop
+returns c = refused _ _ _ _ (test-is c.before ∙ not-true _ c.if-not-accepts.true)
 
-rule-f64-requires : tie.Need-rule-f64-requires invariant-loop decreases-loop
+rule-f64-requires : tie.Need-rule_f64-rule-requires invariant-loop decreases-loop
 rule-f64-requires c κs = tt
 
-loop-holds : tie.Need-loop-init invariant-loop decreases-loop
+loop-holds : tie.Need-loop-i-init invariant-loop decreases-loop
 loop-holds c = (omega arith, refl, none _ 0 _ refl)
 
-run-axis-requires : tie.Need-run-axis-requires invariant-loop decreases-loop
+run-axis-requires : tie.Need-run_axis-low-requires invariant-loop decreases-loop
 run-axis-requires c κs =
-    let e : tie.Else1 invariant-loop decreases-loop = search in
+    let e : tie.Else-not-accepts invariant-loop decreases-loop = search in
     let p = e.before.accepts.ensures in
     (accepted-some _ _ _ _ _ _ _ _ p.shape-long p.source-long p.dest-long (passed e), (accepted-window _ _ _ _ _ _ _ _ p.shape-long p.source-long p.dest-long (passed e)).small)
 
 axes-requires : tie.Need-axes-requires invariant-loop decreases-loop
 axes-requires c κs =
-    let e : tie.Else1 invariant-loop decreases-loop = search in
-    let h : tie.At-loop invariant-loop decreases-loop = search in
-    let l : tie.After-run-axis invariant-loop decreases-loop = search in
+    let e : tie.Else-not-accepts invariant-loop decreases-loop = search in
+    let h : tie.At-loop-i invariant-loop decreases-loop = search in
+    let l : tie.After-run_axis-low invariant-loop decreases-loop = search in
     let p = e.before.accepts.ensures in
     let a = start e.before in
     subst (Level (read a.args.s) (read a.args.d) a.args.extents.now a.args.ss.now a.args.ds.now l.run-axis.result a.args.rank (length a.args.src.now)) (sym h.loop.inv.1)
     (accepted-level _ _ _ _ _ _ _ _ p.shape-long p.source-long p.dest-long (passed e) l.run-axis.result l.run-axis.ensures.below l.run-axis.ensures.units a.fits.s a.fits.d)
 
-add-i : tie.Need-overflow-add-i invariant-loop decreases-loop
+add-i : tie.Need-overflow_add-i invariant-loop decreases-loop
 add-i c = omega arith
 
-loop-less : tie.Need-loop-smaller invariant-loop decreases-loop
+loop-less : tie.Need-loop-i-smaller invariant-loop decreases-loop
 loop-less c = omega arith
 
-loop-again : tie.Need-loop-preserved invariant-loop decreases-loop
+loop-again : tie.Need-loop-i-preserved invariant-loop decreases-loop
 loop-again c =
     let r : tie.After-axes invariant-loop decreases-loop = search in
-    let h : tie.At-loop invariant-loop decreases-loop = search in (
+    let h : tie.At-loop-i invariant-loop decreases-loop = search in (
       omega arith,
       r.axes.kept.1.1.0 ∙ h.loop.inv.1,
       more _ h.loop.i _ h.loop.dst _ h.loop.inv.2 r.axes.ensures,
     )
 
-same_length : tie.Need-same-length invariant-loop decreases-loop
-same_length c = c.before.loop.invariant.1
+same_length : tie.Need-shape_of-dst invariant-loop decreases-loop
+same_length c = c.loop-i.invariant.1
 
-returns-2 : tie.Need-returns-2 invariant-loop decreases-loop
+returns-2 : tie.Need-returns invariant-loop decreases-loop
 returns-2 c =
-    let e : tie.Else1 invariant-loop decreases-loop = search in
-    let r : tie.After-rule-f64 invariant-loop decreases-loop = search in
-    let h = c.before in
+    let e : tie.Else-not-accepts invariant-loop decreases-loop = search in
+    let r : tie.After-rule_f64-rule invariant-loop decreases-loop = search in
+    let h = c in
     let a = start e.before in
-    ran _ _ _ _ h.loop.dst h.loop.i (passed e) (omega arith) (windows-by nan rule_f64 a.args.src.now _ _ a.args.s a.args.d r.rule-f64.ensures a.fits.s a.fits.d h.loop.i a.args.dst.now h.loop.dst a.args.extents.now a.args.ss.now a.args.ds.now a.args.rank h.loop.invariant.2)
+    ran _ _ _ _ h.loop-i.dst h.loop-i.i (passed e) (omega arith) (windows-by nan rule_f64 a.args.src.now _ _ a.args.s a.args.d r.rule-f64.ensures a.fits.s a.fits.d h.loop-i.i a.args.dst.now h.loop-i.dst a.args.extents.now a.args.ss.now a.args.ds.now a.args.rank h.loop-i.invariant.2)
 
-pub bench-window-f64-spec : {M : Type 1} → statement M
-bench-window-f64-spec =
+pub bench_window_f64_spec : {M : Type 1} → statement M
+bench_window_f64_spec =
     tie.close
     (tie.spec
     invariant-loop

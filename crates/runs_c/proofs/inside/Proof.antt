@@ -10,10 +10,10 @@ use Rattle.runs_c.proofs.inside.Tie as tie
 
 returns : tie.Need-returns
 unfolding covers
-returns c = let a = c.before.before.before in
-    c.is-done.ensures
-    ∙ ap is_done (c.before.check-reach.ensures ∙ ap (buffer_bounds 0) (c.before.before.view-reach.ensures ∙ ap (λ (z : ℤ). view_reach (take a.args.rank a.args.extents) (take a.args.rank a.args.strides) z a.args.len) (back a.ranges.offset)))
+returns c = let a = c in
+    c.is_done.ensures
+    ∙ ap is_done (c.check_reach-answer.ensures ∙ ap (buffer_bounds 0) (c.view_reach-reach.ensures ∙ ap (λ (z : ℤ). view_reach (take a.args.rank a.args.extents) (take a.args.rank a.args.strides) z a.args.len) (back a.ranges.offset)))
 
-pub inside-spec : {M : Type 1} → statement M
-inside-spec =
+pub inside_spec : {M : Type 1} → statement M
+inside_spec =
     tie.close (tie.spec (λ c κs. tt) (λ c κs. tt) (λ c κs. tt) returns)

@@ -15,96 +15,96 @@ use Rattle.runs.proofs.Blocks.{block_more}
 use Rattle.runs_f64.proofs.copies.Statement.{statement}
 use Rattle.runs_f64.proofs.copies.Tie as tie
 
-abbrev invariant-loop : tie.invariant-loop
+abbrev invariant-loop : tie.invariant-loop-at
 invariant-loop src dst₀ n at₀ dst at = (at ≤ length dst₀) × (length dst ≡ length dst₀) × (dst ≡ in_order (cell_at nan (rule_f64 R.Replace) src pos pos) at dst₀)
 
-abbrev decreases-loop : tie.decreases-loop
+abbrev decreases-loop : tie.decreases-loop-at
 decreases-loop src dst₀ n at₀ dst at = length dst₀ - at
 
-loop-holds : tie.Need-loop-init invariant-loop decreases-loop
+loop-holds : tie.Need-loop-at-init invariant-loop decreases-loop
 loop-holds c =
     let a : tie.Start invariant-loop decreases-loop = search in
     (omega arith, refl, none _ 0 a.args.dst.now refl)
 
-sub-loop : tie.Need-overflow-sub-loop invariant-loop decreases-loop
+sub-loop : tie.Need-overflow_sub-n invariant-loop decreases-loop
 sub-loop c = omega arith
 
-add-e : tie.Need-overflow-add-e invariant-loop decreases-loop
+add-e : tie.Need-overflow_add-e invariant-loop decreases-loop
 add-e c = omega arith
 
-mul-block : tie.Need-overflow-mul-block invariant-loop decreases-loop
+mul-block : tie.Need-offset_bounds-src-at invariant-loop decreases-loop
 mul-block c = search rules
 
-sub-block : tie.Need-overflow-sub-block invariant-loop decreases-loop
+sub-block : tie.Need-slice_bounds-block-count invariant-loop decreases-loop
 sub-block c = omega arith
 
-part-block-start : tie.Need-slice-bounds-block-start invariant-loop decreases-loop
+part-block-start : tie.Need-slice_bounds-block-start invariant-loop decreases-loop
 part-block-start c = search rules
 
-part-block-end : tie.Need-slice-bounds-block-end invariant-loop decreases-loop
+part-block-end : tie.Need-slice_bounds-block-end invariant-loop decreases-loop
 part-block-end c = search rules
 
-mul-block-2 : tie.Need-overflow-mul-block-2 invariant-loop decreases-loop
+mul-block-2 : tie.Need-offset_bounds-dst-at invariant-loop decreases-loop
 mul-block-2 c = search rules
 
-sub-block-2 : tie.Need-overflow-sub-block-2 invariant-loop decreases-loop
+sub-block-2 : tie.Need-slice_bounds-block-count-in-loop-at invariant-loop decreases-loop
 sub-block-2 c = omega arith
 
-part-block-start-2 : tie.Need-slice-bounds-block-start-2 invariant-loop decreases-loop
+part-block-start-2 : tie.Need-slice_bounds-block-start-in-loop-at invariant-loop decreases-loop
 part-block-start-2 c = search rules
 
-part-block-end-2 : tie.Need-slice-bounds-block-end-2 invariant-loop decreases-loop
+part-block-end-2 : tie.Need-slice_bounds-block-end-in-loop-at invariant-loop decreases-loop
 part-block-end-2 c = search rules
 
 block-requires : tie.Need-block-requires invariant-loop decreases-loop
 block-requires c κs = search rules
 
-loop-less : tie.Need-loop-smaller invariant-loop decreases-loop
+loop-less : tie.Need-loop-at-smaller invariant-loop decreases-loop
 loop-less c = omega arith
 
-loop-again : tie.Need-loop-preserved invariant-loop decreases-loop
+loop-again : tie.Need-loop-at-preserved invariant-loop decreases-loop
 loop-again c =
     let b : tie.After-block invariant-loop decreases-loop = search in
-    let h : tie.At-loop invariant-loop decreases-loop = search in
+    let h : tie.At-loop-at invariant-loop decreases-loop = search in
     let a : tie.Start invariant-loop decreases-loop = search in
     let at = h.loop.at in
     let e = block_more nan (rule_f64 R.Replace) a.args.src.now a.args.dst.now h.loop.dst b.block.last.1.0 at block_cells (at + block_cells - at) (omega arith) (omega arith) h.loop.inv.2 b.block.ensures in
     (omega arith, ap length e ∙ length-cells nan (rule_f64 R.Replace) a.args.src.now pos pos (at + block_cells) a.args.dst.now, e)
 
-mul-block-3 : tie.Need-overflow-mul-block-3 invariant-loop decreases-loop
+mul-block-3 : tie.Need-offset_bounds-src-at-2 invariant-loop decreases-loop
 mul-block-3 c = search rules
 
-sub-block-3 : tie.Need-overflow-sub-block-3 invariant-loop decreases-loop
+sub-block-3 : tie.Need-slice_bounds-block-count-2 invariant-loop decreases-loop
 sub-block-3 c = omega arith
 
-part-block-start-3 : tie.Need-slice-bounds-block-start-3 invariant-loop decreases-loop
+part-block-start-3 : tie.Need-slice_bounds-block-start-2 invariant-loop decreases-loop
 part-block-start-3 c = search rules
 
-part-block-end-3 : tie.Need-slice-bounds-block-end-3 invariant-loop decreases-loop
+part-block-end-3 : tie.Need-slice_bounds-block-end-2 invariant-loop decreases-loop
 part-block-end-3 c = search rules
 
-mul-block-4 : tie.Need-overflow-mul-block-4 invariant-loop decreases-loop
+mul-block-4 : tie.Need-offset_bounds-dst-at-2 invariant-loop decreases-loop
 mul-block-4 c = search rules
 
-sub-block-4 : tie.Need-overflow-sub-block-4 invariant-loop decreases-loop
+sub-block-4 : tie.Need-slice_bounds-block-count-3 invariant-loop decreases-loop
 sub-block-4 c = omega arith
 
-part-block-start-4 : tie.Need-slice-bounds-block-start-4 invariant-loop decreases-loop
+part-block-start-4 : tie.Need-slice_bounds-block-start-3 invariant-loop decreases-loop
 part-block-start-4 c = search rules
 
-part-block-end-4 : tie.Need-slice-bounds-block-end-4 invariant-loop decreases-loop
+part-block-end-4 : tie.Need-slice_bounds-block-end-3 invariant-loop decreases-loop
 part-block-end-4 c = search rules
 
 block-requires-2 : tie.Need-block-requires-2 invariant-loop decreases-loop
 block-requires-2 c κs = search rules
 
-same_length : tie.Need-same-length invariant-loop decreases-loop
+same_length : tie.Need-shape_of-dst invariant-loop decreases-loop
 same_length c = search rules
 
 returns : tie.Need-returns invariant-loop decreases-loop
 returns c =
-    let b2 : tie.After-block2 invariant-loop decreases-loop = search in
-    let h : tie.At-loop invariant-loop decreases-loop = search in
+    let b2 : tie.After-block-2 invariant-loop decreases-loop = search in
+    let h : tie.At-loop-at invariant-loop decreases-loop = search in
     let a : tie.Start invariant-loop decreases-loop = search in
     let at = h.loop.at in
     let n = length a.args.dst.now in
@@ -112,8 +112,8 @@ returns c =
     block_more nan (rule_f64 R.Replace) a.args.src.now a.args.dst.now h.loop.dst b2.block2.last.1.0 at (n - at) (n - at) refl (omega arith) h.loop.inv.2 b2.block2.ensures
     ∙ ap (λ (m : ℕ). in_order (cell_at nan (rule_f64 R.Replace) a.args.src.now pos pos) m a.args.dst.now) e
 
-pub copies-spec : {M : Type 1} → statement M
-copies-spec =
+pub copies_spec : {M : Type 1} → statement M
+copies_spec =
     tie.close
     (tie.spec
     invariant-loop

@@ -13,51 +13,51 @@ use Rattle.runs_f64.proofs.copy_row.Statement.{statement}
 use Rattle.runs_f64.proofs.copy_row.Tie as tie
 
 from : (a : tie.Start) → Part a.args.s a.args.n (length a.args.src.now)
-from a = part_of _ _ _ a.requires.1.source a.requires.0 (omega (arith, a.well-formed.1.0.1))
+from a = part_of _ _ _ a.requires.1.source a.requires.0 (omega (arith, a.well_formed.1.0.1))
 
 to : (a : tie.Start) → Part a.args.d a.args.n (length a.args.dst.now)
-to a = part_of _ _ _ a.requires.1.dest a.requires.0 (omega (arith, a.well-formed.1.1.0.1))
+to a = part_of _ _ _ a.requires.1.dest a.requires.0 (omega (arith, a.well_formed.1.1.0.1))
 
-cast-a : tie.Need-overflow-cast-a
+cast-a : tie.Need-overflow_cast-a
 cast-a c = let a : tie.Start = search in (from a).cast
 
-cast-b : tie.Need-overflow-cast-b
+cast-b : tie.Need-overflow_cast-b
 cast-b c = let a : tie.Start = search in (to a).cast
 
-add-e : tie.Need-overflow-add-e
+add-e : tie.Need-overflow_add-e
 add-e c = let a : tie.Start = search in omega (arith, (from a).room, a.good.1.0.1)
 
-add-f : tie.Need-overflow-add-f
+add-f : tie.Need-overflow_add-f
 add-f c = let a : tie.Start = search in omega (arith, (to a).room, a.good.1.1.0.1)
 
-mul-copied : tie.Need-overflow-mul-copied
+mul-copied : tie.Need-offset_bounds-src-a
 mul-copied c = let a : tie.Start = search in omega (arith, (from a).room, a.good.1.0.1)
 
-sub-copied : tie.Need-overflow-sub-copied
+sub-copied : tie.Need-slice_bounds-copied-count
 sub-copied c = search rules
 
-part-copied-start : tie.Need-slice-bounds-copied-start
+part-copied-start : tie.Need-slice_bounds-copied-start
 part-copied-start c = search rules
 
-part-copied-end : tie.Need-slice-bounds-copied-end
+part-copied-end : tie.Need-slice_bounds-copied-end
 part-copied-end c = let a : tie.Start = search in (from a).room
 
-mul-copied-2 : tie.Need-overflow-mul-copied-2
+mul-copied-2 : tie.Need-offset_bounds-dst-b
 mul-copied-2 c = let a : tie.Start = search in omega (arith, (to a).room, a.good.1.1.0.1)
 
-sub-copied-2 : tie.Need-overflow-sub-copied-2
+sub-copied-2 : tie.Need-slice_bounds-copied-count-2
 sub-copied-2 c = search rules
 
-part-copied-start-2 : tie.Need-slice-bounds-copied-start-2
+part-copied-start-2 : tie.Need-slice_bounds-copied-start-2
 part-copied-start-2 c = search rules
 
-part-copied-end-2 : tie.Need-slice-bounds-copied-end-2
+part-copied-end-2 : tie.Need-slice_bounds-copied-end-2
 part-copied-end-2 c = let a : tie.Start = search in (to a).room
 
 copied-requires : tie.Need-copied-requires
 copied-requires c κs = search rules
 
-same_length : tie.Need-same-length
+same_length : tie.Need-shape_of-dst
 same_length c = search rules
 
 returns : tie.Need-returns
@@ -67,8 +67,8 @@ returns c = let a : tie.Start = search in
     let y : ℕ = nat_abs (read a.args.d) in
     part-run nan (rule_f64 R.Replace) a.args.src.now a.args.dst.now _ a.args.s a.args.d x y a.args.n (x + a.args.n - x) (y + a.args.n - y) (omega arith) (omega arith) (from a).is (to a).is (to a).room o.copied.ensures
 
-pub copy-row-spec : {M : Type 1} → statement M
-copy-row-spec =
+pub copy_row_spec : {M : Type 1} → statement M
+copy_row_spec =
     tie.close
     (tie.spec
     cast-a

@@ -13,64 +13,64 @@ use Rattle.runs.proofs.Turns.{none, cell-more}
 use Rattle.runs_f64.proofs.each.Statement.{statement}
 use Rattle.runs_f64.proofs.each.Tie as tie
 
-abbrev invariant-loop : tie.invariant-loop
+abbrev invariant-loop : tie.invariant-loop-at
 invariant-loop rule src dst₀ at₀ dst at = (at ≤ length dst₀) × (length dst ≡ length dst₀) × (dst ≡ in_order (cell_at nan (rule_f64 rule) src pos pos) at dst₀)
 
-abbrev decreases-loop : tie.decreases-loop
+abbrev decreases-loop : tie.decreases-loop-at
 decreases-loop rule src dst₀ at₀ dst at = length dst₀ - at
 
-loop-holds : tie.Need-loop-init invariant-loop decreases-loop
+loop-holds : tie.Need-loop-at-init invariant-loop decreases-loop
 loop-holds c =
     let a : tie.Start invariant-loop decreases-loop = search in
     (omega arith, refl, none _ 0 a.args.dst.now refl)
 
-mul-apply-f64 : tie.Need-overflow-mul-apply-f64 invariant-loop decreases-loop
+mul-apply-f64 : tie.Need-offset_bounds-dst-at invariant-loop decreases-loop
 mul-apply-f64 c = search rules
 
-slice-read-apply-f64 : tie.Need-slice-read-apply-f64 invariant-loop decreases-loop
+slice-read-apply-f64 : tie.Need-bounds-dst-at invariant-loop decreases-loop
 slice-read-apply-f64 c = omega arith
 
-mul-apply-f64-2 : tie.Need-overflow-mul-apply-f64-2 invariant-loop decreases-loop
+mul-apply-f64-2 : tie.Need-offset_bounds-src-at invariant-loop decreases-loop
 mul-apply-f64-2 c = search rules
 
-shared-slice-read-apply-f64 : tie.Need-shared-slice-read-apply-f64 invariant-loop decreases-loop
+shared-slice-read-apply-f64 : tie.Need-bounds-src-at invariant-loop decreases-loop
 shared-slice-read-apply-f64 c = omega arith
 
-apply-f64-requires : tie.Need-apply-f64-requires invariant-loop decreases-loop
+apply-f64-requires : tie.Need-apply_f64-v-requires invariant-loop decreases-loop
 apply-f64-requires c κs = tt
 
-mul-dst : tie.Need-overflow-mul-dst invariant-loop decreases-loop
+mul-dst : tie.Need-offset_bounds-dst-at-in-loop-at invariant-loop decreases-loop
 mul-dst c = search rules
 
-slice-write-dst : tie.Need-slice-write-dst invariant-loop decreases-loop
+slice-write-dst : tie.Need-bounds-dst-at-in-loop-at invariant-loop decreases-loop
 slice-write-dst c = omega arith
 
-add_at : tie.Need-overflow-add-at invariant-loop decreases-loop
+add_at : tie.Need-overflow_add-at invariant-loop decreases-loop
 add_at c = omega arith
 
-loop-less : tie.Need-loop-smaller invariant-loop decreases-loop
+loop-less : tie.Need-loop-at-smaller invariant-loop decreases-loop
 loop-less c = omega arith
 
-loop-again : tie.Need-loop-preserved invariant-loop decreases-loop
+loop-again : tie.Need-loop-at-preserved invariant-loop decreases-loop
 loop-again c =
-    let h = c.before.before.before.before in
+    let h = c in
     let a : tie.Start invariant-loop decreases-loop = search in
-    let i = h.loop.at in (
+    let i = h.loop-at.at in (
       omega arith,
-      length-set h.loop.dst _ _ ∙ h.loop.invariant.1,
-      cell-more nan (rule_f64 a.args.rule) a.args.src.now pos pos a.args.dst.now h.loop.dst i i i _ h.loop.invariant.2 refl refl
-          c.apply-f64.ensures,
+      length-set h.loop-at.dst _ _ ∙ h.loop-at.invariant.1,
+      cell-more nan (rule_f64 a.args.rule) a.args.src.now pos pos a.args.dst.now h.loop-at.dst i i i _ h.loop-at.invariant.2 refl refl
+          c.apply_f64-v.ensures,
     )
 
-same_length : tie.Need-same-length invariant-loop decreases-loop
-same_length c = c.before.loop.invariant.1
+same_length : tie.Need-shape_of-dst invariant-loop decreases-loop
+same_length c = c.loop-at.invariant.1
 
 returns : tie.Need-returns invariant-loop decreases-loop
 returns c =
-    let h = c.before in
+    let h = c in
     let a : tie.Start invariant-loop decreases-loop = search in
-    let e : h.loop.at ≡ length a.args.dst.now = omega arith in
-    h.loop.invariant.2 ∙ ap (λ (m : ℕ). in_order (cell_at nan (rule_f64 a.args.rule) a.args.src.now pos pos) m a.args.dst.now) e
+    let e : h.loop-at.at ≡ length a.args.dst.now = omega arith in
+    h.loop-at.invariant.2 ∙ ap (λ (m : ℕ). in_order (cell_at nan (rule_f64 a.args.rule) a.args.src.now pos pos) m a.args.dst.now) e
 
 pub each_spec : {M : Type 1} → statement M
 each_spec =

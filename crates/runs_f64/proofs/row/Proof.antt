@@ -12,51 +12,51 @@ use Rattle.runs_f64.proofs.row.Statement.{statement}
 use Rattle.runs_f64.proofs.row.Tie as tie
 
 from : (a : tie.Start) → Part a.args.s a.args.n (length a.args.src.now)
-from a = part_of _ _ _ a.requires.1.source a.requires.0 (omega (arith, a.well-formed.1.0.1))
+from a = part_of _ _ _ a.requires.1.source a.requires.0 (omega (arith, a.well_formed.1.0.1))
 
 to : (a : tie.Start) → Part a.args.d a.args.n (length a.args.dst.now)
-to a = part_of _ _ _ a.requires.1.dest a.requires.0 (omega (arith, a.well-formed.1.1.0.1))
+to a = part_of _ _ _ a.requires.1.dest a.requires.0 (omega (arith, a.well_formed.1.1.0.1))
 
-cast-a : tie.Need-overflow-cast-a
+cast-a : tie.Need-overflow_cast-a
 cast-a c = let a : tie.Start = search in (from a).cast
 
-cast-b : tie.Need-overflow-cast-b
+cast-b : tie.Need-overflow_cast-b
 cast-b c = let a : tie.Start = search in (to a).cast
 
-add-e : tie.Need-overflow-add-e
+add-e : tie.Need-overflow_add-e
 add-e c = let a : tie.Start = search in omega (arith, (from a).room, a.good.1.0.1)
 
-add-f : tie.Need-overflow-add-f
+add-f : tie.Need-overflow_add-f
 add-f c = let a : tie.Start = search in omega (arith, (to a).room, a.good.1.1.0.1)
 
-mul-each : tie.Need-overflow-mul-each
+mul-each : tie.Need-offset_bounds-src-a
 mul-each c = let a : tie.Start = search in omega (arith, (from a).room, a.good.1.0.1)
 
-sub_each : tie.Need-overflow-sub-each
+sub_each : tie.Need-slice_bounds-each-count
 sub_each c = search rules
 
-part-each-start : tie.Need-slice-bounds-each-start
+part-each-start : tie.Need-slice_bounds-each-start
 part-each-start c = search rules
 
-part-each-end : tie.Need-slice-bounds-each-end
+part-each-end : tie.Need-slice_bounds-each-end
 part-each-end c = let a : tie.Start = search in (from a).room
 
-mul-each-2 : tie.Need-overflow-mul-each-2
+mul-each-2 : tie.Need-offset_bounds-dst-b
 mul-each-2 c = let a : tie.Start = search in omega (arith, (to a).room, a.good.1.1.0.1)
 
-sub-each-2 : tie.Need-overflow-sub-each-2
+sub-each-2 : tie.Need-slice_bounds-each-count-2
 sub-each-2 c = search rules
 
-part-each-start-2 : tie.Need-slice-bounds-each-start-2
+part-each-start-2 : tie.Need-slice_bounds-each-start-2
 part-each-start-2 c = search rules
 
-part-each-end-2 : tie.Need-slice-bounds-each-end-2
+part-each-end-2 : tie.Need-slice_bounds-each-end-2
 part-each-end-2 c = let a : tie.Start = search in (to a).room
 
 each-requires : tie.Need-each-requires
 each-requires c κs = search rules
 
-same_length : tie.Need-same-length
+same_length : tie.Need-shape_of-dst
 same_length c = search rules
 
 returns : tie.Need-returns
@@ -66,8 +66,8 @@ returns c = let a : tie.Start = search in
     let y : ℕ = nat_abs (read a.args.d) in
     part-run nan (rule_f64 a.args.rule) a.args.src.now a.args.dst.now _ a.args.s a.args.d x y a.args.n (x + a.args.n - x) (y + a.args.n - y) (omega arith) (omega arith) (from a).is (to a).is (to a).room o.each.ensures
 
-pub row-spec : {M : Type 1} → statement M
-row-spec =
+pub row_spec : {M : Type 1} → statement M
+row_spec =
     tie.close
     (tie.spec
     cast-a

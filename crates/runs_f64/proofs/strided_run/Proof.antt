@@ -8,93 +8,93 @@ use borrow.Author.Rules.{rules}
 use Rattle.runs_f64.proofs.strided_run.Statement.{statement}
 use Rattle.runs_f64.proofs.strided_run.Tie as tie
 
-enum_told : tie.Need-enum-told
+enum_told : tie.Need-enum_told-1
 enum_told c = search rules
 
 strided-requires : tie.Need-strided-requires
 strided-requires c κs = search rules
 
-enum-told-2 : tie.Need-enum-told-2
+enum-told-2 : tie.Need-enum_told-in-Lowest
 enum-told-2 c = search rules
 
-strided-requires-2 : tie.Need-strided-requires-2
+strided-requires-2 : tie.Need-strided-requires-in-Lowest
 strided-requires-2 c κs = search rules
 
-enum-told-3 : tie.Need-enum-told-3
+enum-told-3 : tie.Need-enum_told-in-Highest
 enum-told-3 c = search rules
 
-strided-requires-3 : tie.Need-strided-requires-3
+strided-requires-3 : tie.Need-strided-requires-in-Highest
 strided-requires-3 c κs = search rules
 
-enum-told-4 : tie.Need-enum-told-4
+enum-told-4 : tie.Need-enum_told-in-Replace
 enum-told-4 c = search rules
 
-strided-requires-4 : tie.Need-strided-requires-4
+strided-requires-4 : tie.Need-strided-requires-in-Replace
 strided-requires-4 c κs = search rules
 
-enum-known-rule : tie.Need-enum-known-rule
+enum-known-rule : tie.Need-enum_known-rule
 enum-known-rule c = search rules
 
-strided-requires-5 : tie.Need-strided-requires-5
+strided-requires-5 : tie.Need-strided-requires-in-Ceiling
 strided-requires-5 c κs = search rules
 
-same_length : tie.Need-same-length
+same_length : tie.Need-shape_of-dst-in-Add
 same_length c = search rules
 
-returns : tie.Need-returns
+returns : tie.Need-returns-in-Add
 returns c =
-    let e : tie.After-enum-told = search in
+    let e : tie.In-Add = search in
     let o : tie.After-strided = search in
     let a : tie.Start = search in
     rw e.enum_told.given.1
     (ends nan (rule_f64 R.Add) a.args.src.now a.args.s a.args.d a.args.ss a.args.ds a.args.n a.args.n a.args.dst.now _ a.fits.s a.fits.d a.fits.ss a.fits.ds refl o.strided.ensures)
 
-same-length-2 : tie.Need-same-length-2
+same-length-2 : tie.Need-shape_of-dst-in-Lowest
 same-length-2 c = search rules
 
-returns-2 : tie.Need-returns-2
+returns-2 : tie.Need-returns-in-Lowest
 returns-2 c =
-    let e : tie.After-enum-told2 = search in
-    let o : tie.After-strided2 = search in
+    let e : tie.In-Lowest = search in
+    let o : tie.After-strided-in-Lowest = search in
     let a : tie.Start = search in
     rw e.enum-told2.given.1
     (ends nan (rule_f64 R.Lowest) a.args.src.now a.args.s a.args.d a.args.ss a.args.ds a.args.n a.args.n a.args.dst.now _ a.fits.s a.fits.d a.fits.ss a.fits.ds refl o.strided2.ensures)
 
-same-length-3 : tie.Need-same-length-3
+same-length-3 : tie.Need-shape_of-dst-in-Highest
 same-length-3 c = search rules
 
-returns-3 : tie.Need-returns-3
+returns-3 : tie.Need-returns-in-Highest
 returns-3 c =
-    let e : tie.After-enum-told3 = search in
-    let o : tie.After-strided3 = search in
+    let e : tie.In-Highest = search in
+    let o : tie.After-strided-in-Highest = search in
     let a : tie.Start = search in
     rw e.enum-told3.given.1
     (ends nan (rule_f64 R.Highest) a.args.src.now a.args.s a.args.d a.args.ss a.args.ds a.args.n a.args.n a.args.dst.now _ a.fits.s a.fits.d a.fits.ss a.fits.ds refl o.strided3.ensures)
 
-same-length-4 : tie.Need-same-length-4
+same-length-4 : tie.Need-shape_of-dst-in-Replace
 same-length-4 c = search rules
 
-returns-4 : tie.Need-returns-4
+returns-4 : tie.Need-returns-in-Replace
 returns-4 c =
-    let e : tie.After-enum-told4 = search in
-    let o : tie.After-strided4 = search in
+    let e : tie.In-Replace = search in
+    let o : tie.After-strided-in-Replace = search in
     let a : tie.Start = search in
     rw e.enum-told4.given.1
     (ends nan (rule_f64 R.Replace) a.args.src.now a.args.s a.args.d a.args.ss a.args.ds a.args.n a.args.n a.args.dst.now _ a.fits.s a.fits.d a.fits.ss a.fits.ds refl o.strided4.ensures)
 
-same-length-5 : tie.Need-same-length-5
+same-length-5 : tie.Need-shape_of-dst-in-Ceiling
 same-length-5 c = search rules
 
-returns-5 : tie.Need-returns-5
+returns-5 : tie.Need-returns-in-Ceiling
 returns-5 c =
-    let e : tie.After-rule = search in
-    let o : tie.After-strided5 = search in
+    let e : tie.In-Ceiling-2 = search in
+    let o : tie.After-strided-in-Ceiling = search in
     let a : tie.Start = search in
     rw e.rule.given.1
     (ends nan (rule_f64 (R.Ceiling e.rule.given.0.0)) a.args.src.now a.args.s a.args.d a.args.ss a.args.ds a.args.n a.args.n a.args.dst.now _ a.fits.s a.fits.d a.fits.ss a.fits.ds refl o.strided5.ensures)
 
-pub strided-run-spec : {M : Type 1} → statement M
-strided-run-spec =
+pub strided_run_spec : {M : Type 1} → statement M
+strided_run_spec =
     tie.close
     (tie.spec
     enum_told

@@ -7,27 +7,27 @@ use Rattle.scatter.proofs.Planned.{answer-is, compiled, prepared}
 use Rattle.scatter.proofs.prepare.Statement.{statement}
 use Rattle.scatter.proofs.prepare.Tie as tie
 
-returns : tie.Need-returns
+returns : tie.Need-returns-then-not-is_done
 returns c =
-    let s = c.before.before.before.before.before.before.before.before.before.before in
-    let a = answer-is s.args.plan s.args.batch-rows s.args.window-rows (scatter_of s.args.plan s.args.index s.args.updates s.args.dest) s.args.starts-len s.args.updates-len s.args.dest-len c.before.before.before.before.before.before.before.before.before.plan-fits.ensures c.before.before.before.before.before.before.before.before.check-plan.ensures c.before.before.before.before.before.before.before.view-reach.ensures c.before.before.before.before.before.before.view-reach2.ensures c.before.before.before.before.before.view-reach3.ensures c.before.before.before.before.check-bounds.ensures c.before.before.before.or_else.ensures in
+    let s = c in
+    let a = answer-is s.args.plan s.args.batch-rows s.args.window-rows (scatter_of s.args.plan s.args.index s.args.updates s.args.dest) s.args.starts-len s.args.updates-len s.args.dest-len c.plan_fits-fits.ensures c.check_plan-eight.ensures c.view_reach-x.ensures c.view_reach-y.ensures c.view_reach-z.ensures c.check_bounds-nine.ensures c.or_else-answer.ensures in
     let e = c.refused.ensures in
-    record { answered = e ∙ a; ready = λ d. never (sym d ∙ ap is_done (sym a) ∙ sym c.before.before.is-done.ensures ∙ not-true _ c.before.if1.true) }
+    record { answered = e ∙ a; ready = λ d. never (sym d ∙ ap is_done (sym a) ∙ sym c.is_done.ensures ∙ not-true _ c.if-not-is_done.true) }
 
-prepared-by-requires : tie.Need-prepared-by-requires
+prepared-by-requires : tie.Need-prepared_by-requires
 prepared-by-requires c κs =
-    let s = c.before.before.before.before.before.before.before.before.before in
-    let a = answer-is s.args.plan s.args.batch-rows s.args.window-rows (scatter_of s.args.plan s.args.index s.args.updates s.args.dest) s.args.starts-len s.args.updates-len s.args.dest-len c.before.before.before.before.before.before.before.before.plan-fits.ensures c.before.before.before.before.before.before.before.check-plan.ensures c.before.before.before.before.before.before.view-reach.ensures c.before.before.before.before.before.view-reach2.ensures c.before.before.before.before.view-reach3.ensures c.before.before.before.check-bounds.ensures c.before.before.or_else.ensures in
-    compiled s.args.plan s.args.batch-rows s.args.window-rows s.args.index s.args.updates s.args.dest s.args.starts-len s.args.updates-len s.args.dest-len (ap is_done (sym a) ∙ sym c.before.is-done.ensures ∙ not-false _ c.if1.false)
+    let s = c in
+    let a = answer-is s.args.plan s.args.batch-rows s.args.window-rows (scatter_of s.args.plan s.args.index s.args.updates s.args.dest) s.args.starts-len s.args.updates-len s.args.dest-len c.plan_fits-fits.ensures c.check_plan-eight.ensures c.view_reach-x.ensures c.view_reach-y.ensures c.view_reach-z.ensures c.check_bounds-nine.ensures c.or_else-answer.ensures in
+    compiled s.args.plan s.args.batch-rows s.args.window-rows s.args.index s.args.updates s.args.dest s.args.starts-len s.args.updates-len s.args.dest-len (ap is_done (sym a) ∙ sym c.is_done.ensures ∙ not-false _ c.if-not-is_done.false)
 
-returns-2 : tie.Need-returns-2
+returns-2 : tie.Need-returns
 returns-2 c =
-    let s = c.before.before.before.before.before.before.before.before.before.before in
-    let a = answer-is s.args.plan s.args.batch-rows s.args.window-rows (scatter_of s.args.plan s.args.index s.args.updates s.args.dest) s.args.starts-len s.args.updates-len s.args.dest-len c.before.before.before.before.before.before.before.before.before.plan-fits.ensures c.before.before.before.before.before.before.before.before.check-plan.ensures c.before.before.before.before.before.before.before.view-reach.ensures c.before.before.before.before.before.before.view-reach2.ensures c.before.before.before.before.before.view-reach3.ensures c.before.before.before.before.check-bounds.ensures c.before.before.before.or_else.ensures in
-    prepared s.args.plan s.args.batch-rows s.args.window-rows s.args.index s.args.updates s.args.dest s.args.starts-len s.args.updates-len s.args.dest-len (ap is_done (sym a) ∙ sym c.before.before.is-done.ensures ∙ not-false _ c.before.if1.false) _ _ _ c.prepared-by.ensures a c.before.before.before.before.before.view-reach3.ensures
+    let s = c in
+    let a = answer-is s.args.plan s.args.batch-rows s.args.window-rows (scatter_of s.args.plan s.args.index s.args.updates s.args.dest) s.args.starts-len s.args.updates-len s.args.dest-len c.plan_fits-fits.ensures c.check_plan-eight.ensures c.view_reach-x.ensures c.view_reach-y.ensures c.view_reach-z.ensures c.check_bounds-nine.ensures c.or_else-answer.ensures in
+    prepared s.args.plan s.args.batch-rows s.args.window-rows s.args.index s.args.updates s.args.dest s.args.starts-len s.args.updates-len s.args.dest-len (ap is_done (sym a) ∙ sym c.is_done.ensures ∙ not-false _ c.if-not-is_done.false) _ _ _ c.prepared_by.ensures a c.view_reach-z.ensures
 
-pub prepare-spec : {M : Type 1} → statement M
-prepare-spec =
+pub prepare_spec : {M : Type 1} → statement M
+prepare_spec =
     tie.close
     (tie.spec
     (λ c κs. tt)

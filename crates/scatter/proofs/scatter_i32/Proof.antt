@@ -4,14 +4,14 @@ use Rattle.scatter_move.proofs.Parts.{movable}
 use Rattle.scatter.proofs.scatter_i32.Statement.{statement}
 use Rattle.scatter.proofs.scatter_i32.Tie as tie
 
-move-i32-requires : tie.Need-move-i32-requires
-move-i32-requires c κs = movable c.before.prepare.ensures
+move-i32-requires : tie.Need-move_i32-requires
+move-i32-requires c κs = movable c.prepare-p.ensures
 
-same_length : tie.Need-same-length
+same_length : tie.Need-shape_of-into
 same_length c = search rules
 
 returns : tie.Need-returns
-returns c = let q = c.before.before.before.prepare.ensures in by_answer q.answered (c.before.move-i32.ensures (movable q))
+returns c = let q = c.prepare-p.ensures in by_answer q.answered (c.move_i32.ensures (movable q))
 
-pub scatter-i32-spec : {M : Type 1} → statement M
-scatter-i32-spec = tie.close (tie.spec (λ c κs. tt) move-i32-requires same_length returns)
+pub scatter_i32_spec : {M : Type 1} → statement M
+scatter_i32_spec = tie.close (tie.spec (λ c κs. tt) move-i32-requires same_length returns)

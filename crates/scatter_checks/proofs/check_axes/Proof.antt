@@ -20,33 +20,33 @@ use Rattle.scatter_checks.proofs.check_axes.Tie as tie
 abbrev asked : tie.Start → Scatter
 asked s = scatter_from s.args.index-extents.now s.args.index-strides.now s.args.updates-extents.now s.args.updates-strides.now s.args.dest-extents.now s.args.dest-strides.now s.args.window.now s.args.inserted.now s.args.map.now s.args.vector
 
-counts : (c : tie.After-check-counts) → c.check-counts.result ≡ counts_refusal (asked c.before.before.before.before.before.before.before.before.before.before.before).indices.extents (asked c.before.before.before.before.before.before.before.before.before.before.before).updates.extents (asked c.before.before.before.before.before.before.before.before.before.before.before).result.extents c.before.before.before.before.before.before.before.before.before.before.before.args.window.now c.before.before.before.before.before.before.before.before.before.before.before.args.inserted.now c.before.before.before.before.before.before.before.before.before.before.before.args.vector
+counts : (c : tie.After-check_counts-b) → c.check_counts-b.result ≡ counts_refusal (asked c.before.before.before.before.before.before.before.before.before.before.before).indices.extents (asked c.before.before.before.before.before.before.before.before.before.before.before).updates.extents (asked c.before.before.before.before.before.before.before.before.before.before.before).result.extents c.args.window.now c.args.inserted.now c.args.vector
 unfolding window_dims
 counts c =
-    let s = c.before.before.before.before.before.before.before.before.before.before.before in
+    let s = c in
     let w : ℕ = length s.args.window.now in
     let n : ℕ = length s.args.updates-extents.now in
-    c.check-counts.ensures
+    c.check_counts-b.ensures
     ∙ ap₂ (λ (j k : ℕ). or_else (same_count w j) (or_else (count_at_most w n) (or_else (same_count (n - w) k) (unique_axes n [] s.args.window.now)))) (ap length s.requires.kept) (start-count (asked s) _ _ _ s.requires)
 
-batches : (c : tie.After-check-batch) → c.check-batch.result ≡ batch_refusal (asked c.before.before.before.before.before.before.before.before.before.before.before.before).indices.extents (asked c.before.before.before.before.before.before.before.before.before.before.before.before).updates.extents c.before.before.before.before.before.before.before.before.before.before.before.before.args.window.now c.before.before.before.before.before.before.before.before.before.before.before.before.args.vector
+batches : (c : tie.After-check_batch-c) → c.check_batch-c.result ≡ batch_refusal (asked c.before.before.before.before.before.before.before.before.before.before.before.before).indices.extents (asked c.before.before.before.before.before.before.before.before.before.before.before.before).updates.extents c.args.window.now c.args.vector
 unfolding scatter_dims
 batches c =
-    let s = c.before.before.before.before.before.before.before.before.before.before.before.before in
+    let s = c in
     let n : ℕ = length s.args.updates-extents.now in
-    c.check-batch.ensures
+    c.check_batch-c.ensures
     ∙ ap₂ (λ (xs ys : List ℕ). cond (same_list (pick 0 xs s.args.updates-extents.now) ys) A.Done (A.ShapeMismatch n n)) s.requires.batches (start-extents (asked s) _ _ _ s.requires)
 
-check-counts-requires : tie.Need-check-counts-requires
+check-counts-requires : tie.Need-check_counts-b-requires
 check-counts-requires c κs = search rules
 
 returns : tie.Need-returns
 returns c =
-    c.or-else2.ensures ∙ ap₂ or_else c.before.before.before.before.check-lists.ensures
-    (c.before.or_else.ensures ∙ ap₂ or_else (counts c.before.before.before) (batches c.before.before))
+    c.or_else-2.ensures ∙ ap₂ or_else c.check_lists-a.ensures
+    (c.or_else.ensures ∙ ap₂ or_else (counts c.before.before.before) (batches c.before.before))
 
-pub check-axes-spec : {M : Type 1} → statement M
-check-axes-spec =
+pub check_axes_spec : {M : Type 1} → statement M
+check_axes_spec =
     tie.close
     (tie.spec
     (λ c κs. tt)

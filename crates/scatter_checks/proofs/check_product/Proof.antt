@@ -12,28 +12,28 @@ use borrow.Author.Rules.{rules}
 use Rattle.scatter_checks.proofs.check_product.Statement.{statement}
 use Rattle.scatter_checks.proofs.check_product.Tie as tie
 
-picked-extents-requires : tie.Need-picked-extents-requires
+picked-extents-requires : tie.Need-picked_extents-sizes-requires
 picked-extents-requires c κs = search rules
 
-sub-check-total : tie.Need-overflow-sub-check-total
+sub-check-total : tie.Need-slice_bounds-check_total-count
 sub-check-total c = search rules
 
-part-check-total-start : tie.Need-slice-bounds-check-total-start
+part-check-total-start : tie.Need-slice_bounds-check_total-start
 part-check-total-start c = search rules
 
-part-check-total-end : tie.Need-slice-bounds-check-total-end
+part-check-total-end : tie.Need-slice_bounds-check_total-end
 part-check-total-end c = search rules
 
 returns : tie.Need-returns
 returns c =
-    let x = c.before.before.before in
-    let s = x.before.before.before in
+    let x = c in
+    let s = x in
     let n = length-pick 0 s.args.axes.now s.args.list.now in
-    c.check-total.ensures
-    ∙ ap (λ (l : List ℕ). total_fits (total_of l)) (filled-part 0 (length s.args.axes.now) x.picked-extents.result (pick 0 s.args.axes.now s.args.list.now) x.picked-extents.ensures (sym n) (omega (arith, n, s.requires)))
+    c.check_total.ensures
+    ∙ ap (λ (l : List ℕ). total_fits (total_of l)) (filled-part 0 (length s.args.axes.now) x.picked_extents-sizes.result (pick 0 s.args.axes.now s.args.list.now) x.picked_extents-sizes.ensures (sym n) (omega (arith, n, s.requires)))
 
-pub check-product-spec : {M : Type 1} → statement M
-check-product-spec =
+pub check_product_spec : {M : Type 1} → statement M
+check_product_spec =
     tie.close
     (tie.spec
     picked-extents-requires

@@ -8,21 +8,21 @@ use Rattle.scatter_checks.specs.Refusals.{sizes_refusal}
 use Rattle.scatter_checks.proofs.check_sizes.Statement.{statement}
 use Rattle.scatter_checks.proofs.check_sizes.Tie as tie
 
-returns : tie.Need-returns
+returns : tie.Need-returns-then-not-is_done
 unfolding sizes_refusal
-returns c = stops _ c.before.before.check-layouts.ensures c.before.is-done.ensures (not-true _ c.if1.true)
+returns c = stops _ c.check_layouts-lengths.ensures c.is_done.ensures (not-true _ c.if-not-is_done.true)
 
-check-numbers-requires : tie.Need-check-numbers-requires
+check-numbers-requires : tie.Need-check_numbers-requires
 check-numbers-requires c κs =
-    let s = c.before.before.before.before.before.before in
+    let s = c in
     (lengths-pass (length s.args.ie.now) (length s.args.is.now) (length s.args.ue.now) (length s.args.us.now) (length s.args.de.now) (length s.args.ds.now)
-    (ap is_done (sym c.before.before.check-layouts.ensures) ∙ sym c.before.is-done.ensures ∙ not-false _ c.if1.false)).dest
+    (ap is_done (sym c.check_layouts-lengths.ensures) ∙ sym c.is_done.ensures ∙ not-false _ c.if-not-is_done.false)).dest
 
-returns-2 : tie.Need-returns-2
+returns-2 : tie.Need-returns
 unfolding sizes_refusal
-returns-2 c = goes c.before.before.before.check-layouts.ensures c.before.before.is-done.ensures (not-false _ c.before.if1.false) c.check-numbers.ensures
+returns-2 c = goes c.check_layouts-lengths.ensures c.is_done.ensures (not-false _ c.if-not-is_done.false) c.check_numbers.ensures
 
-pub check-sizes-spec : {M : Type 1} → statement M
-check-sizes-spec =
+pub check_sizes_spec : {M : Type 1} → statement M
+check_sizes_spec =
     tie.close
     (tie.spec (λ c κs. tt) (λ c κs. tt) returns check-numbers-requires returns-2)

@@ -12,42 +12,42 @@ use borrow.Author.Rules.{rules}
 use Rattle.scatter_lists.proofs.limits_by.Statement.{statement}
 use Rattle.scatter_lists.proofs.limits_by.Tie as tie
 
-sub-spread-windows : tie.Need-overflow-sub-spread-windows
+sub-spread-windows : tie.Need-slice_bounds-spread_windows-count
 sub-spread-windows c = search rules
 
-part-spread-windows-start : tie.Need-slice-bounds-spread-windows-start
+part-spread-windows-start : tie.Need-slice_bounds-spread_windows-start
 part-spread-windows-start c = search rules
 
-part-spread-windows-end : tie.Need-slice-bounds-spread-windows-end
-part-spread-windows-end c = let s = c.before.before.before.before.before.before.before.before in others-few (length s.args.dest.now) s.args.inserted.now c.before.before.other-axes.result s.requires.0 c.before.before.other-axes.ensures
+part-spread-windows-end : tie.Need-slice_bounds-spread_windows-end
+part-spread-windows-end c = let s = c in others-few (length s.args.dest.now) s.args.inserted.now c.other_axes-kept.result s.requires.0 c.other_axes-kept.ensures
 
-spread-windows-requires : tie.Need-spread-windows-requires
-spread-windows-requires c κs = let s = c.before.before.before.before.before.before.before.before.before in s.requires.1 ∙ sym (ap length (others-part (length s.args.dest.now) s.args.inserted.now c.before.before.before.other-axes.result s.requires.0 c.before.before.before.other-axes.ensures))
+spread-windows-requires : tie.Need-spread_windows-sizes-requires
+spread-windows-requires c κs = let s = c in s.requires.1 ∙ sym (ap length (others-part (length s.args.dest.now) s.args.inserted.now c.other_axes-kept.result s.requires.0 c.other_axes-kept.ensures))
 
-sub-limits-on : tie.Need-overflow-sub-limits-on
+sub-limits-on : tie.Need-slice_bounds-limits_on-count
 sub-limits-on c = search rules
 
-part-limits-on-start : tie.Need-slice-bounds-limits-on-start
+part-limits-on-start : tie.Need-slice_bounds-limits_on-start
 part-limits-on-start c = search rules
 
-part-limits-on-end : tie.Need-slice-bounds-limits-on-end
+part-limits-on-end : tie.Need-slice_bounds-limits_on-end
 part-limits-on-end c = search rules
 
 returns : tie.Need-returns
 returns c =
-    let x = c.before.before.before in
-    let s = c.before.before.before.before.before.before.before.before.before.before.before.before.before in
+    let x = c in
+    let s = c in
     let n : ℕ = length s.args.dest.now in
     let kept : List ℕ = others n s.args.inserted.now in
     let shape : List ℕ = pick 0 s.args.window.now s.args.updates.now in
     let q : min n rank_limit ≡ n = omega (arith, s.requires.0) in
-    let k = others-part (length s.args.dest.now) s.args.inserted.now c.before.before.before.before.before.before.before.other-axes.result s.requires.0 c.before.before.before.before.before.before.before.other-axes.ensures in
+    let k = others-part (length s.args.dest.now) s.args.inserted.now c.other_axes-kept.result s.requires.0 c.other_axes-kept.ensures in
     let m = length-spread 1 n kept shape in
-    let e = x.spread-windows.ensures ∙ (λ j. padded rank_limit 1 (spread 1 (q j) (k j) shape)) in
-    c.limits-on.ensures ∙ ap (λ (ws : List ℕ). tabulate rank_limit (limit_at s.args.dest.now ws s.args.map.now)) (filled-part 1 n x.spread-windows.result (spread 1 n kept shape) e (sym m) (omega (arith, m, s.requires.0)))
+    let e = x.spread_windows-sizes.ensures ∙ (λ j. padded rank_limit 1 (spread 1 (q j) (k j) shape)) in
+    c.limits_on.ensures ∙ ap (λ (ws : List ℕ). tabulate rank_limit (limit_at s.args.dest.now ws s.args.map.now)) (filled-part 1 n x.spread_windows-sizes.result (spread 1 n kept shape) e (sym m) (omega (arith, m, s.requires.0)))
 
-pub limits-by-spec : {M : Type 1} → statement M
-limits-by-spec =
+pub limits_by_spec : {M : Type 1} → statement M
+limits_by_spec =
     tie.close
     (tie.spec
     (λ c κs. tt)

@@ -11,67 +11,67 @@ use Rattle.scatter_move.proofs.move_i32.Statement.{statement}
 use Rattle.scatter_move.proofs.move_i32.Tie as tie
 
 -- where the answer is not a refusal
-module _ (e : tie.Else1) where
+module _ (e : tie.Else-not-is_done) where
   abbrev start : tie.Start
   start = search
 
   ready : is_done start.args.p.answer ≡ true
   ready =
-      let d : tie.After-is-done = search in
+      let d : tie.After-is_done = search in
       sym d.is-done.ensures ∙ not-false _ e.if1.left
 
-returns : tie.Need-returns
+returns : tie.Need-returns-then-not-is_done
 returns c =
-    let d : tie.After-is-done = search in
-    let t : tie.Then1 = search in
-    λ k. refused (sym d.is-done.ensures ∙ not-true _ t.if1.taken) c.refused-call.ensures
+    let d : tie.After-is_done = search in
+    let t : tie.Then-not-is_done = search in
+    λ k. refused (sym d.is-done.ensures ∙ not-true _ t.if1.taken) c.refused_call.ensures
 
-enum-known-reach : tie.Need-enum-known-reach
+enum-known-reach : tie.Need-enum_known-reach
 enum-known-reach c = search rules
 
-cells-i32-requires : tie.Need-cells-i32-requires
+cells-i32-requires : tie.Need-cells_i32-reported-requires
 cells-i32-requires c κs =
-    let e : tie.Else1 = search in
-    let r : tie.After-reach = search in
+    let e : tie.Else-not-is_done = search in
+    let r : tie.In-Cells-2 = search in
     let s : tie.Start = search in
     record { scatter = s.pre.scatter; ready = s.pre.ready (ready e); cells = r.reach.given.1 }
 
-enum_told : tie.Need-enum-told
+enum_told : tie.Need-enum_told-1
 enum_told c = search rules
 
-enum-told-2 : tie.Need-enum-told-2
+enum-told-2 : tie.Need-enum_told-in-Outside
 enum-told-2 c = search rules
 
-same_length : tie.Need-same-length
+same_length : tie.Need-shape_of-into
 same_length c = search rules
 
-returns-2 : tie.Need-returns-2
+returns-2 : tie.Need-returns-in-Cells
 returns-2 c =
-    let e : tie.Else1 = search in
-    let r : tie.After-reach = search in
-    let o : tie.After-cells-i32 = search in
+    let e : tie.Else-not-is_done = search in
+    let r : tie.In-Cells-2 = search in
+    let o : tie.After-cells_i32-reported = search in
     λ k.
     let l = o.cells-i32.ensures (record { scatter = k.scatter; ready = k.ready (ready e); cells = r.reach.given.1 }) in
     done (ready e) l.0 l.1
 
-returns-3 : tie.Need-returns-3
+returns-3 : tie.Need-returns-in-NoCells
 returns-3 c =
-    let e : tie.Else1 = search in
-    let o : tie.After-enum-told = search in
+    let e : tie.Else-not-is_done = search in
+    let o : tie.In-NoCells = search in
     let s : tie.Start = search in
     λ k.
     done (ready e) (without-cells s.args.p k.scatter _ _ _ (k.ready (ready e)) (rule_i32 s.args.rule) (pos 0) s.args.starts.now s.args.source.now s.args.into.now o.enum_told.given.1)
     (without-number s.args.p k.scatter _ _ _ (k.ready (ready e)) s.args.starts.now o.enum_told.given.1)
 
-returns-4 : tie.Need-returns-4
+returns-4 : tie.Need-returns-in-Outside
 returns-4 c =
-    let e : tie.Else1 = search in
-    let o : tie.After-enum-told2 = search in
+    let e : tie.Else-not-is_done = search in
+    let o : tie.In-Outside = search in
     let s : tie.Start = search in
     λ k. never s.args.p k.scatter _ _ _ (k.ready (ready e)) o.enum-told2.given.1
 
-pub move-i32-spec : {M : Type 1} → statement M
-move-i32-spec =
+pub move_i32_spec : {M : Type 1} → statement M
+move_i32_spec =
     tie.close
     (tie.spec
     (λ c κs. tt)

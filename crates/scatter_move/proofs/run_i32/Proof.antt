@@ -12,20 +12,20 @@ use Rattle.scatter_move.proofs.run_i32.Tie as tie
 bases : (s : tie.Start) → SFits w64 s.args.p.index × SFits w64 s.args.p.updates
 bases s = (search rules, search rules)
 
-scatter-rows-requires : tie.Need-scatter-rows-requires
-scatter-rows-requires c κs = let s = c.before.before.before.before.before.before.before.before.before.before.before.before.before.before.before.before.before.before.before.before.before.before in simp (back (bases s).0, back (bases s).1, back s.ranges.at) s.requires
+scatter-rows-requires : tie.Need-scatter_rows-requires
+scatter-rows-requires c κs = let s = c in simp (back (bases s.before.before.before.before.before.before.before.before.before.before.before.before.before.before.before.before.before.before.before.before.before.before).0, back (bases s.before.before.before.before.before.before.before.before.before.before.before.before.before.before.before.before.before.before.before.before.before.before).1, back s.ranges.at) s.requires
 
-same_length : tie.Need-same-length
+same_length : tie.Need-shape_of-into
 same_length c = search rules
 
 returns : tie.Need-returns
 returns c =
-    let r : tie.After-scatter-rows = search in
+    let r : tie.After-scatter_rows = search in
     let s = r.before.before.before.before.before.before.before.before.before.before.before.before.before.before.before.before.before.before.before.before.before.before.before in
     let w = s.args.p.numbers in (
       back_end (pos 0) (rule_i32 s.args.rule) s.args.source.now s.args.starts.now w.offsets w.strides w.limits w.count s.args.p.index s.args.p.updates s.args.at w.batch_extents w.index_steps w.update_steps w.batch_rank w.window_extents w.window_steps w.dest_steps w.window_rank s.args.into.now _ (bases s).0 (bases s).1 s.fits.at r.scatter-rows.ensures.0,
       number-back s.args.p s.args.starts.now _ (bases s).0 r.scatter-rows.ensures.1,
     )
 
-pub run-i32-spec : {M : Type 1} → statement M
-run-i32-spec = tie.close (tie.spec scatter-rows-requires same_length returns)
+pub run_i32_spec : {M : Type 1} → statement M
+run_i32_spec = tie.close (tie.spec scatter-rows-requires same_length returns)

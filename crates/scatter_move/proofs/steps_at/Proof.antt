@@ -16,54 +16,54 @@ use Rattle.scatter_move.specs.Prepared.{steps_at}
 use Rattle.scatter_move.proofs.steps_at.Statement.{statement}
 use Rattle.scatter_move.proofs.steps_at.Tie as tie
 
-abbrev invariant-loop : tie.invariant-loop
+abbrev invariant-loop : tie.invariant-loop-i
 invariant-loop side rows out₀ i₀ out i = (i ≤ rank_limit) × (out ≡ written (pos 0) (steps_at side rows) i)
 
-abbrev decreases-loop : tie.decreases-loop
+abbrev decreases-loop : tie.decreases-loop-i
 decreases-loop side rows out₀ i₀ out i = rank_limit - i
 
-loop-holds : tie.Need-loop-init invariant-loop decreases-loop
+loop-holds : tie.Need-loop-i-init invariant-loop decreases-loop
 loop-holds c = (zero-le, refl)
 
-mul-row : tie.Need-overflow-mul-row invariant-loop decreases-loop
+mul-row : tie.Need-offset_bounds-rows-i invariant-loop decreases-loop
 mul-row c = search rules
 
-array-copy-out-row : tie.Need-array-copy-out-row invariant-loop decreases-loop
+array-copy-out-row : tie.Need-bounds-rows-i invariant-loop decreases-loop
 array-copy-out-row c = search rules
 
-mul-step : tie.Need-overflow-mul-step invariant-loop decreases-loop
+mul-step : tie.Need-offset_bounds-row-side invariant-loop decreases-loop
 mul-step c = search rules
 
-array-copy-out-step : tie.Need-array-copy-out-step invariant-loop decreases-loop
+array-copy-out-step : tie.Need-bounds-row-side invariant-loop decreases-loop
 array-copy-out-step c = search rules
 
-mul-out : tie.Need-overflow-mul-out invariant-loop decreases-loop
+mul-out : tie.Need-offset_bounds-out-i invariant-loop decreases-loop
 mul-out c = search rules
 
-array-set-from-out : tie.Need-array-set-from-out invariant-loop decreases-loop
+array-set-from-out : tie.Need-bounds-out-i invariant-loop decreases-loop
 array-set-from-out c = search rules
 
-add-i : tie.Need-overflow-add-i invariant-loop decreases-loop
+add-i : tie.Need-overflow_add-i invariant-loop decreases-loop
 add-i c = search rules
 
-loop-less : tie.Need-loop-smaller invariant-loop decreases-loop
+loop-less : tie.Need-loop-i-smaller invariant-loop decreases-loop
 loop-less c = search rules
 
-loop-again : tie.Need-loop-preserved invariant-loop decreases-loop
+loop-again : tie.Need-loop-i-preserved invariant-loop decreases-loop
 loop-again c =
-    let l = c.before.before.before in
-    let a = l.before.args.t1 in
-    let j = l.before.args.side in
-    let h = c.before.before.loop-test.true in
+    let l = c in
+    let a = l.args.t1 in
+    let j = l.args.side in
+    let h = c.loop-i-test.true in
     let k = length-tabulate rank_limit (λ k. get_or (get_or a k []) j (pos 0)) in
-    let f : SFits w64 (get_or (get_or a l.loop.i []) j (pos 0)) = sfits_of c.step.given in
-    (omega (arith, h), one_written (pos 0) (steps_at j a) l.loop.out l.loop.i _ (omega (arith, k, h)) (omega (arith, k)) l.loop.invariant.1 (back f ∙ sym (get_d_tabulate rank_limit (λ k. get_or (get_or a k []) j (pos 0)) l.loop.i (pos 0) (omega (arith, h)))))
+    let f : SFits w64 (get_or (get_or a l.loop-i.i []) j (pos 0)) = sfits_of c.step-1.given in
+    (omega (arith, h), one_written (pos 0) (steps_at j a) l.loop-i.out l.loop-i.i _ (omega (arith, k, h)) (omega (arith, k)) l.loop-i.invariant.1 (back f ∙ sym (get_d_tabulate rank_limit (λ k. get_or (get_or a k []) j (pos 0)) l.loop-i.i (pos 0) (omega (arith, h)))))
 
 returns : tie.Need-returns invariant-loop decreases-loop
-returns c = let l = c.before in let a = l.before.args.t1 in let j = l.before.args.side in let k = length-tabulate rank_limit (λ k. get_or (get_or a k []) j (pos 0)) in l.loop.invariant.1 ∙ all-written (pos 0) (steps_at j a) l.loop.i (omega (arith, k, c.loop-test.false)) (omega (arith, k)) ∙ full (pos 0) (steps_at j a) k
+returns c = let l = c in let a = l.args.t1 in let j = l.args.side in let k = length-tabulate rank_limit (λ k. get_or (get_or a k []) j (pos 0)) in l.loop-i.invariant.1 ∙ all-written (pos 0) (steps_at j a) l.loop-i.i (omega (arith, k, c.loop-i-test.false)) (omega (arith, k)) ∙ full (pos 0) (steps_at j a) k
 
-pub steps-at-spec : {M : Type 1} → statement M
-steps-at-spec =
+pub steps_at_spec : {M : Type 1} → statement M
+steps_at_spec =
     tie.close
     (tie.spec
     invariant-loop

@@ -11,25 +11,25 @@ use borrow.Author.Rules.{rules}
 use Rattle.scatter_plan.proofs.batch_elems.Statement.{statement}
 use Rattle.scatter_plan.proofs.batch_elems.Tie as tie
 
-sub-product-value : tie.Need-overflow-sub-product-value
+sub-product-value : tie.Need-slice_bounds-product_value-count
 sub-product-value c = search rules
 
-part-product-value-start : tie.Need-slice-bounds-product-value-start
+part-product-value-start : tie.Need-slice_bounds-product_value-start
 part-product-value-start c = search rules
 
-part-product-value-end : tie.Need-slice-bounds-product-value-end
-part-product-value-end c = let s = c.before.before.before.before.before in others-few (length s.args.updates.now) s.args.window.now c.before.before.other-axes.result s.requires c.before.before.other-axes.ensures
+part-product-value-end : tie.Need-slice_bounds-product_value-end
+part-product-value-end c = let s = c in others-few (length s.args.updates.now) s.args.window.now c.other_axes-batch.result s.requires c.other_axes-batch.ensures
 
-product-value-requires : tie.Need-product-value-requires
-product-value-requires c κs = let s = c.before.before.before.before.before.before in omega (arith, ap length (others-part (length s.args.updates.now) s.args.window.now c.before.before.before.other-axes.result s.requires c.before.before.before.other-axes.ensures), length-others 0 (length s.args.updates.now) s.args.window.now, s.requires)
+product-value-requires : tie.Need-product_value-requires
+product-value-requires c κs = let s = c in omega (arith, ap length (others-part (length s.args.updates.now) s.args.window.now c.other_axes-batch.result s.requires c.other_axes-batch.ensures), length-others 0 (length s.args.updates.now) s.args.window.now, s.requires)
 
 returns : tie.Need-returns
 returns c =
-    let s = c.before.before.before.before.before.before.before in
-    c.product_value.ensures ∙ ap (λ (axes : List ℕ). total_or (pick 0 axes s.args.updates.now)) (others-part (length s.args.updates.now) s.args.window.now c.before.before.before.before.other-axes.result s.requires c.before.before.before.before.other-axes.ensures)
+    let s = c in
+    c.product_value.ensures ∙ ap (λ (axes : List ℕ). total_or (pick 0 axes s.args.updates.now)) (others-part (length s.args.updates.now) s.args.window.now c.other_axes-batch.result s.requires c.other_axes-batch.ensures)
 
-pub batch-elems-spec : {M : Type 1} → statement M
-batch-elems-spec =
+pub batch_elems_spec : {M : Type 1} → statement M
+batch_elems_spec =
     tie.close
     (tie.spec
     (λ c κs. tt)

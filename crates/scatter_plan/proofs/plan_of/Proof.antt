@@ -20,28 +20,28 @@ use Rattle.scatter_plan.proofs.plan_of.Tie as tie
 abbrev asked : tie.Start → Scatter
 asked s = scatter_from s.args.index-extents.now s.args.index-strides.now s.args.updates-extents.now s.args.updates-strides.now s.args.dest-extents.now s.args.dest-strides.now s.args.window.now s.args.inserted.now s.args.map.now s.args.vector
 
-stride-fits : (c : tie.After-stride-at) → SFits w64 c.stride-at.result
+stride-fits : (c : tie.After-stride_at-stride) → SFits w64 c.stride_at-stride.result
 stride-fits c = search rules
 
-windows-of-requires : tie.Need-windows-of-requires
-windows-of-requires c κs = let s = c.before.before.before.before.before.before.before.before.before.before.before.before in ((fits (asked s) _ _ s.requires).dest-rank, (fits (asked s) _ _ s.requires).window-few)
+windows-of-requires : tie.Need-windows_of-windows-requires
+windows-of-requires c κs = let s = c in ((fits (asked s) _ _ s.requires).dest-rank, (fits (asked s) _ _ s.requires).window-few)
 
-batch-elems-requires : tie.Need-batch-elems-requires
-batch-elems-requires c κs = let s = c.before.before.before.before.before.before.before.before.before.before.before.before.before.before.before.before.before.before.before in (fits (asked s) _ _ s.requires).updates-rank
+batch-elems-requires : tie.Need-batch_elems-batches-requires
+batch-elems-requires c κs = let s = c in (fits (asked s) _ _ s.requires).updates-rank
 
-product-value-requires : tie.Need-product-value-requires
-product-value-requires c κs = let s = c.before.before.before.before.before.before.before.before.before.before.before.before.before.before.before.before.before.before.before.before in (fits (asked s) _ _ s.requires).window-few
+product-value-requires : tie.Need-product_value-cells-requires
+product-value-requires c κs = let s = c in (fits (asked s) _ _ s.requires).window-few
 
 returns : tie.Need-returns
 returns c =
-    let d = c.before.before in
-    let s = d.before.before.before.before.before.before.before.before.before.before.before.before.before.before.before.before.before.before.before.before.before in
-    let f = stride-fits d.before.before.before.before.before.before.before in
-    let o = d.before.before.before.before.before.before.index-component-offsets.ensures ∙ ap (λ (z : ℤ). held_steps (tabulate (min (length s.args.map.now) rank_limit) (offset_or z))) (back f ∙ d.before.before.before.before.before.before.before.stride-at.ensures) in
-    plan-is (asked s) s.args.from-batch s.args.from_cell s.requires _ _ _ _ _ _ _ _ _ _ _ d.before.before.before.before.before.before.before.before.before.before.before.before.before.before.make-layout.ensures d.before.before.before.before.before.before.before.before.before.before.before.before.before.make-layout2.ensures d.before.before.before.before.before.before.before.before.before.before.before.before.make-layout3.ensures d.before.before.before.before.before.before.before.before.windows-of.ensures o d.before.before.before.before.before.strides-on.ensures d.before.before.before.before.numbers-from.ensures d.before.before.before.numbers-from2.ensures d.before.before.numbers-from3.ensures d.before.batch-elems.ensures d.product_value.ensures
+    let d = c in
+    let s = d in
+    let f = stride-fits d.before.before.before.before.before.before.before.before.before in
+    let o = d.index_component_offsets-offsets.ensures ∙ ap (λ (z : ℤ). held_steps (tabulate (min (length s.args.map.now) rank_limit) (offset_or z))) (back f ∙ d.stride_at-stride.ensures) in
+    plan-is (asked s) s.args.from-batch s.args.from_cell s.requires _ _ _ _ _ _ _ _ _ _ _ d.make_layout-first.ensures d.make_layout-second.ensures d.make_layout-third.ensures d.windows_of-windows.ensures o d.strides_on-entries.ensures d.numbers_from-a.ensures d.numbers_from-b.ensures d.numbers_from-c.ensures d.batch_elems-batches.ensures d.product_value-cells.ensures
 
-pub plan-of-spec : {M : Type 1} → statement M
-plan-of-spec =
+pub plan_of_spec : {M : Type 1} → statement M
+plan_of_spec =
     tie.close
     (tie.spec
     (λ c κs. tt)

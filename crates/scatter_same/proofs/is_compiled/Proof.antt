@@ -9,14 +9,14 @@ use Rattle.scatter_same.proofs.is_compiled.Tie as tie
 returns : tie.Need-returns
 unfolding is_compiled
 returns c =
-    let s = c.before.before.before.before.before.before.before in
-    let e = c.before.before.before.before.before.before.compiled-again.ensures in
-    c.both2.ensures
-    ∙ ap₂ ◌&&◌ (c.before.before.before.before.is-done.ensures ∙ ap (λ (r : CompiledScatter). is_done r.answer) e)
-    (c.before.both.ensures ∙ ap₂ ◌&&◌ (c.before.before.before.same-plan.ensures ∙ ap (λ (r : CompiledScatter). same_plan s.args.plan r.plan) e) (c.before.before.has-rows.ensures ∙ ap (λ (r : CompiledScatter). has_rows r s.args.batch-rows s.args.window-rows) e))
+    let s = c in
+    let e = c.compiled_again-again.ensures in
+    c.both-2.ensures
+    ∙ ap₂ ◌&&◌ (c.is_done-done.ensures ∙ ap (λ (r : CompiledScatter). is_done r.answer) e)
+    (c.both.ensures ∙ ap₂ ◌&&◌ (c.same_plan-same.ensures ∙ ap (λ (r : CompiledScatter). same_plan s.args.plan r.plan) e) (c.has_rows-rows.ensures ∙ ap (λ (r : CompiledScatter). has_rows r s.args.batch-rows s.args.window-rows) e))
 
-pub is-compiled-spec : {M : Type 1} → statement M
-is-compiled-spec =
+pub is_compiled_spec : {M : Type 1} → statement M
+is_compiled_spec =
     tie.close
     (tie.spec
     (λ c κs. tt)

@@ -4,10 +4,10 @@ use Rattle.scatter_same.proofs.same_layouts.Tie as tie
 
 returns : tie.Need-returns
 unfolding same_layouts
-returns c = rw (c.both2.ensures, c.before.both.ensures, c.before.before.same-layout3.ensures, c.before.before.before.before.before.same-layout2.ensures, c.before.before.before.before.before.before.before.before.same_layout.ensures)
+returns c = rw (c.both-2.ensures, c.both.ensures, c.same_layout-dest.ensures, c.same_layout-updates.ensures, c.same_layout-index.ensures)
 
-pub same-layouts-spec : {M : Type 1} → statement M
-same-layouts-spec =
+pub same_layouts_spec : {M : Type 1} → statement M
+same_layouts_spec =
     tie.close
     (tie.spec
     (λ c κs. tt)

@@ -4,10 +4,10 @@ use Rattle.scatter_same.proofs.same_plan.Tie as tie
 
 returns : tie.Need-returns
 unfolding same_plan
-returns c = rw (c.both3.ensures, c.before.both2.ensures, c.before.before.both.ensures, c.before.before.before.same-starts.ensures, c.before.before.before.before.same_Walks.ensures, c.before.before.before.before.before.same_spec.ensures, c.before.before.before.before.before.before.same-layouts.ensures)
+returns c = rw (c.both-3.ensures, c.both-2.ensures, c.both.ensures, c.same_starts-starts.ensures, c.same_Walks.ensures, c.same_spec-spec.ensures, c.same_layouts-layouts.ensures)
 
-pub same-plan-spec : {M : Type 1} → statement M
-same-plan-spec =
+pub same_plan_spec : {M : Type 1} → statement M
+same_plan_spec =
     tie.close
     (tie.spec
     (λ c κs. tt)

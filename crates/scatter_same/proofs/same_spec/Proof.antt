@@ -4,10 +4,10 @@ use Rattle.scatter_same.proofs.same_spec.Tie as tie
 
 returns : tie.Need-returns
 unfolding same_spec
-returns c = rw (c.both3.ensures, c.before.both2.ensures, c.before.before.both.ensures, c.before.before.before.before.before.same-numbers3.ensures, c.before.before.before.before.before.before.before.before.same-numbers2.ensures, c.before.before.before.before.before.before.before.before.before.before.before.same_numbers.ensures)
+returns c = rw (c.both-3.ensures, c.both-2.ensures, c.both.ensures, c.same_numbers-map.ensures, c.same_numbers-inserted.ensures, c.same_numbers-window.ensures)
 
-pub same-spec-spec : {M : Type 1} → statement M
-same-spec-spec =
+pub same_spec_spec : {M : Type 1} → statement M
+same_spec_spec =
     tie.close
     (tie.spec
     (λ c κs. tt)

@@ -4,10 +4,10 @@ use Rattle.scatter_same.proofs.same_starts.Tie as tie
 
 returns : tie.Need-returns
 unfolding same_starts
-returns c = rw (c.both2.ensures, c.before.both.ensures, c.before.before.same-steps2.ensures, c.before.before.before.before.before.same-steps.ensures, c.before.before.before.before.before.before.before.before.same_numbers.ensures)
+returns c = rw (c.both-2.ensures, c.both.ensures, c.same_steps-strides.ensures, c.same_steps-offsets.ensures, c.same_numbers-windows.ensures)
 
-pub same-starts-spec : {M : Type 1} → statement M
-same-starts-spec =
+pub same_starts_spec : {M : Type 1} → statement M
+same_starts_spec =
     tie.close
     (tie.spec
     (λ c κs. tt)

@@ -4,10 +4,10 @@ use Rattle.scatter_same.proofs.same_walks.Tie as tie
 
 returns : tie.Need-returns
 unfolding same_walks
-returns c = rw (c.both3.ensures, c.before.both2.ensures, c.before.before.both.ensures, c.before.before.before.before.before.before.before.same-replay2.ensures, c.before.before.before.before.before.before.before.before.before.before.same-replay.ensures)
+returns c = rw (c.both-2.ensures, c.both.ensures, c.both-counts.ensures, c.same_replay-window.ensures, c.same_replay-batch.ensures)
 
-pub same-walks-spec : {M : Type 1} → statement M
-same-walks-spec =
+pub same_walks_spec : {M : Type 1} → statement M
+same_walks_spec =
     tie.close
     (tie.spec
     (λ c κs. tt)

@@ -8,38 +8,38 @@ use Rattle.windows.specs.Windows.{Units}
 use Rattle.scatter_windows.proofs.one_cell.Statement.{statement}
 use Rattle.scatter_windows.proofs.one_cell.Tie as tie
 
-abbrev invariant-loop : tie.invariant-loop
+abbrev invariant-loop : tie.invariant-loop-i
 invariant-loop extents rank i₀ i = (i ≤ rank) × Units i extents
 
-abbrev decreases-loop : tie.decreases-loop
+abbrev decreases-loop : tie.decreases-loop-i
 decreases-loop extents rank i₀ i = rank - i
 
-loop-holds : tie.Need-loop-init invariant-loop decreases-loop
+loop-holds : tie.Need-loop-i-init invariant-loop decreases-loop
 loop-holds c = (omega arith, below_none _)
 
-mul-if1 : tie.Need-overflow-mul-if1 invariant-loop decreases-loop
-mul-if1 c = omega (arith, c.before.before.requires)
+mul-if1 : tie.Need-offset_bounds-extents-i invariant-loop decreases-loop
+mul-if1 c = omega (arith, c.requires)
 
-element-copy-out-if1 : tie.Need-element-copy-out-if1 invariant-loop decreases-loop
-element-copy-out-if1 c = omega (arith, c.before.before.requires)
+element-copy-out-if1 : tie.Need-bounds-extents-i invariant-loop decreases-loop
+element-copy-out-if1 c = omega (arith, c.requires)
 
-returns : tie.Need-returns invariant-loop decreases-loop
-returns c = let h = c.before.before.before in record { yes = λ e. absurd (true≢false (sym e)); no = λ e u. omega (arith, u h.loop.i (omega arith)) }
+returns : tie.Need-returns-then-extents-i-ne1 invariant-loop decreases-loop
+returns c = let h = c in record { yes = λ e. absurd (true≢false (sym e)); no = λ e u. omega (arith, u h.loop-i.i (omega arith)) }
 
-add-i : tie.Need-overflow-add-i invariant-loop decreases-loop
+add-i : tie.Need-overflow_add-i invariant-loop decreases-loop
 add-i c = omega arith
 
-loop-less : tie.Need-loop-smaller invariant-loop decreases-loop
+loop-less : tie.Need-loop-i-smaller invariant-loop decreases-loop
 loop-less c = omega arith
 
-loop-again : tie.Need-loop-preserved invariant-loop decreases-loop
-loop-again c = let h = c.before.before.before in (omega arith, below_more (λ k. get_or h.before.args.extents.now k 0 ≡ 1) _ h.loop.invariant.1 (omega arith))
+loop-again : tie.Need-loop-i-preserved invariant-loop decreases-loop
+loop-again c = let h = c in (omega arith, below_more (λ k. get_or h.args.extents.now k 0 ≡ 1) _ h.loop-i.invariant.1 (omega arith))
 
-returns-2 : tie.Need-returns-2 invariant-loop decreases-loop
-returns-2 c = let h = c.before in record { yes = λ e i l. h.loop.invariant.1 i (omega arith); no = λ e u. absurd (true≢false e) }
+returns-2 : tie.Need-returns invariant-loop decreases-loop
+returns-2 c = let h = c in record { yes = λ e i l. h.loop-i.invariant.1 i (omega arith); no = λ e u. absurd (true≢false e) }
 
-pub one-cell-spec : {M : Type 1} → statement M
-one-cell-spec =
+pub one_cell_spec : {M : Type 1} → statement M
+one_cell_spec =
     tie.close
     (tie.spec
     invariant-loop

@@ -7,45 +7,45 @@ use borrow.Author.Rules.{rules}
 use Rattle.scatter_windows.proofs.scatter_each.Statement.{statement}
 use Rattle.scatter_windows.proofs.scatter_each.Tie as tie
 
-scatter-run-requires : tie.Need-scatter-run-requires
+scatter-run-requires : tie.Need-scatter_run-requires
 scatter-run-requires c κs =
     let a : tie.Start = search in
-    one_batch _ _ _ _ _ _ _ _ _ _ _ _ _ _ a.pre a.fits.t a.fits.u a.fits.d c.before.if1.true
+    one_batch _ _ _ _ _ _ _ _ _ _ _ _ _ _ a.pre a.fits.t a.fits.u a.fits.d c.if-rank-eq0.true
 
-same_length : tie.Need-same-length
+same_length : tie.Need-shape_of-dst-then-rank-eq0
 same_length c = search rules
 
-returns : tie.Need-returns
+returns : tie.Need-returns-then-rank-eq0
 returns c =
-    let t1 : tie.Then1 = search in
-    let s : tie.After-scatter-run = search in
+    let t1 : tie.Then-rank-eq0 = search in
+    let s : tie.After-scatter_run = search in
     let a : tie.Start = search in (
       one_end _ _ _ _ _ _ _ _ _ _ _ _ _ _ a.pre a.fits.t a.fits.u a.fits.d t1.if1.taken (pos 0) (rule_i32 a.args.rule) a.args.src.now a.args.dst.now _ s.scatter-run.ensures.0,
       counted-one (λ x. start_moved a.args.starts.now a.args.offsets.now a.args.limits.now x a.args.count) a.args.extents.now a.args.ts.now a.args.t a.args.rank _ a.fits.t t1.if1.taken s.scatter-run.ensures.1,
     )
 
-run-axis-requires : tie.Need-run-axis-requires
+run-axis-requires : tie.Need-run_axis-low-requires
 run-axis-requires c κs = search rules
 
-scatter-cells-requires : tie.Need-scatter-cells-requires
+scatter-cells-requires : tie.Need-scatter_cells-requires
 scatter-cells-requires c κs =
-    let r = c.before in
+    let r = c in
     let a : tie.Start = search in
-    put-level _ _ _ _ _ _ _ _ _ _ _ _ _ _ a.pre a.fits.t a.fits.u a.fits.d r.run-axis.result r.run-axis.ensures.below r.run-axis.ensures.units
+    put-level _ _ _ _ _ _ _ _ _ _ _ _ _ _ a.pre a.fits.t a.fits.u a.fits.d r.run_axis-low.result r.run_axis-low.ensures.below r.run_axis-low.ensures.units
 
-same-length-2 : tie.Need-same-length-2
+same-length-2 : tie.Need-shape_of-dst
 same-length-2 c = search rules
 
-returns-2 : tie.Need-returns-2
+returns-2 : tie.Need-returns
 returns-2 c =
-    let s : tie.After-scatter-cells = search in
+    let s : tie.After-scatter_cells = search in
     let a : tie.Start = search in (
       put-end _ _ _ _ _ _ _ _ _ _ _ _ _ _ a.pre a.fits.t a.fits.u a.fits.d (pos 0) (rule_i32 a.args.rule) a.args.src.now a.args.dst.now _ s.scatter-cells.ensures.0,
       counted_back (λ x. start_moved a.args.starts.now a.args.offsets.now a.args.limits.now x a.args.count) a.args.extents.now a.args.ts.now a.args.t a.args.rank _ a.fits.t s.scatter-cells.ensures.1,
     )
 
-pub scatter-each-spec : {M : Type 1} → statement M
-scatter-each-spec =
+pub scatter_each_spec : {M : Type 1} → statement M
+scatter_each_spec =
     tie.close
     (tie.spec
     scatter-run-requires

@@ -8,58 +8,58 @@ use Rattle.spans.proofs.Turns.{total-over, total-next, total-done}
 use Rattle.spans.proofs.checked_total_len.Statement.{statement}
 use Rattle.spans.proofs.checked_total_len.Tie as tie
 
-abbrev invariant-loop : tie.invariant-loop
+abbrev invariant-loop : tie.invariant-loop-i
 invariant-loop extents acc₀ i₀ acc i = (i ≤ length extents) × (total_from acc (drop i extents) ≡ total_of extents)
 
-abbrev decreases-loop : tie.decreases-loop
+abbrev decreases-loop : tie.decreases-loop-i
 decreases-loop extents acc₀ i₀ acc i = length extents - i
 
-loop-holds : tie.Need-loop-init invariant-loop decreases-loop
+loop-holds : tie.Need-loop-i-init invariant-loop decreases-loop
 loop-holds c = (zero-le, refl)
 
-mul-checked-mul-u64 : tie.Need-overflow-mul-checked-mul-u64 invariant-loop decreases-loop
+mul-checked-mul-u64 : tie.Need-offset_bounds-extents-i invariant-loop decreases-loop
 mul-checked-mul-u64 c = search rules
 
-shared-slice-read-checked-mul-u64 : tie.Need-shared-slice-read-checked-mul-u64 invariant-loop decreases-loop
+shared-slice-read-checked-mul-u64 : tie.Need-bounds-extents-i invariant-loop decreases-loop
 shared-slice-read-checked-mul-u64 c = search rules
 
-checked-mul-u64-requires : tie.Need-checked-mul-u64-requires invariant-loop decreases-loop
+checked-mul-u64-requires : tie.Need-checked_mul_u64-p-requires invariant-loop decreases-loop
 checked-mul-u64-requires c κs = tt
 
-enum-known-p : tie.Need-enum-known-p invariant-loop decreases-loop
+enum-known-p : tie.Need-enum_known-p invariant-loop decreases-loop
 enum-known-p c = search rules
 
-enum_told : tie.Need-enum-told invariant-loop decreases-loop
+enum_told : tie.Need-enum_told-1 invariant-loop decreases-loop
 enum_told c = search rules
 
-returns : tie.Need-returns invariant-loop decreases-loop
+returns : tie.Need-returns-in-Overflow invariant-loop decreases-loop
 returns c =
-    let m = c.before.before in
-    let l = m.before.before.before in
-    let s = l.before.before in
-    total-over l.loop.acc s.args.extents.now l.loop.i (omega (arith, m.before.before.loop-test.true)) m.checked-mul-u64.result m.checked-mul-u64.ensures c.enum_told.given.1 ∙ l.loop.invariant.1
+    let m = c in
+    let l = m in
+    let s = l in
+    total-over l.loop-i.acc s.args.extents.now l.loop-i.i (omega (arith, m.loop-i-test.true)) m.checked_mul_u64-p.result m.checked_mul_u64-p.ensures c.in-Overflow.is ∙ l.loop-i.invariant.1
 
-add-i : tie.Need-overflow-add-i invariant-loop decreases-loop
+add-i : tie.Need-overflow_add-i invariant-loop decreases-loop
 add-i c = search rules
 
-loop-less : tie.Need-loop-smaller invariant-loop decreases-loop
+loop-less : tie.Need-loop-i-smaller invariant-loop decreases-loop
 loop-less c = search rules
 
-loop-again : tie.Need-loop-preserved invariant-loop decreases-loop
+loop-again : tie.Need-loop-i-preserved invariant-loop decreases-loop
 loop-again c =
-    let m = c.before.before.before in
-    let l = m.before.before.before in
-    let s = l.before.before in
-    (omega (arith, m.before.before.loop-test.true), total-next l.loop.acc s.args.extents.now l.loop.i (omega (arith, m.before.before.loop-test.true)) m.checked-mul-u64.result m.checked-mul-u64.ensures c.before.p.given.0.0 c.before.p.given.1 ∙ l.loop.invariant.1)
+    let m = c in
+    let l = m in
+    let s = l in
+    (omega (arith, m.loop-i-test.true), total-next l.loop-i.acc s.args.extents.now l.loop-i.i (omega (arith, m.loop-i-test.true)) m.checked_mul_u64-p.result m.checked_mul_u64-p.ensures c.in-Fits.m c.in-Fits.is ∙ l.loop-i.invariant.1)
 
-returns-2 : tie.Need-returns-2 invariant-loop decreases-loop
+returns-2 : tie.Need-returns invariant-loop decreases-loop
 returns-2 c =
-    let l = c.before in
-    let s = l.before.before in
-    total-done l.loop.acc s.args.extents.now l.loop.i (omega (arith, c.loop-test.false)) ∙ l.loop.invariant.1
+    let l = c in
+    let s = l in
+    total-done l.loop-i.acc s.args.extents.now l.loop-i.i (omega (arith, c.loop-i-test.false)) ∙ l.loop-i.invariant.1
 
-pub checked-total-len-spec : {M : Type 1} → statement M
-checked-total-len-spec =
+pub checked_total_len_spec : {M : Type 1} → statement M
+checked_total_len_spec =
     tie.close
     (tie.spec
     invariant-loop

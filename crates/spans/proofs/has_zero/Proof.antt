@@ -6,20 +6,20 @@ use borrow.Author.Rules.{rules}
 use Rattle.spans.proofs.has_zero.Statement.{statement}
 use Rattle.spans.proofs.has_zero.Tie as tie
 
-sub-zero-in : tie.Need-overflow-sub-zero-in
+sub-zero-in : tie.Need-slice_bounds-zero_in-count
 sub-zero-in c = search rules
 
-part-zero-in-start : tie.Need-slice-bounds-zero-in-start
+part-zero-in-start : tie.Need-slice_bounds-zero_in-start
 part-zero-in-start c = search rules
 
-part-zero-in-end : tie.Need-slice-bounds-zero-in-end
+part-zero-in-end : tie.Need-slice_bounds-zero_in-end
 part-zero-in-end c = search rules
 
 returns : tie.Need-returns
-returns c = c.zero_in.ensures ∙ ap has_zero (part-read _ _ rank_limit _ c.before.before.before.axis-count.ensures (search rules))
+returns c = c.zero_in.ensures ∙ ap has_zero (part-read _ _ rank_limit _ c.axis_count-n.ensures (search rules))
 
-pub has-zero-spec : {M : Type 1} → statement M
-has-zero-spec =
+pub has_zero_spec : {M : Type 1} → statement M
+has_zero_spec =
     tie.close
     (tie.spec
     (λ c κs. tt)

@@ -5,14 +5,14 @@ use borrow.Author.Rules.{rules}
 use Rattle.strided.proofs.store.Statement.{statement}
 use Rattle.strided.proofs.store.Tie as tie
 
-returns : tie.Need-returns
-returns c = let s = c.before.before.before in not_made s.args.made s.args.out.now (sym c.before.is-done.ensures ∙ not-true _ c.if1.true)
+returns : tie.Need-returns-then-not-is_done
+returns c = let s = c in not_made s.args.made s.args.out.now (sym c.is_done.ensures ∙ not-true _ c.if-not-is_done.true)
 
-same_length : tie.Need-same-length
+same_length : tie.Need-shape_of-out
 same_length c = search rules
 
-returns-2 : tie.Need-returns-2
-returns-2 c = let s = c.before.before.before.before.before.before.before.before in was-made s.args.made s.args.out.now _ c.before.before.write-job.result (sym c.before.before.before.before.before.before.is-done.ensures ∙ not-false _ c.before.before.before.before.before.if1.false) c.before.before.write-job.ensures
+returns-2 : tie.Need-returns
+returns-2 c = let s = c in was-made s.args.made s.args.out.now _ c.write_job.result (sym c.is_done.ensures ∙ not-false _ c.if-not-is_done.false) c.write_job.ensures
 
 pub store_spec : {M : Type 1} → statement M
 store_spec = tie.close (tie.spec (λ c κs. tt) returns (λ c κs. tt) same_length returns-2)

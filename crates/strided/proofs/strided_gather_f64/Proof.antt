@@ -7,18 +7,18 @@ use Rattle.strided.proofs.Calls.{gather-handed}
 use Rattle.strided.proofs.strided_gather_f64.Statement.{statement}
 use Rattle.strided.proofs.strided_gather_f64.Tie as tie
 
-move-f64-requires : tie.Need-move-f64-requires
-move-f64-requires c κs = movable c.before.prepare-gather.ensures
+move-f64-requires : tie.Need-move_f64-r-requires
+move-f64-requires c κs = movable c.prepare_gather-p.ensures
 
-same_length : tie.Need-same-length
+same_length : tie.Need-shape_of-dest
 same_length c = search rules
 
 returns : tie.Need-returns
 returns c =
-    let s = c.before.before.before.before.before.before.before.before.before in
-    gather-handed nan (gather_by_job E.F64 s.args.job.now s.args.starts.now) _ s.args.operand.now s.args.dest.now _ _ _ c.before.before.before.before.before.prepare-gather.ensures c.before.before.before.move-f64.ensures c.words_of.ensures
+    let s = c in
+    gather-handed nan (gather_by_job E.F64 s.args.job.now s.args.starts.now) _ s.args.operand.now s.args.dest.now _ _ _ c.prepare_gather-p.ensures c.move_f64-r.ensures c.words_of.ensures
 
-pub strided-gather-f64-spec : {M : Type 1} → statement M
-strided-gather-f64-spec =
+pub strided_gather_f64_spec : {M : Type 1} → statement M
+strided_gather_f64_spec =
     tie.close
     (tie.spec (λ c κs. tt) move-f64-requires (λ c κs. tt) same_length returns)

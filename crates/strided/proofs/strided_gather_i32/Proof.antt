@@ -7,18 +7,18 @@ use Rattle.strided.proofs.Calls.{gather-handed}
 use Rattle.strided.proofs.strided_gather_i32.Statement.{statement}
 use Rattle.strided.proofs.strided_gather_i32.Tie as tie
 
-move-i32-requires : tie.Need-move-i32-requires
-move-i32-requires c κs = movable c.before.prepare-gather.ensures
+move-i32-requires : tie.Need-move_i32-r-requires
+move-i32-requires c κs = movable c.prepare_gather-p.ensures
 
-same_length : tie.Need-same-length
+same_length : tie.Need-shape_of-dest
 same_length c = search rules
 
 returns : tie.Need-returns
 returns c =
-    let s = c.before.before.before.before.before.before in
-    gather-handed (pos 0) (gather_by_job E.I32 s.args.job.now s.args.starts.now) _ s.args.operand.now s.args.dest.now _ _ _ c.before.before.before.before.prepare-gather.ensures c.before.before.move-i32.ensures c.words_of.ensures
+    let s = c in
+    gather-handed (pos 0) (gather_by_job E.I32 s.args.job.now s.args.starts.now) _ s.args.operand.now s.args.dest.now _ _ _ c.prepare_gather-p.ensures c.move_i32-r.ensures c.words_of.ensures
 
-pub strided-gather-i32-spec : {M : Type 1} → statement M
-strided-gather-i32-spec =
+pub strided_gather_i32_spec : {M : Type 1} → statement M
+strided_gather_i32_spec =
     tie.close
     (tie.spec (λ c κs. tt) move-i32-requires (λ c κs. tt) same_length returns)

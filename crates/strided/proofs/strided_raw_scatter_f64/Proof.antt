@@ -17,7 +17,7 @@ use Rattle.strided.proofs.Calls.{scatter-handed, named-refused, named-listed}
 use Rattle.strided.proofs.strided_raw_scatter_f64.Statement.{statement}
 use Rattle.strided.proofs.strided_raw_scatter_f64.Tie as tie
 
-module _ (k : tie.After-is-done) where
+module _ (k : tie.After-is_done) where
   abbrev start : tie.Start
   start = search
 
@@ -30,33 +30,33 @@ module _ (s : tie.Start) where
   abbrev call : ScatterCall Float
   call = by_lists (scatter_from s.args.index-extents.now s.args.index-strides.now s.args.updates-extents.now s.args.updates-strides.now s.args.dest-extents.now s.args.dest-strides.now s.args.update-window-dims.now s.args.inserted-window-dims.now s.args.scatter-dims-to-operand-dims.now s.args.index-vector-dim) (view_with s.args.index-view-extents.now s.args.index-view-strides.now s.args.index-offset) (view_with s.args.updates-view-extents.now s.args.updates-view-strides.now s.args.updates-offset) (view_with s.args.dest-view-extents.now s.args.dest-view-strides.now s.args.dest-offset) s.args.starts.now s.args.updates.now
 
-returns : tie.Need-returns
+returns : tie.Need-returns-then-not-is_done
 returns c =
-    let k = c.before.before in
+    let k = c in
     let s = start k in
-    named-refused rules_f64 s.args.rule ((call s).answer (length s.args.dest.now)) _ _ s.args.dest.now _ _ (asked k ∙ not-true _ c.before.if1.true) refl (c.bare-words.ensures ∙ ap (λ (x : Answer). words (bare x)) k.before.check-rule.ensures)
+    named-refused rules_f64 s.args.rule ((call s).answer (length s.args.dest.now)) _ _ s.args.dest.now _ _ (asked k ∙ not-true _ c.if-not-is_done.true) refl (c.bare_words.ensures ∙ ap (λ (x : Answer). words (bare x)) k.check_rule-listed.ensures)
 
-move-f64-requires : tie.Need-move-f64-requires
+move-f64-requires : tie.Need-move_f64-r-requires
 move-f64-requires c κs =
-    let p = c.before.before in
+    let p = c in
     let s = start p.before.before in
-    movable (simp (back s.fits.index-offset, back s.fits.updates-offset, back s.fits.dest-offset) at p.prepare-views.ensures)
+    movable (simp (back s.fits.index-offset, back s.fits.updates-offset, back s.fits.dest-offset) at p.prepare_views-p.ensures)
 
-same_length : tie.Need-same-length
+same_length : tie.Need-shape_of-dest
 same_length c = search rules
 
-returns-2 : tie.Need-returns-2
+returns-2 : tie.Need-returns
 returns-2 c =
-    let m = c.before.before.before in
-    let o = m.before.before in
-    let p = o.before in
-    let i = p.before in
+    let m = c in
+    let o = m in
+    let p = o in
+    let i = p in
     let s = start i.before in
-    named-listed rules_f64 s.args.rule ((call s).answer (length s.args.dest.now)) _ _ s.args.dest.now _ _ (asked i.before ∙ not-false _ i.if1.false)
-    (rw (← o.rule-f64-of.ensures) (scatter-handed nan (rule_f64 o.rule-f64-of.result) (call s) _ s.args.dest.now _ _ _ (simp (back s.fits.index-offset, back s.fits.updates-offset, back s.fits.dest-offset) at p.prepare-views.ensures) m.move-f64.ensures c.words_of.ensures))
+    named-listed rules_f64 s.args.rule ((call s).answer (length s.args.dest.now)) _ _ s.args.dest.now _ _ (asked i.before ∙ not-false _ i.if-not-is_done.false)
+    (rw (← o.rule_f64_of-by.ensures) (scatter-handed nan (rule_f64 o.rule_f64_of-by.result) (call s) _ s.args.dest.now _ _ _ (simp (back s.fits.index-offset, back s.fits.updates-offset, back s.fits.dest-offset) at p.prepare_views-p.ensures) m.move_f64-r.ensures c.words_of.ensures))
 
-pub strided-raw-scatter-f64-spec : {M : Type 1} → statement M
-strided-raw-scatter-f64-spec =
+pub strided_raw_scatter_f64_spec : {M : Type 1} → statement M
+strided_raw_scatter_f64_spec =
     tie.close
     (tie.spec
     (λ c κs. tt)

@@ -19,7 +19,7 @@ use Rattle.strided.proofs.Calls.{operand-handed, named-refused, named-listed}
 use Rattle.strided.proofs.strided_raw_scatter_operand_f64.Statement.{statement}
 use Rattle.strided.proofs.strided_raw_scatter_operand_f64.Tie as tie
 
-module _ (k : tie.After-is-done) where
+module _ (k : tie.After-is_done) where
   abbrev start : tie.Start
   start = search
 
@@ -35,35 +35,35 @@ module _ (s : tie.Start) where
   abbrev operand : Operand Float
   operand = record { view = (view_with s.args.operand-view-extents.now s.args.operand-view-strides.now s.args.operand-offset); elements = s.args.operand.now }
 
-returns : tie.Need-returns
+returns : tie.Need-returns-then-not-is_done
 returns c =
-    let k = c.before.before in
+    let k = c in
     let s = start k in
-    named-refused rules_f64 s.args.rule ((call s).answer (length s.args.dest.now)) _ _ s.args.dest.now _ _ (asked k ∙ not-true _ c.before.if1.true) refl (c.bare-words.ensures ∙ ap (λ (x : Answer). words (bare x)) k.before.check-rule.ensures)
+    named-refused rules_f64 s.args.rule ((call s).answer (length s.args.dest.now)) _ _ s.args.dest.now _ _ (asked k ∙ not-true _ c.if-not-is_done.true) refl (c.bare_words.ensures ∙ ap (λ (x : Answer). words (bare x)) k.check_rule-listed.ensures)
 
-move-f64-requires : tie.Need-move-f64-requires
+move-f64-requires : tie.Need-move_f64-r-requires
 move-f64-requires c κs =
-    let k = c.before in
-    let p = k.before.before in
+    let k = c in
+    let p = k in
     let s = start p.before.before in
-    movable (simp (back s.fits.operand-offset, back s.fits.index-offset, back s.fits.updates-offset, back s.fits.dest-offset) at p.prepare-views.ensures) (λ d. simp (back s.fits.operand-offset) at k.copy-from.ensures)
+    movable (simp (back s.fits.operand-offset, back s.fits.index-offset, back s.fits.updates-offset, back s.fits.dest-offset) at p.prepare_views-p.ensures) (λ d. simp (back s.fits.operand-offset) at k.copy_from-c.ensures)
 
-same_length : tie.Need-same-length
+same_length : tie.Need-shape_of-dest
 same_length c = search rules
 
-returns-2 : tie.Need-returns-2
+returns-2 : tie.Need-returns
 returns-2 c =
-    let m = c.before.before.before in
-    let k = m.before.before in
-    let o = k.before in
-    let p = o.before in
-    let i = p.before in
+    let m = c in
+    let k = m in
+    let o = k in
+    let p = o in
+    let i = p in
     let s = start i.before in
-    named-listed rules_f64 s.args.rule ((call s).answer (length s.args.dest.now)) _ _ s.args.dest.now _ _ (asked i.before ∙ not-false _ i.if1.false)
-    (rw (← o.rule-f64-of.ensures) (operand-handed nan (rule_f64 o.rule-f64-of.result) (operand s) (call s) _ _ s.args.dest.now _ _ _ (simp (back s.fits.operand-offset, back s.fits.index-offset, back s.fits.updates-offset, back s.fits.dest-offset) at p.prepare-views.ensures) (simp (back s.fits.operand-offset) at k.copy-from.ensures) m.move-f64.ensures c.words_of.ensures))
+    named-listed rules_f64 s.args.rule ((call s).answer (length s.args.dest.now)) _ _ s.args.dest.now _ _ (asked i.before ∙ not-false _ i.if-not-is_done.false)
+    (rw (← o.rule_f64_of-by.ensures) (operand-handed nan (rule_f64 o.rule_f64_of-by.result) (operand s) (call s) _ _ s.args.dest.now _ _ _ (simp (back s.fits.operand-offset, back s.fits.index-offset, back s.fits.updates-offset, back s.fits.dest-offset) at p.prepare_views-p.ensures) (simp (back s.fits.operand-offset) at k.copy_from-c.ensures) m.move_f64-r.ensures c.words_of.ensures))
 
-pub strided-raw-scatter-operand-f64-spec : {M : Type 1} → statement M
-strided-raw-scatter-operand-f64-spec =
+pub strided_raw_scatter_operand_f64_spec : {M : Type 1} → statement M
+strided_raw_scatter_operand_f64_spec =
     tie.close
     (tie.spec
     (λ c κs. tt)

@@ -8,18 +8,18 @@ use Rattle.strided.proofs.Calls.{scatter-handed}
 use Rattle.strided.proofs.strided_scatter_f64.Statement.{statement}
 use Rattle.strided.proofs.strided_scatter_f64.Tie as tie
 
-move-f64-requires : tie.Need-move-f64-requires
-move-f64-requires c κs = movable c.before.prepare-scatter.ensures
+move-f64-requires : tie.Need-move_f64-r-requires
+move-f64-requires c κs = movable c.prepare_scatter-p.ensures
 
-same_length : tie.Need-same-length
+same_length : tie.Need-shape_of-dest
 same_length c = search rules
 
 returns : tie.Need-returns
 returns c =
-    let s = c.before.before.before.before.before.before.before.before.before in
-    scatter-handed nan add_f64 (scatter_by_job E.F64 s.args.job.now s.args.starts.now s.args.updates.now) _ s.args.dest.now _ _ _ c.before.before.before.before.before.prepare-scatter.ensures c.before.before.before.move-f64.ensures c.words_of.ensures
+    let s = c in
+    scatter-handed nan add_f64 (scatter_by_job E.F64 s.args.job.now s.args.starts.now s.args.updates.now) _ s.args.dest.now _ _ _ c.prepare_scatter-p.ensures c.move_f64-r.ensures c.words_of.ensures
 
-pub strided-scatter-f64-spec : {M : Type 1} → statement M
-strided-scatter-f64-spec =
+pub strided_scatter_f64_spec : {M : Type 1} → statement M
+strided_scatter_f64_spec =
     tie.close
     (tie.spec (λ c κs. tt) move-f64-requires (λ c κs. tt) same_length returns)

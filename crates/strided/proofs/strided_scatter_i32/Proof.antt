@@ -8,18 +8,18 @@ use Rattle.strided.proofs.Calls.{scatter-handed}
 use Rattle.strided.proofs.strided_scatter_i32.Statement.{statement}
 use Rattle.strided.proofs.strided_scatter_i32.Tie as tie
 
-move-i32-requires : tie.Need-move-i32-requires
-move-i32-requires c κs = movable c.before.prepare-scatter.ensures
+move-i32-requires : tie.Need-move_i32-r-requires
+move-i32-requires c κs = movable c.prepare_scatter-p.ensures
 
-same_length : tie.Need-same-length
+same_length : tie.Need-shape_of-dest
 same_length c = search rules
 
 returns : tie.Need-returns
 returns c =
-    let s = c.before.before.before.before.before.before in
-    scatter-handed (pos 0) add_i32 (scatter_by_job E.I32 s.args.job.now s.args.starts.now s.args.updates.now) _ s.args.dest.now _ _ _ c.before.before.before.before.prepare-scatter.ensures c.before.before.move-i32.ensures c.words_of.ensures
+    let s = c in
+    scatter-handed (pos 0) add_i32 (scatter_by_job E.I32 s.args.job.now s.args.starts.now s.args.updates.now) _ s.args.dest.now _ _ _ c.prepare_scatter-p.ensures c.move_i32-r.ensures c.words_of.ensures
 
-pub strided-scatter-i32-spec : {M : Type 1} → statement M
-strided-scatter-i32-spec =
+pub strided_scatter_i32_spec : {M : Type 1} → statement M
+strided_scatter_i32_spec =
     tie.close
     (tie.spec (λ c κs. tt) move-i32-requires (λ c κs. tt) same_length returns)

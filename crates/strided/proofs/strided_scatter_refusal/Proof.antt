@@ -2,8 +2,8 @@ use Rattle.strided.proofs.strided_scatter_refusal.Statement.{statement}
 use Rattle.strided.proofs.strided_scatter_refusal.Tie as tie
 
 returns : tie.Need-returns
-returns c = rw (c.bare-words.ensures, c.before.scatter-refusal.ensures)
+returns c = rw (c.bare_words.ensures, c.scatter_refusal-r.ensures)
 
-pub strided-scatter-refusal-spec : {M : Type 1} → statement M
-strided-scatter-refusal-spec =
+pub strided_scatter_refusal_spec : {M : Type 1} → statement M
+strided_scatter_refusal_spec =
     tie.close (tie.spec (λ c κs. tt) (λ c κs. tt) returns)

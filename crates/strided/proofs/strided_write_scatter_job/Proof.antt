@@ -15,18 +15,18 @@ use Rattle.strided.proofs.strided_write_scatter_job.Tie as tie
 offsets-fit : (a : tie.Start) → SFits w64 a.args.index-offset × SFits w64 a.args.updates-offset × SFits w64 a.args.dest-offset
 offsets-fit a = (search rules, search rules, search rules)
 
-same_length : tie.Need-same-length
+same_length : tie.Need-shape_of-out
 same_length c = search rules
 
 returns : tie.Need-returns
 returns c =
-    let s = c.before.before.before.before.before.before.before.before.before.before.before.before.before.before.before in
-    let f = offsets-fit s in
-    let made = simp (back f.0, back f.1, back f.2) at c.before.before.before.before.before.before.make-scatter-job.ensures in
-    stored-as c.before.before.before.before.before.listed.result _ s.args.out.now _ c.before.before.before.store.result c.bare-words.result (c.before.before.before.before.before.listed.ensures ∙ ap (element_listed s.args.element) (made ∙ ap (λ (e : Element). job_from K.Scatter e s.args.index-extents.now s.args.index-strides.now s.args.index-offset s.args.updates-extents.now s.args.updates-strides.now s.args.updates-offset s.args.dest-extents.now s.args.dest-strides.now s.args.dest-offset s.args.update-window-dims.now s.args.inserted-window-dims.now s.args.scatter-dims-to-operand-dims.now s.args.index-vector-dim []) c.before.before.before.before.before.before.before.element-of.ensures)) c.before.before.before.store.ensures c.bare-words.ensures
+    let s = c in
+    let f = offsets-fit s.before.before.before.before.before.before.before.before.before.before.before.before.before.before.before in
+    let made = simp (back f.0, back f.1, back f.2) at c.make_scatter_job-made.ensures in
+    stored-as c.listed-job.result _ s.args.out.now _ c.store-r.result c.bare_words.result (c.listed-job.ensures ∙ ap (element_listed s.args.element) (made ∙ ap (λ (e : Element). job_from K.Scatter e s.args.index-extents.now s.args.index-strides.now s.args.index-offset s.args.updates-extents.now s.args.updates-strides.now s.args.updates-offset s.args.dest-extents.now s.args.dest-strides.now s.args.dest-offset s.args.update-window-dims.now s.args.inserted-window-dims.now s.args.scatter-dims-to-operand-dims.now s.args.index-vector-dim []) c.element_of-e.ensures)) c.store-r.ensures c.bare_words.ensures
 
-pub strided-write-scatter-job-spec : {M : Type 1} → statement M
-strided-write-scatter-job-spec =
+pub strided_write_scatter_job_spec : {M : Type 1} → statement M
+strided_write_scatter_job_spec =
     tie.close
     (tie.spec
     (λ c κs. tt)

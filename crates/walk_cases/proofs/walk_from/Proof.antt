@@ -20,31 +20,31 @@ use borrow.Author.Rules.{rules}
 use Rattle.walk_cases.proofs.walk_from.Statement.{statement}
 use Rattle.walk_cases.proofs.walk_from.Tie as tie
 
-returns : tie.Need-returns
+returns : tie.Need-returns-then-not-is_done
 returns c = tt
 
 slice-aggregate-put : tie.Need-slice-aggregate-put
 slice-aggregate-put c = search rules
 
-returns-2 : tie.Need-returns-2
+returns-2 : tie.Need-returns-then-has_zero
 returns-2 c = tt
 
 slice-aggregate-put-2 : tie.Need-slice-aggregate-put-2
 slice-aggregate-put-2 c = search rules
 
-returns-3 : tie.Need-returns-3
+returns-3 : tie.Need-returns-then-not-covers
 returns-3 c = tt
 
 slice-aggregate-put-3 : tie.Need-slice-aggregate-put-3
 slice-aggregate-put-3 c = search rules
 
-returns-4 : tie.Need-returns-4
+returns-4 : tie.Need-returns-then-not-covers-2
 returns-4 c = tt
 
-abbrev start : tie.After-rows-of → tie.Start
+abbrev start : tie.After-rows_of-rows → tie.Start
 start d = d.before.before.before.before.before.before.before.before.before.before.before.before.before.before.before.before.before.before
 
-abbrev compiled : tie.After-rows-of → CompiledReplay
+abbrev compiled : tie.After-rows_of-rows → CompiledReplay
 compiled d = d.before.before.before.before.before.before.before.before.before.before.before.before.before.before.before.before.before.compile-window-replay.result
 
 module _ (s : tie.Start) where
@@ -74,13 +74,13 @@ module _ (s : tie.Start) where
       (omega (arith, e), omega (arith, e, f), omega (arith, e, g))
 
 -- the spans of the destination are numbers of i64
-dest-spans : (h : tie.After-struct-told3) → SFits w64 h.before.before.before.before.before.before.before.before.before.before.before.before.before.compile-window-replay.result.replay.spans.dest_low × SFits w64 h.before.before.before.before.before.before.before.before.before.before.before.before.before.compile-window-replay.result.replay.spans.dest_high
+dest-spans : (h : tie.After-struct_told-3-1) → SFits w64 h.compile_window_replay-made.result.replay.spans.dest_low × SFits w64 h.compile_window_replay-made.result.replay.spans.dest_high
 dest-spans h = (search rules, search rules)
 
 -- what the tests have shown by the time that the shape and the rows are made
-known : (d : tie.After-rows-of) → Walking (ds (start d)) (ss (start d)) (ts (start d)) (sb (start d)) (db (start d)) (compiled d).replay.extents d.rows_of_lem.result (compiled d).replay.rank
+known : (d : tie.After-rows_of-rows) → Walking (ds (start d)) (ss (start d)) (ts (start d)) (sb (start d)) (db (start d)) (compiled d).replay.extents d.rows_of_lem.result (compiled d).replay.rank
 known d =
-    let m = d.before.before.before.before.before.before.before.before.before.before.before.before.before.before.before.before.before in
+    let m = d in
     let s = start d in
     let r = compiled d in
     let l = lengths s in
@@ -88,25 +88,25 @@ known d =
     let f2 : SFits w64 r.replay.spans.source_high = search rules in
     let f3 = (dest-spans d.before.before.before.before).0 in
     let f4 = (dest-spans d.before.before.before.before).1 in
-    let e1 : covers_of r.replay.spans.source_low r.replay.spans.source_high (sb s) ≡ true = sym (d.before.before.before.before.before.before.covers.ensures ∙ ap₂ (λ (x y : ℤ). covers_of x y (sb s)) (back f1) (back f2)) ∙ not-false _ d.before.before.before.before.before.if3.false in
-    let e2 : covers_of r.replay.spans.dest_low r.replay.spans.dest_high (db s) ≡ true = sym (d.before.before.covers2.ensures ∙ ap₂ (λ (x y : ℤ). covers_of x y (db s)) (back f3) (back f4)) ∙ not-false _ d.before.if4.false in
-    let n : r.answer ≡ N.Done = done-is r.answer (sym d.before.before.before.before.before.before.before.before.before.before.before.before.is-done.ensures ∙ not-false _ d.before.before.before.before.before.before.before.before.before.before.before.if1.false) in
-    let z = sym d.before.before.before.before.before.before.before.before.before.before.has-zero.ensures ∙ d.before.before.before.before.before.before.before.before.before.if2.false in
-    let t = spans-cover (ds s) (ss s) (ts s) l.0 l.1 l.2 r m.compile-window-replay.ensures n (sb s) (db s) e1 e2 in
-    let q : Ready (ds s) (ss s) (ts s) (sb s) (db s) = record { done = ap (λ (x : CompiledReplay). x.answer) (sym m.compile-window-replay.ensures) ∙ n; positive = some-cells (ds s) z; source-reach = t.0; dest-reach = t.1 } in
-    walking (ds s) (ss s) (ts s) l.0 l.1 l.2 r m.compile-window-replay.ensures (sb s) (db s) q r.replay.extents d.rows_of_lem.result refl d.rows_of_lem.ensures
+    let e1 : covers_of r.replay.spans.source_low r.replay.spans.source_high (sb s) ≡ true = sym (d.covers.ensures ∙ ap₂ (λ (x y : ℤ). covers_of x y (sb s)) (back f1) (back f2)) ∙ not-false _ d.if-not-covers.false in
+    let e2 : covers_of r.replay.spans.dest_low r.replay.spans.dest_high (db s) ≡ true = sym (d.covers-2.ensures ∙ ap₂ (λ (x y : ℤ). covers_of x y (db s)) (back f3) (back f4)) ∙ not-false _ d.if-not-covers-2.false in
+    let n : r.answer ≡ N.Done = done-is r.answer (sym d.is_done.ensures ∙ not-false _ d.if-not-is_done.false) in
+    let z = sym d.has_zero.ensures ∙ d.if-has_zero.false in
+    let t = spans-cover (ds s) (ss s) (ts s) l.0 l.1 l.2 r m.compile_window_replay-made.ensures n (sb s) (db s) e1 e2 in
+    let q : Ready (ds s) (ss s) (ts s) (sb s) (db s) = record { done = ap (λ (x : CompiledReplay). x.answer) (sym m.compile_window_replay-made.ensures) ∙ n; positive = some-cells (ds s) z; source-reach = t.0; dest-reach = t.1 } in
+    walking (ds s) (ss s) (ts s) l.0 l.1 l.2 r m.compile_window_replay-made.ensures (sb s) (db s) q r.replay.extents d.rows_of_lem.result refl d.rows_of_lem.ensures
 
 places-requires : tie.Need-places-requires
 places-requires c κs = (known c).walk
 
-places-back-requires : tie.Need-places-back-requires
+places-back-requires : tie.Need-places_back-requires
 places-back-requires c κs = (known c.before).walk
 
-returns-5 : tie.Need-returns-5
+returns-5 : tie.Need-returns
 returns-5 c = tt
 
-pub walk-from-spec : {M : Type 1} → statement M
-walk-from-spec =
+pub walk_from_spec : {M : Type 1} → statement M
+walk_from_spec =
     tie.close
     (tie.spec
     (λ c κs. tt)

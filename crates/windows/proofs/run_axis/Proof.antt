@@ -7,41 +7,41 @@ use Rattle.windows.specs.Windows.{Units}
 use Rattle.windows.proofs.run_axis.Statement.{statement}
 use Rattle.windows.proofs.run_axis.Tie as tie
 
-abbrev invariant-loop : tie.invariant-loop
+abbrev invariant-loop : tie.invariant-loop-low
 invariant-loop extents rank low₀ low = (low < rank) × Units low extents
 
-abbrev decreases-loop : tie.decreases-loop
+abbrev decreases-loop : tie.decreases-loop-low
 decreases-loop extents rank low₀ low = rank - low
 
-loop-holds : tie.Need-loop-init invariant-loop decreases-loop
+loop-holds : tie.Need-loop-low-init invariant-loop decreases-loop
 loop-holds c = (omega arith, below_none _)
 
-add-loop : tie.Need-overflow-add-loop invariant-loop decreases-loop
+add-loop : tie.Need-overflow_add-low invariant-loop decreases-loop
 add-loop c = omega arith
 
-mul-if1 : tie.Need-overflow-mul-if1 invariant-loop decreases-loop
+mul-if1 : tie.Need-offset_bounds-extents-low invariant-loop decreases-loop
 mul-if1 c = omega arith
 
-element-copy-out-if1 : tie.Need-element-copy-out-if1 invariant-loop decreases-loop
+element-copy-out-if1 : tie.Need-bounds-extents-low invariant-loop decreases-loop
 element-copy-out-if1 c = omega arith
 
-returns : tie.Need-returns invariant-loop decreases-loop
-returns c = let h = c.before.before.before in record { below = h.loop.invariant.0; units = h.loop.invariant.1; long = λ _ e. omega (arith, e) }
+returns : tie.Need-returns-then-extents-low-ne1 invariant-loop decreases-loop
+returns c = let h = c in record { below = h.loop-low.invariant.0; units = h.loop-low.invariant.1; long = λ _ e. omega (arith, e) }
 
-add_low : tie.Need-overflow-add-low invariant-loop decreases-loop
+add_low : tie.Need-overflow_add-low-in-loop-low invariant-loop decreases-loop
 add_low c = omega arith
 
-loop-less : tie.Need-loop-smaller invariant-loop decreases-loop
+loop-less : tie.Need-loop-low-smaller invariant-loop decreases-loop
 loop-less c = omega arith
 
-loop-again : tie.Need-loop-preserved invariant-loop decreases-loop
-loop-again c = let h = c.before.before.before in (omega arith, below_more (λ k. get_or h.before.args.extents.now k 0 ≡ 1) _ h.loop.invariant.1 (omega arith))
+loop-again : tie.Need-loop-low-preserved invariant-loop decreases-loop
+loop-again c = let h = c in (omega arith, below_more (λ k. get_or h.args.extents.now k 0 ≡ 1) _ h.loop-low.invariant.1 (omega arith))
 
-returns-2 : tie.Need-returns-2 invariant-loop decreases-loop
-returns-2 c = let h = c.before in record { below = h.loop.invariant.0; units = h.loop.invariant.1; long = λ l _. omega (arith, l) }
+returns-2 : tie.Need-returns invariant-loop decreases-loop
+returns-2 c = let h = c in record { below = h.loop-low.invariant.0; units = h.loop-low.invariant.1; long = λ l _. omega (arith, l) }
 
-pub run-axis-spec : {M : Type 1} → statement M
-run-axis-spec =
+pub run_axis_spec : {M : Type 1} → statement M
+run_axis_spec =
     tie.close
     (tie.spec
     invariant-loop

@@ -2,29 +2,29 @@ use Rattle.std.proofs.Common.{arith, length-take, rules}
 use Rattle.stored_cases.proofs.outcomes.parts_f64.Statement.{statement}
 use Rattle.stored_cases.proofs.outcomes.parts_f64.Tie as tie
 
-returns : tie.Need-returns
+returns : tie.Need-returns-then-n-source
 returns c = search rules
 
-returns-2 : tie.Need-returns-2
+returns-2 : tie.Need-returns-then-m-into
 returns-2 c = search rules
 
-slice-aggregate-compare-f64 : tie.Need-slice-aggregate-compare-f64
+slice-aggregate-compare-f64 : tie.Need-slice_bounds-compare_f64-end
 slice-aggregate-compare-f64 c = simp length-take (omega arith)
 
-slice-relend-prefix-compare-f64 : tie.Need-slice-relend-prefix-compare-f64
+slice-relend-prefix-compare-f64 : tie.Need-slice_bounds-compare_f64-end-2
 slice-relend-prefix-compare-f64 c = search rules
 
-slice-aggregate-compare-f64-2 : tie.Need-slice-aggregate-compare-f64-2
+slice-aggregate-compare-f64-2 : tie.Need-slice_bounds-compare_f64-end-3
 slice-aggregate-compare-f64-2 c = simp length-take (omega arith)
 
-same_length : tie.Need-same-length
+same_length : tie.Need-shape_of-into
 same_length c = search rules
 
-returns-3 : tie.Need-returns-3
+returns-3 : tie.Need-returns
 returns-3 c = search rules
 
-pub parts-f64-spec : {M : Type 1} → statement M
-parts-f64-spec =
+pub parts_f64_spec : {M : Type 1} → statement M
+parts_f64_spec =
     tie.close
     (tie.spec
     (λ c κs. tt)

@@ -2,44 +2,44 @@ use Rattle.std.proofs.Common.{◌≡◌, ◌-◌, length, arith, rules}
 use Rattle.stored_reader.proofs.elements.fill_f64.Statement.{statement}
 use Rattle.stored_reader.proofs.elements.fill_f64.Tie as tie
 
-abbrev invariant-loop : tie.invariant-loop
+abbrev invariant-loop : tie.invariant-loop-i
 invariant-loop words elements₀ i₀ elements i = length elements ≡ length elements₀
 
-abbrev decreases-loop : tie.decreases-loop
+abbrev decreases-loop : tie.decreases-loop-i
 decreases-loop words elements₀ i₀ elements i = length elements₀ - i
 
-loop-holds : tie.Need-loop-init invariant-loop decreases-loop
+loop-holds : tie.Need-loop-i-init invariant-loop decreases-loop
 loop-holds c = search rules
 
-word-at-requires : tie.Need-word-at-requires invariant-loop decreases-loop
+word-at-requires : tie.Need-word_at-requires invariant-loop decreases-loop
 word-at-requires c κs = tt
 
-of-bits-requires : tie.Need-of-bits-requires invariant-loop decreases-loop
+of-bits-requires : tie.Need-of_bits-requires invariant-loop decreases-loop
 of-bits-requires c κs = tt
 
-mul-elements : tie.Need-overflow-mul-elements invariant-loop decreases-loop
+mul-elements : tie.Need-offset_bounds-elements-i invariant-loop decreases-loop
 mul-elements c = omega arith
 
-slice-write-elements : tie.Need-slice-write-elements invariant-loop decreases-loop
+slice-write-elements : tie.Need-bounds-elements-i invariant-loop decreases-loop
 slice-write-elements c = omega arith
 
-add-i : tie.Need-overflow-add-i invariant-loop decreases-loop
+add-i : tie.Need-overflow_add-i invariant-loop decreases-loop
 add-i c = omega arith
 
-loop-less : tie.Need-loop-smaller invariant-loop decreases-loop
+loop-less : tie.Need-loop-i-smaller invariant-loop decreases-loop
 loop-less c = omega arith
 
-loop-again : tie.Need-loop-preserved invariant-loop decreases-loop
+loop-again : tie.Need-loop-i-preserved invariant-loop decreases-loop
 loop-again c = search rules
 
-same_length : tie.Need-same-length invariant-loop decreases-loop
+same_length : tie.Need-shape_of-elements invariant-loop decreases-loop
 same_length c = search rules
 
 returns : tie.Need-returns invariant-loop decreases-loop
 returns c = tt
 
-pub fill-f64-spec : {M : Type 1} → statement M
-fill-f64-spec =
+pub fill_f64_spec : {M : Type 1} → statement M
+fill_f64_spec =
     tie.close
     (tie.spec
     invariant-loop

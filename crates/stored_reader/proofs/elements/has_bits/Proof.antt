@@ -10,14 +10,14 @@ equals_itself nan h = subst T h tt
 equals_itself (inf s) h = tt
 equals_itself (fin s m e) h = tt
 
-float-to-bits-result : tie.Need-float-to-bits-result
-float-to-bits-result c = equals_itself c.before.args.x c.if1.false
+float-to-bits-result : tie.Need-float_to_bits-result
+float-to-bits-result c = equals_itself c.args.x c.if-x.false
 
-returns : tie.Need-returns
+returns : tie.Need-returns-then-x
 returns c = search rules
 
-returns-2 : tie.Need-returns-2
+returns-2 : tie.Need-returns-else-x
 returns-2 c = search rules
 
-pub has-bits-spec : {M : Type 1} → statement M
-has-bits-spec = tie.close (tie.spec (λ c κs. tt) float-to-bits-result returns returns-2)
+pub has_bits_spec : {M : Type 1} → statement M
+has_bits_spec = tie.close (tie.spec (λ c κs. tt) float-to-bits-result returns returns-2)

@@ -7,5 +7,5 @@ returns : tie.Need-returns
 unfolding nan_bits
 returns c = search rules
 
-pub is-nan-spec : {M : Type 1} → statement M
-is-nan-spec = tie.close (tie.spec (λ c κs. tt) returns)
+pub is_nan_spec : {M : Type 1} → statement M
+is_nan_spec = tie.close (tie.spec (λ c κs. tt) returns)
