@@ -7,7 +7,7 @@ use Prim.Native.Nat.{ℕ, zero, suc, ◌+◌, ◌-◌, ◌*◌, ◌^◌, ◌≤�
 use native.Mathlib.Omega.{arith}
 use Rattle.std.proofs.Math.IntN.{pos, neg_ℤ, +ℤ_assoc, +ℤ_idr}
 use Rattle.std.proofs.Math.Dec.{T, eqb-suc-zero}
-use Rattle.std.specs.Float.{nan, fin, Format, binary64}
+use Rattle.std.specs.Float.{nan, fin, inf, Format, binary64}
 use Rattle.std.specs.Float.Ieee.{prec, up, down, round, sum, add, of_int, fits}
 use Rattle.std.specs.Float.Ieee.Fits.{down_pos, up_pos, of_int-fits}
 use Rattle.std.specs.Float.Ieee.Exact.{HasValue}
@@ -92,6 +92,10 @@ one-above s t m n e d a b p q h S U = go (s && eqb m 0) refl
 -- TWO WHOLE NUMBERS add up to the float nearest to their sum, of whatever size they are, unless both are −0,
 pub add-nearest : (f : Format) (x y : Float) (v w : ℤ) → Whole x v → Whole y w → T (not (minus_zero x && minus_zero y)) → add f x y ≡ of_int f (v +ℤ w)
 unfolding add
+add-nearest f nan y v w p q h = elim p [ ]
+add-nearest f (inf _) y v w p q h = elim p [ ]
+add-nearest f (fin s m e) nan v w p q h = elim q [ ]
+add-nearest f (fin s m e) (inf _) v w p q h = elim q [ ]
 add-nearest f (fin s m e) (fin t n d) v w p q h =
     let a = p.0 in
     let b = q.0 in
@@ -109,6 +113,10 @@ add-nearest f (fin s m e) (fin t n d) v w p q h =
 -- which add up to −0
 pub add-minus : (x y : Float) → T (minus_zero x) → T (minus_zero y) → add binary64 x y ≡ fin true 0 (pos 0)
 unfolding add
+add-minus nan y p q = elim p [ ]
+add-minus (inf _) y p q = elim p [ ]
+add-minus (fin true m e) nan p q = elim q [ ]
+add-minus (fin true m e) (inf _) p q = elim q [ ]
 add-minus (fin true m e) (fin true n d) p q =
     ap (λ (k : ℕ). add binary64 (fin true k e) (fin true n d)) (eqb→eq m 0 p)
     ∙ ap (λ (k : ℕ). add binary64 (fin true 0 e) (fin true k d)) (eqb→eq n 0 q)
@@ -138,6 +146,8 @@ pub of_int-whole : (f : Format) (z : ℤ) → nat_abs z ≤ 2 ^ prec f → Whole
 of_int-whole f z h = of-value (of_int f z) (is_neg z) (nat_abs z) z (of_int-value f z h) (sign-is z)
 
 no_minus : (x : Float) (s : Bool) (n : ℕ) → HasValue x s n 1 → (T s → 0 < n) → T (not (minus_zero x))
+no_minus nan s n v h = elim v [ ]
+no_minus (inf _) s n v h = elim v [ ]
 no_minus (fin false m e) s n v h = tt
 no_minus (fin true zero e) s n v h = absurd (lt_irrefl 0 (subst (λ (k : ℕ). 0 < k) (sym v.1 ∙ mul-one (zero * up e) ∙ zero-mul (up e)) (mul-pos (h (subst T v.0 tt)) (down_pos e))))
 no_minus (fin true (suc m) e) s n v h = subst (λ (b : Bool). T (not b)) (sym (eqb-suc-zero m)) tt
@@ -156,6 +166,8 @@ sign-back true zero h = absurd (lt_irrefl 0 (h tt))
 sign-back true (suc n) h = refl
 
 pub whole_is : (f : Format) (x : Float) (z : ℤ) → T (fits f x) → Whole x z → T (not (minus_zero x)) → nat_abs z ≤ 2 ^ prec f → x ≡ of_int f z
+whole_is f nan z p w h b = elim w [ ]
+whole_is f (inf _) z p w h b = elim w [ ]
 whole_is f (fin s m e) z p w h b =
     let n = w.0 in
     let N : n ≡ nat_abs z = sym (ap nat_abs w.2 ∙ size-signed s n) in
