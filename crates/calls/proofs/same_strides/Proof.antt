@@ -53,7 +53,7 @@ same-i64-requires c κs = tt
 returns-2 : tie.Need-returns-then-not-same_i64 invariant-loop decreases-loop
 returns-2 c =
     let l = c in
-    record { yes = λ h. cc; no = λ h. sym (not-true _ c.if-not-same_i64.true) ∙ at c.before ∙ (ints-decide _ _).no (ap (λ (xs : List ℤ). get_or xs l.loop-i.i (pos 0)) h) }
+    record { yes = λ h. cc; no = λ h. sym c.if-not-same_i64.true ∙ at c.before ∙ (ints-decide _ _).no (ap (λ (xs : List ℤ). get_or xs l.loop-i.i (pos 0)) h) }
 
 add-i : tie.Need-overflow_add-i invariant-loop decreases-loop
 add-i c = search rules
@@ -66,7 +66,7 @@ loop-again c =
     let l = c in
     let s = l in
     let t = c.loop-i-test.true in
-    let e = (ints-decide (get_or s.args.a.now l.loop-i.i (pos 0)) (get_or s.args.b.now l.loop-i.i (pos 0))).yes (sym (at c.before) ∙ not-false _ c.if-not-same_i64.false) in
+    let e = (ints-decide (get_or s.args.a.now l.loop-i.i (pos 0)) (get_or s.args.b.now l.loop-i.i (pos 0))).yes (sym (at c.before) ∙ c.if-not-same_i64.false) in
     (omega (arith, t), rw (add-one l.loop-i.i, take-suc s.args.a.now l.loop-i.i (pos 0) (omega (arith, t)), take-suc s.args.b.now l.loop-i.i (pos 0) (omega (arith, t, l.if-a-b.false))) (ap₂ (λ (xs : List ℤ) (v : ℤ). xs ++ v ∷ []) l.loop-i.invariant.1 e))
 
 returns-3 : tie.Need-returns invariant-loop decreases-loop

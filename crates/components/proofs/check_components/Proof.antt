@@ -31,7 +31,7 @@ returns : tie.Need-returns-then-not-is_done invariant-loop decreases-loop
 returns c =
     let l = c in
     let s = l in
-    first_stops (offset_fits (to_z w64 (of_z w64 s.args.stride))) s.args.count l.loop-i.i c.check_offset-answer.result c.is_done.result c.loop-i-test.true c.check_offset-answer.ensures c.is_done.ensures (not-true _ c.if-not-is_done.true) ∙ l.loop-i.invariant.1 ∙ ap (λ (z : ℤ). first_of (offset_fits z) s.args.count 0) (back s.ranges.stride)
+    first_stops (offset_fits (to_z w64 (of_z w64 s.args.stride))) s.args.count l.loop-i.i c.check_offset-answer.result c.is_done.result c.loop-i-test.true c.check_offset-answer.ensures c.is_done.ensures c.if-not-is_done.true ∙ l.loop-i.invariant.1 ∙ ap (λ (z : ℤ). first_of (offset_fits z) s.args.count 0) (back s.ranges.stride)
 
 add-i : tie.Need-overflow_add-i invariant-loop decreases-loop
 add-i c = search rules
@@ -43,7 +43,7 @@ loop-again : tie.Need-loop-i-preserved invariant-loop decreases-loop
 loop-again c =
     let l = c in
     let s = l in
-    (omega (arith, c.loop-i-test.true), first_goes (offset_fits (to_z w64 (of_z w64 s.args.stride))) s.args.count l.loop-i.i c.check_offset-answer.result c.is_done.result c.loop-i-test.true c.check_offset-answer.ensures c.is_done.ensures (not-false _ c.if-not-is_done.false) ∙ l.loop-i.invariant.1)
+    (omega (arith, c.loop-i-test.true), first_goes (offset_fits (to_z w64 (of_z w64 s.args.stride))) s.args.count l.loop-i.i c.check_offset-answer.result c.is_done.result c.loop-i-test.true c.check_offset-answer.ensures c.is_done.ensures c.if-not-is_done.false ∙ l.loop-i.invariant.1)
 
 returns-2 : tie.Need-returns invariant-loop decreases-loop
 returns-2 c =

@@ -18,7 +18,7 @@ enum_told c = search rules
 returns : tie.Need-returns-in-Fits
 returns c =
     let s = c in
-    let z : SFits w64 c.in-Fits.z = sfits_of c.known_told-1.given.0.1 in
+    let z : SFits w64 c.in-Fits.z = sfits_of c.in-Fits.known_told-1-own.given.0.1 in
     back z ∙ ap value_of (sym c.in-Fits.is ∙ c.checked_offset_add-offset.ensures ∙ ap (λ (z : ℤ). offset_add (pos 0) z s.args.component) (back s.ranges.stride))
 
 returns-2 : tie.Need-returns-in-Overflow

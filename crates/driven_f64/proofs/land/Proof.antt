@@ -14,26 +14,26 @@ dst-room a = omega (arith, a.well_formed.1.1.1.0.1)
 
 started-requires : tie.Need-started-m-requires
 started-requires c κs =
-    let a : tie.Start = search in
-    start-asks _ _ _ _ _ _ _ _ _ _ _ _ _ _ _ a.pre a.fits.t a.fits.u a.fits.d (dst-room a)
+    let a = c in
+    start-asks _ _ _ _ _ _ _ _ _ _ _ _ _ _ _ a.requires a.ranges.t a.ranges.u a.ranges.d (dst-room a.before.before)
 
 axes-requires : tie.Need-axes-requires
 axes-requires c κs =
-    let s : tie.After-started-m = search in
-    let a : tie.Start = search in
-    window-asks _ _ _ _ _ _ _ _ _ _ _ _ _ _ _ a.pre a.fits.t a.fits.u a.fits.d (dst-room a) _ s.started.ensures.0
+    let s = c in
+    let a = c in
+    window-asks _ _ _ _ _ _ _ _ _ _ _ _ _ _ _ a.requires a.ranges.t a.ranges.u a.ranges.d (dst-room a.before.before.before.before.before) _ s.started-m.ensures.0
 
 same_length : tie.Need-shape_of-dst
 same_length c = search rules
 
 returns : tie.Need-returns
 returns c =
-    let s : tie.After-started-m = search in
-    let x : tie.After-axes = search in
-    let n : tie.After-count_if = search in
-    let a : tie.Start = search in (
-      window-end _ _ _ _ _ _ _ _ _ _ _ _ _ _ _ a.pre a.fits.t a.fits.u a.fits.d (dst-room a) _ s.started.ensures.0 nan (rule_f64 a.args.rule) a.args.src.now a.args.dst.now _ x.axes.ensures,
-      flag-end a.args.starts.now a.args.offsets.now a.args.limits.now a.args.count a.args.t a.fits.t _ _ s.started.ensures.1 n.count-if.ensures,
+    let s = c in
+    let x = c in
+    let n = c in
+    let a = c in (
+      window-end _ _ _ _ _ _ _ _ _ _ _ _ _ _ _ a.requires a.ranges.t a.ranges.u a.ranges.d (dst-room a.before.before.before.before.before.before.before.before.before) _ s.started-m.ensures.0 nan (rule_f64 a.args.rule) a.args.src.now a.args.dst.now _ x.axes.ensures,
+      flag-end a.args.starts.now a.args.offsets.now a.args.limits.now a.args.count a.args.t a.ranges.t _ _ s.started-m.ensures.1 n.count_if.ensures,
     )
 
 pub land_spec : {M : Type 1} → statement M

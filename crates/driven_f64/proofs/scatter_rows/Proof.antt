@@ -43,18 +43,18 @@ module _ (o : tie.After-one_cell) where
 
 returns : tie.Need-returns-then-has_zero
 returns c =
-    let z : tie.After-has_zero = search in
-    let a : tie.Start = search in
-    let e = sym z.has-zero.ensures ∙ c.if-has_zero.true in (
+    let z = c in
+    let a = c in
+    let e = sym z.has_zero.ensures ∙ c.if-has_zero.true in (
       no-batch a.args.starts.now a.args.offsets.now a.args.strides.now a.args.limits.now a.args.count a.args.t a.args.u a.args.d a.args.bextents.now a.args.ts.now a.args.us.now a.args.brank a.args.wextents.now a.args.ws.now a.args.ds.now a.args.wrank nan (rule_f64 a.args.rule) a.args.src.now a.args.dst.now e,
       slid-zero (product (take a.args.wrank a.args.wextents.now)) _ (many-none _ (λ b. start_moved a.args.starts.now a.args.offsets.now a.args.limits.now (place_at a.args.t a.args.bextents.now a.args.ts.now a.args.brank b) a.args.count) (no_cells (take a.args.brank a.args.bextents.now) e)),
     )
 
 returns-2 : tie.Need-returns-then-has_zero-2
 returns-2 c =
-    let z : tie.After-has_zero-2 = search in
-    let a : tie.Start = search in
-    let e = sym z.has-zero2.ensures ∙ c.if-has_zero-2.true in (
+    let z = c in
+    let a = c in
+    let e = sym z.has_zero-2.ensures ∙ c.if-has_zero-2.true in (
       no-window a.args.starts.now a.args.offsets.now a.args.strides.now a.args.limits.now a.args.count a.args.t a.args.u a.args.d a.args.bextents.now a.args.ts.now a.args.us.now a.args.brank a.args.wextents.now a.args.ws.now a.args.ds.now a.args.wrank nan (rule_f64 a.args.rule) a.args.src.now a.args.dst.now e,
       slid-none _ _ (no_cells (take a.args.wrank a.args.wextents.now) e),
     )
@@ -64,7 +64,7 @@ one-cell-requires c κs = search rules
 
 scatter-each-requires : tie.Need-scatter_each-requires
 scatter-each-requires c κs =
-    let o : tie.After-one_cell = search in
+    let o = c in
     let a = start o in
     each-asks _ _ _ _ _ _ _ _ _ _ _ _ _ _ _ _ _ _ a.pre.0 (few o) (batches o) (cells o) a.fits.t a.fits.u a.fits.d
 
@@ -73,41 +73,41 @@ same_length c = search rules
 
 returns-3 : tie.Need-returns-then-one_cell
 returns-3 c =
-    let o : tie.After-one_cell = search in
-    let t : tie.Then-one_cell = search in
-    let e : tie.After-scatter_each = search in
+    let o = c in
+    let t = c in
+    let e = c in
     let a = start o in (
-      each-end _ _ _ _ _ _ _ _ _ _ _ _ _ _ _ _ _ _ a.pre.0 (few o) (batches o) (cells o) a.fits.t a.fits.u a.fits.d nan (rule_f64 a.args.rule) a.args.src.now a.args.dst.now _ (o.one_cell.ensures.yes t.if3.taken) e.scatter-each.ensures.0,
-      counted_back (λ x. start_moved a.args.starts.now a.args.offsets.now a.args.limits.now x a.args.count) a.args.bextents.now a.args.ts.now a.args.t a.args.brank _ a.fits.t e.scatter-each.ensures.1
+      each-end _ _ _ _ _ _ _ _ _ _ _ _ _ _ _ _ _ _ a.pre.0 (few o) (batches o) (cells o) a.fits.t a.fits.u a.fits.d nan (rule_f64 a.args.rule) a.args.src.now a.args.dst.now _ (o.one_cell.ensures.yes t.if-one_cell.true) e.scatter_each.ensures.0,
+      counted_back (λ x. start_moved a.args.starts.now a.args.offsets.now a.args.limits.now x a.args.count) a.args.bextents.now a.args.ts.now a.args.t a.args.brank _ a.fits.t e.scatter_each.ensures.1
           ∙ slid-some _ _ (product-pos (take a.args.wrank a.args.wextents.now) (cells o)),
     )
 
 run-axis-requires : tie.Need-run_axis-low-requires
 run-axis-requires c κs =
-    let o : tie.After-one_cell = search in
+    let o = c in
     let a = start o in
     (not_none a.args.wextents.now a.args.wrank (o.one_cell.ensures.no c.if-one_cell.false), a.pre.0.window-small)
 
 scatter-driven-requires : tie.Need-scatter_driven-requires
 scatter-driven-requires c κs =
-    let o : tie.After-one_cell = search in
-    let r : tie.After-run_axis-low = search in
+    let o = c in
+    let r = c in
     let a = start o in
     rows-drive _ _ _ _ _ _ _ _ _ _ _ _ _ _ _ _ _ _ (rowed-back _ _ _ _ _ _ _ _ _ _ _ a.fits.t a.fits.u a.pre.1) _ _ _ (cells o)
-    (axes-asks _ _ _ _ _ _ _ _ _ _ _ _ _ _ _ _ _ _ a.pre.0 (few o) (batches o) (cells o) a.fits.t a.fits.u a.fits.d r.run-axis.result r.run-axis.ensures.below r.run-axis.ensures.units)
+    (axes-asks _ _ _ _ _ _ _ _ _ _ _ _ _ _ _ _ _ _ a.pre.0 (few o) (batches o) (cells o) a.fits.t a.fits.u a.fits.d r.run_axis-low.result r.run_axis-low.ensures.below r.run_axis-low.ensures.units)
 
 same-length-2 : tie.Need-shape_of-dst
 same-length-2 c = search rules
 
 returns-4 : tie.Need-returns
 returns-4 c =
-    let o : tie.After-one_cell = search in
-    let s : tie.After-scatter_driven = search in
+    let o = c in
+    let s = c in
     let a = start o in (
       axes-end _ _ _ _ _ _ _ _ _ _ _ _ _ _ _ _ _ _ a.pre.0 (few o) (batches o) (cells o) a.fits.t a.fits.u a.fits.d nan (rule_f64 a.args.rule) a.args.src.now a.args.dst.now _
-          (s.scatter-driven.ensures.0 ∙ rows-leave a.args.starts.now a.args.offsets.now a.args.strides.now a.args.limits.now _ _ (read a.args.d) _ _ _ _ _ _ _ a.args.wextents.now a.args.ws.now a.args.ds.now a.args.wrank (rowed-back _ _ _ _ _ _ _ _ _ _ _ a.fits.t a.fits.u a.pre.1) nan (rule_f64 a.args.rule) a.args.src.now a.args.dst.now),
+          (s.scatter_driven.ensures.0 ∙ rows-leave a.args.starts.now a.args.offsets.now a.args.strides.now a.args.limits.now _ _ (read a.args.d) _ _ _ _ _ _ _ a.args.wextents.now a.args.ws.now a.args.ds.now a.args.wrank (rowed-back _ _ _ _ _ _ _ _ _ _ _ a.fits.t a.fits.u a.pre.1) nan (rule_f64 a.args.rule) a.args.src.now a.args.dst.now),
       counted_back (λ x. start_moved a.args.starts.now a.args.offsets.now a.args.limits.now x a.args.count) a.args.bextents.now a.args.ts.now a.args.t a.args.brank _ a.fits.t
-          (s.scatter-driven.ensures.1 ∙ rows-count a.args.starts.now a.args.offsets.now a.args.strides.now a.args.limits.now _ _ (read a.args.d) _ _ _ _ _ _ _ a.args.wextents.now a.args.ws.now a.args.ds.now a.args.wrank (rowed-back _ _ _ _ _ _ _ _ _ _ _ a.fits.t a.fits.u a.pre.1))
+          (s.scatter_driven.ensures.1 ∙ rows-count a.args.starts.now a.args.offsets.now a.args.strides.now a.args.limits.now _ _ (read a.args.d) _ _ _ _ _ _ _ a.args.wextents.now a.args.ws.now a.args.ds.now a.args.wrank (rowed-back _ _ _ _ _ _ _ _ _ _ _ a.fits.t a.fits.u a.pre.1))
           ∙ slid-some _ _ (product-pos (take a.args.wrank a.args.wextents.now) (cells o)),
     )
 

@@ -52,7 +52,7 @@ returns c =
     let s = l in
     let e : length s.args.t1 ≡ rank_limit = search rules in
     let f : length s.args.t2 ≡ rank_limit = search rules in
-    same_differs eq_z (pos 0) s.args.t1 s.args.t2 l.loop-i.i (omega arith) (omega arith) (sym (at c.before) ∙ not-true _ c.if-not-same_i64.true) ∙ l.loop-i.invariant.1
+    same_differs eq_z (pos 0) s.args.t1 s.args.t2 l.loop-i.i (omega arith) (omega arith) (sym (at c.before) ∙ c.if-not-same_i64.true) ∙ l.loop-i.invariant.1
 
 add-i : tie.Need-overflow_add-i invariant-loop decreases-loop
 add-i c = search rules
@@ -66,7 +66,7 @@ loop-again c =
     let s = l in
     let e : length s.args.t1 ≡ rank_limit = search rules in
     let f : length s.args.t2 ≡ rank_limit = search rules in
-    (omega arith, same_next eq_z (pos 0) s.args.t1 s.args.t2 l.loop-i.i (omega arith) (omega arith) (sym (at c.before) ∙ not-false _ c.if-not-same_i64.false) ∙ l.loop-i.invariant.1)
+    (omega arith, same_next eq_z (pos 0) s.args.t1 s.args.t2 l.loop-i.i (omega arith) (omega arith) (sym (at c.before) ∙ c.if-not-same_i64.false) ∙ l.loop-i.invariant.1)
 
 returns-2 : tie.Need-returns invariant-loop decreases-loop
 returns-2 c =

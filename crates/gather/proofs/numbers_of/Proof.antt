@@ -7,12 +7,12 @@ start m = search
 
 returns : tie.Need-returns
 returns c =
-    let b : tie.After-batch_extents_of-batch_extents = search in
-    let l : tie.After-limits_of-limits = search in
-    let u : tie.After-unless_none-stepped = search in
-    let m : tie.After-moves_of-moves = search in
+    let b = c in
+    let l = c in
+    let u = c in
+    let m = c in
     let s = start m in
-    numbers-are s.args.plan s.pre _ _ _ _ m.Moves-of.ensures u.unless-none.ensures l.Limits-of.ensures b.batch-extents-of.ensures
+    numbers-are s.args.plan s.pre _ _ _ _ m.moves_of-moves.ensures u.unless_none-stepped.ensures l.limits_of-limits.ensures b.batch_extents_of-batch_extents.ensures
 
 pub numbers_of_spec : {M : Type 1} → statement M
 numbers_of_spec =

@@ -67,7 +67,7 @@ returns : tie.Need-returns-then-not-is_done invariant-loop decreases-loop
 returns c =
     let l = c in
     let s = l in
-    first_stops (resets_at s.args.de.now s.args.ds.now s.args.window.now s.args.batch.now) (length s.args.de.now) l.loop-i.i c.check_axis-answer.result c.is_done.result c.loop-i-test.true (at c.before.before) c.is_done.ensures (not-true _ c.if-not-is_done.true) ∙ l.loop-i.invariant.1
+    first_stops (resets_at s.args.de.now s.args.ds.now s.args.window.now s.args.batch.now) (length s.args.de.now) l.loop-i.i c.check_axis-answer.result c.is_done.result c.loop-i-test.true (at c.before.before) c.is_done.ensures c.if-not-is_done.true ∙ l.loop-i.invariant.1
 
 add-i : tie.Need-overflow_add-i invariant-loop decreases-loop
 add-i c = search rules
@@ -79,7 +79,7 @@ loop-again : tie.Need-loop-i-preserved invariant-loop decreases-loop
 loop-again c =
     let l = c in
     let s = l in
-    (omega (arith, c.loop-i-test.true), first_goes (resets_at s.args.de.now s.args.ds.now s.args.window.now s.args.batch.now) (length s.args.de.now) l.loop-i.i c.check_axis-answer.result c.is_done.result c.loop-i-test.true (at c.before.before) c.is_done.ensures (not-false _ c.if-not-is_done.false) ∙ l.loop-i.invariant.1)
+    (omega (arith, c.loop-i-test.true), first_goes (resets_at s.args.de.now s.args.ds.now s.args.window.now s.args.batch.now) (length s.args.de.now) l.loop-i.i c.check_axis-answer.result c.is_done.result c.loop-i-test.true (at c.before.before) c.is_done.ensures c.if-not-is_done.false ∙ l.loop-i.invariant.1)
 
 returns-2 : tie.Need-returns invariant-loop decreases-loop
 returns-2 c =

@@ -9,16 +9,16 @@ use Rattle.gather_checks.proofs.check_sizes.Tie as tie
 
 returns : tie.Need-returns-then-not-is_done
 unfolding sizes_refusal
-returns c = stops _ c.check_layouts-lengths.ensures c.is_done.ensures (not-true _ c.if-not-is_done.true)
+returns c = stops _ c.check_layouts-lengths.ensures c.is_done.ensures c.if-not-is_done.true
 
 check-numbers-requires : tie.Need-check_numbers-requires
 check-numbers-requires c κs =
-    let l = lengths-pass _ _ _ _ _ _ (ap is_done (sym c.check_layouts-lengths.ensures) ∙ sym c.is_done.ensures ∙ not-false _ c.if-not-is_done.false) in
+    let l = lengths-pass _ _ _ _ _ _ (ap is_done (sym c.check_layouts-lengths.ensures) ∙ sym c.is_done.ensures ∙ c.if-not-is_done.false) in
     (l.operand, l.index, l.dest)
 
 returns-2 : tie.Need-returns
 unfolding sizes_refusal
-returns-2 c = goes c.check_layouts-lengths.ensures c.is_done.ensures (not-false _ c.if-not-is_done.false) c.check_numbers.ensures
+returns-2 c = goes c.check_layouts-lengths.ensures c.is_done.ensures c.if-not-is_done.false c.check_numbers.ensures
 
 pub check_sizes_spec : {M : Type 1} → statement M
 check_sizes_spec =

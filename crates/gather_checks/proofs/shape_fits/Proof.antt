@@ -6,7 +6,7 @@ add-rank : tie.Need-overflow_add-rank
 add-rank c = search rules
 
 returns : tie.Need-returns
-returns c = rw (c.both-2.ensures, c.both.ensures, c.picked_same-batch.ensures, c.Picked-same.ensures)
+returns c = rw (c.both-2.ensures, c.both.ensures, c.picked_same-batch.ensures, c.picked_same-windows.ensures)
 
 pub shape_fits_spec : {M : Type 1} → statement M
 shape_fits_spec =

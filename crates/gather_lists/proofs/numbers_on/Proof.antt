@@ -20,18 +20,18 @@ start v = search
 
 returns : tie.Need-returns
 returns c =
-    let d : tie.After-padded_strides-dest_steps = search in
-    let b : tie.After-batch_extents-batch_extents = search in
-    let e : tie.After-padded_extents-extents = search in
-    let u : tie.After-unless_none-stepped = search in
-    let l : tie.After-limits_on-limits = search in
-    let k : tie.After-strides_on-strides = search in
-    let o : tie.After-index_component_offsets-index_component_offsets = search in
-    let v : tie.After-stride_at-stride = search in
+    let d = c in
+    let b = c in
+    let e = c in
+    let u = c in
+    let l = c in
+    let k = c in
+    let o = c in
+    let v = c in
     let s = start v in
-    let f : SFits w64 v.stride-at.result = search rules in
-    let q = o.index-component-offsets.ensures ∙ ap (λ (z : ℤ). held_steps (tabulate (min (length s.args.start-index-map.now) rank_limit) (offset_or z))) (back f ∙ v.stride-at.ensures) in
-    numbers-are (gather_from s.args.operand-extents.now s.args.operand-strides.now s.args.index-extents.now s.args.index-strides.now s.args.dest-extents.now s.args.dest-strides.now s.args.offset-dims.now s.args.collapsed-slice-dims.now s.args.start-index-map.now s.args.index-vector-dim s.args.slice-sizes.now) s.args.window s.args.batch s.pre _ _ _ _ _ _ _ q k.strides-on.ensures l.limits-on.ensures u.unless-none.ensures e.padded-extents.ensures b.batch-extents.ensures d.padded-strides.ensures
+    let f : SFits w64 v.stride_at-stride.result = search rules in
+    let q = o.index_component_offsets-index_component_offsets.ensures ∙ ap (λ (z : ℤ). held_steps (tabulate (min (length s.args.start-index-map.now) rank_limit) (offset_or z))) (back f ∙ v.stride_at-stride.ensures) in
+    numbers-are (gather_from s.args.operand-extents.now s.args.operand-strides.now s.args.index-extents.now s.args.index-strides.now s.args.dest-extents.now s.args.dest-strides.now s.args.offset-dims.now s.args.collapsed-slice-dims.now s.args.start-index-map.now s.args.index-vector-dim s.args.slice-sizes.now) s.args.window s.args.batch s.pre _ _ _ _ _ _ _ q k.strides_on-strides.ensures l.limits_on-limits.ensures u.unless_none-stepped.ensures e.padded_extents-extents.ensures b.batch_extents-batch_extents.ensures d.padded_strides-dest_steps.ensures
 
 pub numbers_on_spec : {M : Type 1} → statement M
 numbers_on_spec =

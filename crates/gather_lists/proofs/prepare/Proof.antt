@@ -16,24 +16,24 @@ use Rattle.gather_lists.proofs.prepare.Tie as tie
 returns : tie.Need-returns-then-not-is_done
 returns c =
     let s = c in
-    first-refusal (gather_from s.args.operand-extents.now s.args.operand-strides.now s.args.index-extents.now s.args.index-strides.now s.args.dest-extents.now s.args.dest-strides.now s.args.offset-dims.now s.args.collapsed-slice-dims.now s.args.start-index-map.now s.args.index-vector-dim s.args.slice-sizes.now) s.args.operand-offset s.args.index-offset s.args.dest-offset s.args.operand-len s.args.starts-len s.args.dest-len _ _ c.refused.ensures c.examine-found.ensures.answered (sym c.is_done.ensures ∙ not-true _ c.if-not-is_done.true)
+    first-refusal (gather_from s.args.operand-extents.now s.args.operand-strides.now s.args.index-extents.now s.args.index-strides.now s.args.dest-extents.now s.args.dest-strides.now s.args.offset-dims.now s.args.collapsed-slice-dims.now s.args.start-index-map.now s.args.index-vector-dim s.args.slice-sizes.now) s.args.operand-offset s.args.index-offset s.args.dest-offset s.args.operand-len s.args.starts-len s.args.dest-len _ _ c.refused.ensures c.examine-found.ensures.answered (sym c.is_done.ensures ∙ c.if-not-is_done.true)
 
 reach-of-requires : tie.Need-reach_of-x-requires
-reach-of-requires c κs = let s = c in (fits (gather_from s.args.operand-extents.now s.args.operand-strides.now s.args.index-extents.now s.args.index-strides.now s.args.dest-extents.now s.args.dest-strides.now s.args.offset-dims.now s.args.collapsed-slice-dims.now s.args.start-index-map.now s.args.index-vector-dim s.args.slice-sizes.now) _ _ (c.examine-found.ensures.found (sym c.is_done.ensures ∙ not-false _ c.if-not-is_done.false))).operand-strides
+reach-of-requires c κs = let s = c in (fits (gather_from s.args.operand-extents.now s.args.operand-strides.now s.args.index-extents.now s.args.index-strides.now s.args.dest-extents.now s.args.dest-strides.now s.args.offset-dims.now s.args.collapsed-slice-dims.now s.args.start-index-map.now s.args.index-vector-dim s.args.slice-sizes.now) _ _ (c.examine-found.ensures.found (sym c.is_done.ensures ∙ c.if-not-is_done.false))).operand-strides
 
 reach-of-requires-2 : tie.Need-reach_of-y-requires
-reach-of-requires-2 c κs = let s = c in (fits (gather_from s.args.operand-extents.now s.args.operand-strides.now s.args.index-extents.now s.args.index-strides.now s.args.dest-extents.now s.args.dest-strides.now s.args.offset-dims.now s.args.collapsed-slice-dims.now s.args.start-index-map.now s.args.index-vector-dim s.args.slice-sizes.now) _ _ (c.examine-found.ensures.found (sym c.is_done.ensures ∙ not-false _ c.if-not-is_done.false))).index-strides
+reach-of-requires-2 c κs = let s = c in (fits (gather_from s.args.operand-extents.now s.args.operand-strides.now s.args.index-extents.now s.args.index-strides.now s.args.dest-extents.now s.args.dest-strides.now s.args.offset-dims.now s.args.collapsed-slice-dims.now s.args.start-index-map.now s.args.index-vector-dim s.args.slice-sizes.now) _ _ (c.examine-found.ensures.found (sym c.is_done.ensures ∙ c.if-not-is_done.false))).index-strides
 
 reach-of-requires-3 : tie.Need-reach_of-z-requires
-reach-of-requires-3 c κs = let s = c in (fits (gather_from s.args.operand-extents.now s.args.operand-strides.now s.args.index-extents.now s.args.index-strides.now s.args.dest-extents.now s.args.dest-strides.now s.args.offset-dims.now s.args.collapsed-slice-dims.now s.args.start-index-map.now s.args.index-vector-dim s.args.slice-sizes.now) _ _ (c.examine-found.ensures.found (sym c.is_done.ensures ∙ not-false _ c.if-not-is_done.false))).dest-strides
+reach-of-requires-3 c κs = let s = c in (fits (gather_from s.args.operand-extents.now s.args.operand-strides.now s.args.index-extents.now s.args.index-strides.now s.args.dest-extents.now s.args.dest-strides.now s.args.offset-dims.now s.args.collapsed-slice-dims.now s.args.start-index-map.now s.args.index-vector-dim s.args.slice-sizes.now) _ _ (c.examine-found.ensures.found (sym c.is_done.ensures ∙ c.if-not-is_done.false))).dest-strides
 
 returns-2 : tie.Need-returns-then-not-is_done-2
 returns-2 c =
     let s = c in
-    second-refusal (gather_from s.args.operand-extents.now s.args.operand-strides.now s.args.index-extents.now s.args.index-strides.now s.args.dest-extents.now s.args.dest-strides.now s.args.offset-dims.now s.args.collapsed-slice-dims.now s.args.start-index-map.now s.args.index-vector-dim s.args.slice-sizes.now) s.args.operand-offset s.args.index-offset s.args.dest-offset s.args.operand-len s.args.starts-len s.args.dest-len {x = c.reach_of-x.result} {y = c.reach_of-y.result} {z = c.reach_of-z.result} c.examine-found.ensures.answered (sym c.is_done.ensures ∙ not-false _ c.if-not-is_done.false) (c.reach_of-x.ensures ∙ ap (λ (z : ℤ). view_reach s.args.operand-extents.now s.args.operand-strides.now z s.args.operand-len) (back s.ranges.operand-offset)) (c.reach_of-y.ensures ∙ ap (λ (z : ℤ). view_reach s.args.index-extents.now s.args.index-strides.now z s.args.starts-len) (back s.ranges.index-offset)) (c.reach_of-z.ensures ∙ ap (λ (z : ℤ). view_reach s.args.dest-extents.now s.args.dest-strides.now z s.args.dest-len) (back s.ranges.dest-offset)) c.check_bounds-answer.ensures _ c.refused-then-not-is_done-2.ensures (sym c.is_done-2.ensures ∙ not-true _ c.if-not-is_done-2.true)
+    second-refusal (gather_from s.args.operand-extents.now s.args.operand-strides.now s.args.index-extents.now s.args.index-strides.now s.args.dest-extents.now s.args.dest-strides.now s.args.offset-dims.now s.args.collapsed-slice-dims.now s.args.start-index-map.now s.args.index-vector-dim s.args.slice-sizes.now) s.args.operand-offset s.args.index-offset s.args.dest-offset s.args.operand-len s.args.starts-len s.args.dest-len {x = c.reach_of-x.result} {y = c.reach_of-y.result} {z = c.reach_of-z.result} c.examine-found.ensures.answered (sym c.is_done.ensures ∙ c.if-not-is_done.false) (c.reach_of-x.ensures ∙ ap (λ (z : ℤ). view_reach s.args.operand-extents.now s.args.operand-strides.now z s.args.operand-len) (back s.ranges.operand-offset)) (c.reach_of-y.ensures ∙ ap (λ (z : ℤ). view_reach s.args.index-extents.now s.args.index-strides.now z s.args.starts-len) (back s.ranges.index-offset)) (c.reach_of-z.ensures ∙ ap (λ (z : ℤ). view_reach s.args.dest-extents.now s.args.dest-strides.now z s.args.dest-len) (back s.ranges.dest-offset)) c.check_bounds-answer.ensures _ c.refused-then-not-is_done-2.ensures (sym c.is_done-2.ensures ∙ c.if-not-is_done-2.true)
 
 numbers-on-requires : tie.Need-numbers_on-numbers-requires
-numbers-on-requires c κs = c.examine-found.ensures.found (sym c.is_done.ensures ∙ not-false _ c.if-not-is_done.false)
+numbers-on-requires c κs = c.examine-found.ensures.found (sym c.is_done.ensures ∙ c.if-not-is_done.false)
 
 returns-3 : tie.Need-returns
 returns-3 c =
@@ -41,7 +41,7 @@ returns-3 c =
     let fo : SFits w64 s.args.operand-offset = s.ranges.operand-offset in
     let fd : SFits w64 s.args.dest-offset = s.ranges.dest-offset in
     let fb : SFits w64 c.start_base-base.result = search rules in
-    prepared (gather_from s.args.operand-extents.now s.args.operand-strides.now s.args.index-extents.now s.args.index-strides.now s.args.dest-extents.now s.args.dest-strides.now s.args.offset-dims.now s.args.collapsed-slice-dims.now s.args.start-index-map.now s.args.index-vector-dim s.args.slice-sizes.now) s.args.operand-offset s.args.index-offset s.args.dest-offset s.args.operand-len s.args.starts-len s.args.dest-len {x = c.reach_of-x.result} {y = c.reach_of-y.result} {z = c.reach_of-z.result} c.examine-found.ensures.answered (sym c.is_done.ensures ∙ not-false _ c.if-not-is_done.false) (c.reach_of-x.ensures ∙ ap (λ (z : ℤ). view_reach s.args.operand-extents.now s.args.operand-strides.now z s.args.operand-len) (back s.ranges.operand-offset)) (c.reach_of-y.ensures ∙ ap (λ (z : ℤ). view_reach s.args.index-extents.now s.args.index-strides.now z s.args.starts-len) (back s.ranges.index-offset)) (c.reach_of-z.ensures ∙ ap (λ (z : ℤ). view_reach s.args.dest-extents.now s.args.dest-strides.now z s.args.dest-len) (back s.ranges.dest-offset)) c.check_bounds-answer.ensures _ _ (c.examine-found.ensures.found (sym c.is_done.ensures ∙ not-false _ c.if-not-is_done.false)) (sym c.is_done-2.ensures ∙ not-false _ c.if-not-is_done-2.false) _ refl refl c.Numbers-on.ensures (back fo) (back fb ∙ c.start_base-base.ensures ∙ ap (λ (z : ℤ). unless_none (length s.args.start-index-map.now) (pos 0) z) (back s.ranges.index-offset)) (back fd)
+    prepared (gather_from s.args.operand-extents.now s.args.operand-strides.now s.args.index-extents.now s.args.index-strides.now s.args.dest-extents.now s.args.dest-strides.now s.args.offset-dims.now s.args.collapsed-slice-dims.now s.args.start-index-map.now s.args.index-vector-dim s.args.slice-sizes.now) s.args.operand-offset s.args.index-offset s.args.dest-offset s.args.operand-len s.args.starts-len s.args.dest-len {x = c.reach_of-x.result} {y = c.reach_of-y.result} {z = c.reach_of-z.result} c.examine-found.ensures.answered (sym c.is_done.ensures ∙ c.if-not-is_done.false) (c.reach_of-x.ensures ∙ ap (λ (z : ℤ). view_reach s.args.operand-extents.now s.args.operand-strides.now z s.args.operand-len) (back s.ranges.operand-offset)) (c.reach_of-y.ensures ∙ ap (λ (z : ℤ). view_reach s.args.index-extents.now s.args.index-strides.now z s.args.starts-len) (back s.ranges.index-offset)) (c.reach_of-z.ensures ∙ ap (λ (z : ℤ). view_reach s.args.dest-extents.now s.args.dest-strides.now z s.args.dest-len) (back s.ranges.dest-offset)) c.check_bounds-answer.ensures _ _ (c.examine-found.ensures.found (sym c.is_done.ensures ∙ c.if-not-is_done.false)) (sym c.is_done-2.ensures ∙ c.if-not-is_done-2.false) _ refl refl c.numbers_on-numbers.ensures (back fo) (back fb ∙ c.start_base-base.ensures ∙ ap (λ (z : ℤ). unless_none (length s.args.start-index-map.now) (pos 0) z) (back s.ranges.index-offset)) (back fd)
 
 pub prepare_spec : {M : Type 1} → statement M
 prepare_spec =

@@ -64,9 +64,9 @@ same_length c = search rules
 
 returns : tie.Need-returns
 returns c =
-    let q : tie.After-run_f64 = search in
-    let s : tie.Start = search in
-    λ k. (part-leaves s.args.p s.args.low s.args.high (length s.args.source.now) s.args.starts.now (length s.args.into.now) k _ refl _ (place_is s.args.p s.args.low s.args.high (length s.args.source.now) s.args.starts.now (length s.args.into.now) k (dest-fits s) (dest-room s)) nan (rule_f64 F.Replace) (λ x u. refl) s.args.source.now s.args.into.now refl _ q.run-f64.ensures.0, part-slid s.args.p s.args.low s.args.high (length s.args.source.now) s.args.starts.now (length s.args.into.now) k _ q.run-f64.ensures.1)
+    let q = c in
+    let s = c in
+    λ k. (part-leaves s.args.p s.args.low s.args.high (length s.args.source.now) s.args.starts.now (length s.args.into.now) k _ refl _ (place_is s.args.p s.args.low s.args.high (length s.args.source.now) s.args.starts.now (length s.args.into.now) k (dest-fits s.before.before.before.before.before.before.before.before) (dest-room s.before.before.before.before.before.before.before.before)) nan (rule_f64 F.Replace) (λ x u. refl) s.args.source.now s.args.into.now refl _ q.run_f64.ensures.0, part-slid s.args.p s.args.low s.args.high (length s.args.source.now) s.args.starts.now (length s.args.into.now) k _ q.run_f64.ensures.1)
 
 pub cells_f64_spec : {M : Type 1} → statement M
 cells_f64_spec =

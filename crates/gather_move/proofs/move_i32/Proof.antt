@@ -9,10 +9,10 @@ use Rattle.gather_move.proofs.move_i32.Tie as tie
 
 returns : tie.Need-returns-then-not-is_done
 returns c =
-    let r : tie.After-refused_call = search in
-    let t : tie.Then-not-is_done = search in
-    let d : tie.After-is_done = search in
-    λ k. refused (sym d.is-done.ensures ∙ not-true _ t.if1.taken) r.refused-call.ensures
+    let r = c in
+    let t = c in
+    let d = c in
+    λ k. refused (sym d.is_done.ensures ∙ t.if-not-is_done.true) r.refused_call.ensures
 
 enum-known-reach : tie.Need-enum_known-reach
 enum-known-reach c = search rules
@@ -20,7 +20,7 @@ enum-known-reach c = search rules
 cells-i32-requires : tie.Need-cells_i32-reported-requires
 cells-i32-requires c κs =
     let s = c in
-    record { gather = s.requires.gather; ready = s.requires.ready (sym c.is_done.ensures ∙ not-false _ c.if-not-is_done.false); cells = c.in-Cells.is }
+    record { gather = s.requires.gather; ready = s.requires.ready (sym c.is_done.ensures ∙ c.if-not-is_done.false); cells = c.in-Cells.is }
 
 enum_told : tie.Need-enum_told-1
 enum_told c = search rules
@@ -33,34 +33,34 @@ same_length c = search rules
 
 returns-2 : tie.Need-returns-in-Cells
 returns-2 c =
-    let q : tie.After-cells_i32-reported = search in
-    let r : tie.In-Cells-2 = search in
-    let l : tie.Else-not-is_done = search in
-    let d : tie.After-is_done = search in
+    let q = c in
+    let r = c in
+    let l = c in
+    let d = c in
     λ k.
-    let t = sym d.is-done.ensures ∙ not-false _ l.if1.left in
-    let e = q.cells-i32.ensures (record { gather = k.gather; ready = k.ready t; cells = r.reach.given.1 }) in
+    let t = sym d.is_done.ensures ∙ l.if-not-is_done.false in
+    let e = q.cells_i32-reported.ensures (record { gather = k.gather; ready = k.ready t; cells = r.in-Cells.is }) in
     done t e.0 e.1
 
 returns-3 : tie.Need-returns-in-NoCells
 returns-3 c =
-    let n : tie.In-NoCells = search in
-    let l : tie.Else-not-is_done = search in
-    let d : tie.After-is_done = search in
-    let s : tie.Start = search in
+    let n = c in
+    let l = c in
+    let d = c in
+    let s = c in
     λ k.
-    let t = sym d.is-done.ensures ∙ not-false _ l.if1.left in
-    done t (without-cells s.args.p k.gather _ _ _ (k.ready t) (pos 0) s.args.source.now s.args.starts.now s.args.into.now n.enum_told.given.1) (none-slid s.args.p k.gather _ _ _ (k.ready t) s.args.starts.now n.enum_told.given.1)
+    let t = sym d.is_done.ensures ∙ l.if-not-is_done.false in
+    done t (without-cells s.args.p k.gather _ _ _ (k.ready t) (pos 0) s.args.source.now s.args.starts.now s.args.into.now n.in-NoCells.is) (none-slid s.args.p k.gather _ _ _ (k.ready t) s.args.starts.now n.in-NoCells.is)
 
 returns-4 : tie.Need-returns-in-Outside
 returns-4 c =
-    let n : tie.In-Outside = search in
-    let l : tie.Else-not-is_done = search in
-    let d : tie.After-is_done = search in
-    let s : tie.Start = search in
+    let n = c in
+    let l = c in
+    let d = c in
+    let s = c in
     λ k.
-    let t = sym d.is-done.ensures ∙ not-false _ l.if1.left in
-    never s.args.p k.gather _ _ _ (k.ready t) n.enum-told2.given.1
+    let t = sym d.is_done.ensures ∙ l.if-not-is_done.false in
+    never s.args.p k.gather _ _ _ (k.ready t) n.in-Outside.is
 
 pub move_i32_spec : {M : Type 1} → statement M
 move_i32_spec =

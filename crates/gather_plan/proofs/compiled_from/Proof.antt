@@ -5,13 +5,13 @@ use Rattle.gather_plan.proofs.compiled_from.Statement.{statement}
 use Rattle.gather_plan.proofs.compiled_from.Tie as tie
 
 returns : tie.Need-returns-then-not-is_done
-returns c = c.refused.ensures ∙ compiled-refused _ _ (sym c.is_done.ensures ∙ not-true _ c.if-not-is_done.true)
+returns c = c.refused.ensures ∙ compiled-refused _ _ (sym c.is_done.ensures ∙ c.if-not-is_done.true)
 
 plan-of-requires : tie.Need-plan_of-plan-requires
-plan-of-requires c κs = c.requires (sym c.is_done.ensures ∙ not-false _ c.if-not-is_done.false)
+plan-of-requires c κs = c.requires (sym c.is_done.ensures ∙ c.if-not-is_done.false)
 
 returns-2 : tie.Need-returns
-returns-2 c = compiled-done _ _ _ (sym c.is_done.ensures ∙ not-false _ c.if-not-is_done.false) c.plan_of-plan.ensures
+returns-2 c = compiled-done _ _ _ (sym c.is_done.ensures ∙ c.if-not-is_done.false) c.plan_of-plan.ensures
 
 pub compiled_from_spec : {M : Type 1} → statement M
 compiled_from_spec =

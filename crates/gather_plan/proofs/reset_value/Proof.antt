@@ -17,7 +17,7 @@ enum_told c = search rules
 returns : tie.Need-returns-in-Fits
 returns c =
     let s = c in
-    let z : SFits w64 c.in-Fits.z = sfits_of c.known_told-1.given.0.1 in
+    let z : SFits w64 c.in-Fits.z = sfits_of c.in-Fits.known_told-1-own.given.0.1 in
     back z ∙ ap value_of (sym c.in-Fits.is ∙ c.checked_replay_reset-reset.ensures ∙ ap (reset_of s.args.extent) (back s.ranges.step))
 
 returns-2 : tie.Need-returns-in-Overflow

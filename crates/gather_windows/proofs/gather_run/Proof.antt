@@ -14,15 +14,15 @@ use Rattle.gather_windows.proofs.gather_run.Statement.{statement}
 use Rattle.gather_windows.proofs.gather_run.Tie as tie
 
 returns : tie.Need-returns-then-n-eq0
-returns c = let a : tie.Start = search in (none _ a.args.n a.args.dst.now c.if-n-eq0.true, none-counts a.args.counts _ (many-none a.args.n _ c.if-n-eq0.true))
+returns c = let a = c in (none _ a.args.n a.args.dst.now c.if-n-eq0.true, none-counts a.args.counts _ (many-none a.args.n _ c.if-n-eq0.true))
 
 element-copy-out-at : tie.Need-bounds-offsets-0
 element-copy-out-at c = search rules
 
 add_at : tie.Need-overflow_add-at
 add_at c =
-    let a : tie.Start = search in
-    at_sum _ _ _ _ _ _ _ _ _ _ _ _ _ _ a.pre c.if-n-eq0.false c.if-count-eq1.true a.fits.ss c.if-ss-eq0.true (omega (arith, a.good.1.1.0.1)) a.fits.s a.fits.t a.fits.d a.fits.ts a.fits.ds (sfits_of c.at-1.given)
+    let a = c in
+    at_sum _ _ _ _ _ _ _ _ _ _ _ _ _ _ a.requires c.if-n-eq0.false c.if-count-eq1.true a.ranges.ss c.if-ss-eq0.true (omega (arith, a.well_formed.1.1.0.1)) a.ranges.s a.ranges.t a.ranges.d a.ranges.ts a.ranges.ds (sfits_of c.at-1.given)
 
 element-copy-out-take-run : tie.Need-bounds-strides-0
 element-copy-out-take-run c = search rules
@@ -33,33 +33,33 @@ element-copy-out-take-run-2 c = search rules
 take-run-requires : tie.Need-take_run-requires
 take-run-requires c κs =
     let b = c in
-    let a : tie.Start = search in
-    single-asks _ _ _ _ _ _ _ _ _ _ _ _ _ _ a.pre b.if-n-eq0.false b.if-count-eq1.true a.fits.ss b.if-ss-eq0.true (omega (arith, a.good.1.1.0.1)) a.fits.s a.fits.t a.fits.d a.fits.ts a.fits.ds (sfits_of b.at-1.given) (sfits_of c.take_run-arg-then-ss-eq0-1.given)
+    let a = c in
+    single-asks _ _ _ _ _ _ _ _ _ _ _ _ _ _ a.requires b.if-n-eq0.false b.if-count-eq1.true a.ranges.ss b.if-ss-eq0.true (omega (arith, a.well_formed.1.1.0.1)) a.ranges.s a.ranges.t a.ranges.d a.ranges.ts a.ranges.ds (sfits_of b.at-1.given) (sfits_of c.take_run-arg-then-ss-eq0-1.given)
 
 same_length : tie.Need-shape_of-dst-then-ss-eq0
 same_length c = search rules
 
 returns-2 : tie.Need-returns-then-ss-eq0
 returns-2 c =
-    let t : tie.After-take_run = search in
-    let s : tie.After-take_run-arg-then-ss-eq0-1 = search in
-    let b : tie.After-at-1 = search in
-    let a : tie.Start = search in
-    (single-end _ _ _ _ _ _ _ _ _ _ _ _ _ _ a.pre b.before.before.before.if1.left b.before.before.if2.taken a.fits.ss b.before.if3.taken (omega (arith, a.good.1.1.0.1)) a.fits.s a.fits.t a.fits.d a.fits.ts a.fits.ds (sfits_of b.at.given) (pos 0) (rule_i32 R.Replace) a.args.src.now a.args.dst.now _ (sfits_of s.take-run-arg2.given) t.take-run.ensures.0, so-counted a.args.counts a.args.counts _ _ _ refl (single-count _ _ _ _ _ _ _ _ _ _ _ _ _ _ a.pre b.before.before.before.if1.left b.before.before.if2.taken a.fits.ss b.before.if3.taken (omega (arith, a.good.1.1.0.1)) a.fits.s a.fits.t a.fits.d a.fits.ts a.fits.ds (sfits_of b.at.given) _ refl) t.take-run.ensures.1)
+    let t = c in
+    let s = c in
+    let b = c in
+    let a = c in
+    (single-end _ _ _ _ _ _ _ _ _ _ _ _ _ _ a.requires b.if-n-eq0.false b.if-count-eq1.true a.ranges.ss b.if-ss-eq0.true (omega (arith, a.well_formed.1.1.0.1)) a.ranges.s a.ranges.t a.ranges.d a.ranges.ts a.ranges.ds (sfits_of b.at-1.given) (pos 0) (rule_i32 R.Replace) a.args.src.now a.args.dst.now _ (sfits_of s.take_run-arg-then-ss-eq0-1.given) t.take_run.ensures.0, so-counted a.args.counts a.args.counts _ _ _ refl (single-count _ _ _ _ _ _ _ _ _ _ _ _ _ _ a.requires b.if-n-eq0.false b.if-count-eq1.true a.ranges.ss b.if-ss-eq0.true (omega (arith, a.well_formed.1.1.0.1)) a.ranges.s a.ranges.t a.ranges.d a.ranges.ts a.ranges.ds (sfits_of b.at-1.given) _ refl) t.take_run.ensures.1)
 
 take-cells-requires : tie.Need-take_cells-requires
 take-cells-requires c κs =
-    let a : tie.Start = search in
-    takes-ask _ _ _ _ _ _ _ _ _ _ _ _ _ _ a.fits.s a.fits.t a.fits.d a.fits.ss a.fits.ts a.fits.ds a.pre
+    let a = c in
+    takes-ask _ _ _ _ _ _ _ _ _ _ _ _ _ _ a.ranges.s a.ranges.t a.ranges.d a.ranges.ss a.ranges.ts a.ranges.ds a.requires
 
 same-length-2 : tie.Need-shape_of-dst
 same-length-2 c = search rules
 
 returns-3 : tie.Need-returns
 returns-3 c =
-    let t : tie.After-take_cells = search in
-    let a : tie.Start = search in
-    (cells-end (pos 0) (rule_i32 R.Replace) a.args.src.now a.args.starts.now a.args.offsets.now a.args.strides.now a.args.limits.now a.args.count _ _ _ _ _ _ a.args.n a.args.n a.args.dst.now _ a.fits.s a.fits.t a.fits.d a.fits.ss a.fits.ts a.fits.ds refl t.take-Cells.ensures.0, so-counted a.args.counts a.args.counts _ _ _ refl (starts-end a.args.starts.now a.args.t a.args.ts a.args.n a.args.n _ a.fits.t a.fits.ts refl a.args.offsets.now a.args.limits.now a.args.count refl) t.take-Cells.ensures.1)
+    let t = c in
+    let a = c in
+    (cells-end (pos 0) (rule_i32 R.Replace) a.args.src.now a.args.starts.now a.args.offsets.now a.args.strides.now a.args.limits.now a.args.count _ _ _ _ _ _ a.args.n a.args.n a.args.dst.now _ a.ranges.s a.ranges.t a.ranges.d a.ranges.ss a.ranges.ts a.ranges.ds refl t.take_cells.ensures.0, so-counted a.args.counts a.args.counts _ _ _ refl (starts-end a.args.starts.now a.args.t a.args.ts a.args.n a.args.n _ a.ranges.t a.ranges.ts refl a.args.offsets.now a.args.limits.now a.args.count refl) t.take_cells.ensures.1)
 
 pub gather_run_spec : {M : Type 1} → statement M
 gather_run_spec =

@@ -13,23 +13,23 @@ use Rattle.gather_windows.proofs.gather_window.Tie as tie
 
 gather-run-requires : tie.Need-gather_run-requires
 gather-run-requires c κs =
-    let a : tie.Start = search in
-    one_cell _ _ _ _ _ _ _ _ _ _ _ _ _ _ _ a.pre.0 a.fits.s a.fits.t a.fits.d c.if-rank-eq0.true
+    let a = c in
+    one_cell _ _ _ _ _ _ _ _ _ _ _ _ _ _ _ a.requires.0 a.ranges.s a.ranges.t a.ranges.d c.if-rank-eq0.true
 
 same_length : tie.Need-shape_of-dst-then-rank-eq0
 same_length c = search rules
 
 returns : tie.Need-returns-then-rank-eq0
 returns c =
-    let t1 : tie.Then-rank-eq0 = search in
-    let g : tie.After-gather_run = search in
-    let a : tie.Start = search in
-    (one_end _ _ _ _ _ _ _ _ _ _ _ _ _ _ _ a.pre.0 a.fits.s a.fits.t a.fits.d t1.if1.taken (pos 0) (rule_i32 R.Replace) a.args.src.now a.args.dst.now _ g.gather-run.ensures.0, one-counted a.args.starts.now a.args.offsets.now a.args.limits.now a.args.count a.args.t a.args.extents.now a.args.batches.now a.args.ts.now a.args.rank _ t1.if1.taken a.fits.t g.gather-run.ensures.1)
+    let t1 = c in
+    let g = c in
+    let a = c in
+    (one_end _ _ _ _ _ _ _ _ _ _ _ _ _ _ _ a.requires.0 a.ranges.s a.ranges.t a.ranges.d t1.if-rank-eq0.true (pos 0) (rule_i32 R.Replace) a.args.src.now a.args.dst.now _ g.gather_run.ensures.0, one-counted a.args.starts.now a.args.offsets.now a.args.limits.now a.args.count a.args.t a.args.extents.now a.args.batches.now a.args.ts.now a.args.rank _ t1.if-rank-eq0.true a.ranges.t g.gather_run.ensures.1)
 
 returns-2 : tie.Need-returns-then-has_zero
 returns-2 c =
-    let a : tie.Start = search in
-    (nothing _ _ _ _ _ _ _ _ _ _ _ _ _ _ _ a.pre.0 a.fits.s a.fits.t a.fits.d (pos 0) (rule_i32 R.Replace) a.args.src.now a.args.dst.now (sym c.has_zero.ensures ∙ c.if-has_zero.true), none-counted a.args.starts.now a.args.offsets.now a.args.limits.now a.args.count a.args.t a.args.extents.now a.args.batches.now a.args.ts.now a.args.rank (sym c.has_zero.ensures ∙ c.if-has_zero.true))
+    let a = c in
+    (nothing _ _ _ _ _ _ _ _ _ _ _ _ _ _ _ a.requires.0 a.ranges.s a.ranges.t a.ranges.d (pos 0) (rule_i32 R.Replace) a.args.src.now a.args.dst.now (sym c.has_zero.ensures ∙ c.if-has_zero.true), none-counted a.args.starts.now a.args.offsets.now a.args.limits.now a.args.count a.args.t a.args.extents.now a.args.batches.now a.args.ts.now a.args.rank (sym c.has_zero.ensures ∙ c.if-has_zero.true))
 
 run-axis-requires : tie.Need-run_axis-low-requires
 run-axis-requires c κs = search rules
@@ -49,12 +49,12 @@ some k =
 
 gather-axes-requires : tie.Need-gather_axes-requires
 gather-axes-requires c κs =
-    let w : tie.After-window_axes-wide = search in
-    let r : tie.After-run_axis-low = search in
-    let a : tie.Start = search in (
-      level-of _ _ _ _ _ _ _ _ _ _ _ _ _ _ _ a.pre.0 a.fits.s a.fits.t a.fits.d r.run-axis.result w.window-axes.result r.run-axis.ensures.below r.run-axis.ensures.units (some w)
-          (still-of a.args.extents.now a.args.batches.now a.args.ts.now w.window-axes.result a.args.rank a.pre.1 w.window-axes.ensures.within w.window-axes.ensures.ones),
-      level-of-batches a.args.extents.now a.args.batches.now a.args.ts.now r.run-axis.result w.window-axes.result a.args.rank a.pre.1 r.run-axis.ensures.below r.run-axis.ensures.units w.window-axes.ensures,
+    let w = c in
+    let r = c in
+    let a = c in (
+      level-of _ _ _ _ _ _ _ _ _ _ _ _ _ _ _ a.requires.0 a.ranges.s a.ranges.t a.ranges.d r.run_axis-low.result w.window_axes-wide.result r.run_axis-low.ensures.below r.run_axis-low.ensures.units (some w.before)
+          (still-of a.args.extents.now a.args.batches.now a.args.ts.now w.window_axes-wide.result a.args.rank a.requires.1 w.window_axes-wide.ensures.within w.window_axes-wide.ensures.ones),
+      level-of-batches a.args.extents.now a.args.batches.now a.args.ts.now r.run_axis-low.result w.window_axes-wide.result a.args.rank a.requires.1 r.run_axis-low.ensures.below r.run_axis-low.ensures.units w.window_axes-wide.ensures,
     )
 
 same-length-2 : tie.Need-shape_of-dst
@@ -62,10 +62,10 @@ same-length-2 c = search rules
 
 returns-3 : tie.Need-returns
 returns-3 c =
-    let g : tie.After-gather_axes = search in
-    let w : tie.After-window_axes-wide = search in
-    let a : tie.Start = search in
-    (level-end _ _ _ _ _ _ _ _ _ _ _ _ _ _ _ a.pre.0 a.fits.s a.fits.t a.fits.d (pos 0) (rule_i32 R.Replace) a.args.src.now a.args.dst.now _ g.gather-axes.ensures.0, level-counted a.args.starts.now a.args.offsets.now a.args.limits.now a.args.count a.args.t a.args.extents.now a.args.batches.now a.args.ts.now a.args.rank _ (some w) a.fits.t g.gather-axes.ensures.1)
+    let g = c in
+    let w = c in
+    let a = c in
+    (level-end _ _ _ _ _ _ _ _ _ _ _ _ _ _ _ a.requires.0 a.ranges.s a.ranges.t a.ranges.d (pos 0) (rule_i32 R.Replace) a.args.src.now a.args.dst.now _ g.gather_axes.ensures.0, level-counted a.args.starts.now a.args.offsets.now a.args.limits.now a.args.count a.args.t a.args.extents.now a.args.batches.now a.args.ts.now a.args.rank _ (some w.before.before.before) a.ranges.t g.gather_axes.ensures.1)
 
 pub gather_window_spec : {M : Type 1} → statement M
 gather_window_spec =

@@ -34,8 +34,8 @@ element-copy-out-if1 c = omega (arith, c.requires)
 
 returns : tie.Need-returns-then-batches-i-ne1 invariant-loop decreases-loop
 returns c =
-    let h : tie.At-loop-i invariant-loop decreases-loop = search in
-    record { within = h.loop.inv.0; ones = h.loop.inv.1; stops = λ _. c.if-batches-i-ne1.true }
+    let h = c in
+    record { within = h.loop-i.invariant.0; ones = h.loop-i.invariant.1; stops = λ _. c.if-batches-i-ne1.true }
 
 add-i : tie.Need-overflow_add-i invariant-loop decreases-loop
 add-i c = omega arith
@@ -45,9 +45,9 @@ loop-less c = omega arith
 
 loop-again : tie.Need-loop-i-preserved invariant-loop decreases-loop
 loop-again c =
-    let h : tie.At-loop-i invariant-loop decreases-loop = search in
-    let a : tie.Start invariant-loop decreases-loop = search in
-    (omega arith, units-more a.args.batches.now h.loop.i h.loop.inv.1 c.if-batches-i-ne1.false)
+    let h = c in
+    let a = c in
+    (omega arith, units-more a.args.batches.now h.loop-i.i h.loop-i.invariant.1 c.if-batches-i-ne1.false)
 
 returns-2 : tie.Need-returns invariant-loop decreases-loop
 returns-2 c = let h = c in record { within = h.loop-i.invariant.0; ones = h.loop-i.invariant.1; stops = λ l. absurd (omega (arith, c.loop-i-test.false)) }

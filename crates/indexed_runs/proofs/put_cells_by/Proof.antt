@@ -50,94 +50,94 @@ put-at c = let a = start c.before in place-index _ _ _ _ _ _ _ _ _ _ _ _ _ a.pre
 
 returns : tie.Need-returns-then-count-eq0 invariant-loop decreases-loop
 returns c =
-    let a : tie.Start invariant-loop decreases-loop = search in
-    absurd (omega (arith, a.pre.0, c.if-count-eq0.true))
+    let a = c in
+    absurd (omega (arith, a.requires.0, c.if-count-eq0.true))
 
 loop-holds : tie.Need-loop-i-init invariant-loop decreases-loop
 loop-holds c =
-    let a : tie.Start invariant-loop decreases-loop = search in
+    let a = c in
     (omega arith, refl, none _ 0 a.args.dst.now refl, many-none 0 _ refl)
 
 cast-k : tie.Need-overflow_cast-k invariant-loop decreases-loop
 cast-k c =
-    let d : tie.In-loop-i invariant-loop decreases-loop = search in
+    let d = c in
     (from d).count
 
 mul-q : tie.Need-overflow_mul-q invariant-loop decreases-loop
 mul-q c =
-    let d : tie.In-loop-i invariant-loop decreases-loop = search in
+    let d = c in
     (index d).multiple
 
 add-q : tie.Need-overflow_add-q invariant-loop decreases-loop
 add-q c =
-    let d : tie.In-loop-i invariant-loop decreases-loop = search in
+    let d = c in
     (index d).fits
 
 started-requires : tie.Need-started-m-requires invariant-loop decreases-loop
 started-requires c κs =
-    let d : tie.In-loop-i invariant-loop decreases-loop = search in
+    let d = c in
     let a = start d in started-asks _ _ _ _ _ _ _ _ _ _ _ _ _ a.pre.1 _ c.loop-i-test.true (index d) a.fits.d (dst-room a)
 
 cast-b : tie.Need-overflow_cast-b invariant-loop decreases-loop
 cast-b c =
-    let s : tie.After-started-m invariant-loop decreases-loop = search in
-    (put-at s).cast
+    let s = c in
+    (put-at s.before).cast
 
 mul-a : tie.Need-overflow_mul-a invariant-loop decreases-loop
 mul-a c =
-    let d : tie.In-loop-i invariant-loop decreases-loop = search in
+    let d = c in
     (from d).multiple
 
 add_a : tie.Need-overflow_add-a invariant-loop decreases-loop
 add_a c =
-    let d : tie.In-loop-i invariant-loop decreases-loop = search in
+    let d = c in
     (from d).fits
 
 cast-a : tie.Need-overflow_cast-a invariant-loop decreases-loop
 cast-a c =
-    let d : tie.In-loop-i invariant-loop decreases-loop = search in
+    let d = c in
     (from d).cast
 
 mul_apply : tie.Need-offset_bounds-dst-b invariant-loop decreases-loop
 mul_apply c =
-    let d : tie.In-loop-i invariant-loop decreases-loop = search in
-    let s : tie.After-started-m invariant-loop decreases-loop = search in
-    omega (arith, (put-at s).below, (start d).good.1.1.1.0.1)
+    let d = c in
+    let s = c in
+    omega (arith, (put-at s.before).below, (start d).good.1.1.1.0.1)
 
 slice-copy-out-apply : tie.Need-slice_copy_out-apply invariant-loop decreases-loop
 slice-copy-out-apply c =
-    let s : tie.After-started-m invariant-loop decreases-loop = search in
-    let h : tie.At-loop-i invariant-loop decreases-loop = search in
-    omega (arith, (put-at s).below, h.loop.inv.1)
+    let s = c in
+    let h = c in
+    omega (arith, (put-at s.before).below, h.loop-i.invariant.1)
 
 mul-apply-2 : tie.Need-offset_bounds-src-a invariant-loop decreases-loop
 mul-apply-2 c =
-    let d : tie.In-loop-i invariant-loop decreases-loop = search in
+    let d = c in
     omega (arith, (from d).below, (start d).good.1.0.1)
 
 shared-slice-copy-out-apply : tie.Need-bounds-src-a invariant-loop decreases-loop
-shared-slice-copy-out-apply c = let d : tie.In-loop-i invariant-loop decreases-loop = search in (from d).below
+shared-slice-copy-out-apply c = let d = c in (from d).below
 
 apply-requires : tie.Need-apply-v-requires invariant-loop decreases-loop
 apply-requires c κs = tt
 
 mul-v : tie.Need-offset_bounds-dst-b-in-loop-i invariant-loop decreases-loop
 mul-v c =
-    let s : tie.After-started-m invariant-loop decreases-loop = search in
-    let d : tie.In-loop-i invariant-loop decreases-loop = search in
-    omega (arith, (put-at s).below, (start d).good.1.1.1.0.1)
+    let s = c in
+    let d = c in
+    omega (arith, (put-at s.before.before.before.before).below, (start d).good.1.1.1.0.1)
 
 slice-set-from-v : tie.Need-bounds-dst-b invariant-loop decreases-loop
 slice-set-from-v c =
-    let s : tie.After-started-m invariant-loop decreases-loop = search in
-    let h : tie.At-loop-i invariant-loop decreases-loop = search in
-    omega (arith, (put-at s).below, h.loop.inv.1)
+    let s = c in
+    let h = c in
+    omega (arith, (put-at s.before.before.before.before).below, h.loop-i.invariant.1)
 
 add-slid : tie.Need-overflow_add-slid invariant-loop decreases-loop
 add-slid c =
-    let q : tie.After-started-m invariant-loop decreases-loop = search in
-    let h : tie.At-loop-i invariant-loop decreases-loop = search in
-    omega (arith, one_below h.loop.i _ _ _ q.started.result.moved h.loop.inv.3 c.count_if-one.ensures)
+    let q = c in
+    let h = c in
+    omega (arith, one_below h.loop-i.i _ _ _ q.started-m.result.moved h.loop-i.invariant.3 c.count_if-one.ensures)
 
 add-i : tie.Need-overflow_add-i invariant-loop decreases-loop
 add-i c = omega arith
@@ -147,21 +147,21 @@ loop-less c = omega arith
 
 loop-again : tie.Need-loop-i-preserved invariant-loop decreases-loop
 loop-again c =
-    let w : tie.After-apply-v invariant-loop decreases-loop = search in
-    let q : tie.After-started-m invariant-loop decreases-loop = search in
+    let w = c in
+    let q = c in
     let d = q.before in
     let h = d.before in
     let a = start d in
     let at = nat_abs (machine a.args.s a.args.ss h.loop.i) in
-    let to = nat_abs (read q.started.result.at) in (
+    let to = nat_abs (read q.started-m.result.at) in (
       omega arith,
       length-set h.loop.dst _ _ ∙ h.loop.inv.1,
       cell-more (pos 0) (rule_i32 a.args.rule) a.args.src.now (line (read a.args.s) (read a.args.ss))
           (moved_at a.args.starts.now a.args.offsets.now a.args.strides.now a.args.limits.now a.args.count (λ _. read a.args.d) (line (read a.args.t) (read a.args.ts)))
           a.args.dst.now h.loop.dst h.loop.i at to _ h.loop.inv.2 (from d).index_is
-          (place_is _ _ _ _ _ _ _ _ _ _ _ _ _ a.pre.1 _ d.loop-test.taken (index d) a.fits.d (dst-room a) _ q.started.ensures.0) (stored a.args.rule (get_or h.loop.dst to (pos 0)) (get_or a.args.src.now at (pos 0)) w.apply.result (sfits_of w.before.before.apply-arg.given) (sfits_of w.before.apply-arg2.given) w.apply.ensures),
-      many_more h.loop.i (λ k. start_moved a.args.starts.now a.args.offsets.now a.args.limits.now (line (read a.args.t) (read a.args.ts) k) a.args.count) _ _ q.started.result.moved h.loop.inv.3 c.count_if-one.ensures
-          (started-is a.args.starts.now a.args.offsets.now a.args.limits.now a.args.count _ _ _ _ (index d) _ q.started.ensures.1),
+          (place_is _ _ _ _ _ _ _ _ _ _ _ _ _ a.pre.1 _ d.loop-test.taken (index d) a.fits.d (dst-room a) _ q.started-m.ensures.0) (stored a.args.rule (get_or h.loop.dst to (pos 0)) (get_or a.args.src.now at (pos 0)) w.apply-v.result (sfits_of w.apply-arg-1.given) (sfits_of w.apply-arg-in-loop-i-1.given) w.apply-v.ensures),
+      many_more h.loop.i (λ k. start_moved a.args.starts.now a.args.offsets.now a.args.limits.now (line (read a.args.t) (read a.args.ts) k) a.args.count) _ _ q.started-m.result.moved h.loop.inv.3 c.count_if-one.ensures
+          (started-is a.args.starts.now a.args.offsets.now a.args.limits.now a.args.count _ _ _ _ (index d) _ q.started-m.ensures.1),
     )
 
 same_length : tie.Need-shape_of-dst invariant-loop decreases-loop
@@ -170,9 +170,9 @@ same_length c = c.loop-i.invariant.1
 returns-2 : tie.Need-returns invariant-loop decreases-loop
 returns-2 c =
     let h = c in
-    let a : tie.Start invariant-loop decreases-loop = search in (
-      puts-end (pos 0) (rule_i32 a.args.rule) a.args.src.now a.args.starts.now a.args.offsets.now a.args.strides.now a.args.limits.now a.args.count _ _ _ _ _ _ _ a.args.dst.now h.loop-i.dst a.fits.s a.fits.t a.fits.d a.fits.ss a.fits.ts (omega arith) h.loop-i.invariant.2,
-      starts-end a.args.starts.now a.args.t a.args.ts h.loop-i.i a.args.n h.loop-i.slid a.fits.t a.fits.ts (omega arith) a.args.offsets.now a.args.limits.now a.args.count h.loop-i.invariant.3,
+    let a = c in (
+      puts-end (pos 0) (rule_i32 a.args.rule) a.args.src.now a.args.starts.now a.args.offsets.now a.args.strides.now a.args.limits.now a.args.count _ _ _ _ _ _ _ a.args.dst.now h.loop-i.dst a.ranges.s a.ranges.t a.ranges.d a.ranges.ss a.ranges.ts (omega arith) h.loop-i.invariant.2,
+      starts-end a.args.starts.now a.args.t a.args.ts h.loop-i.i a.args.n h.loop-i.slid a.ranges.t a.ranges.ts (omega arith) a.args.offsets.now a.args.limits.now a.args.count h.loop-i.invariant.3,
     )
 
 pub put_cells_by_spec : {M : Type 1} → statement M

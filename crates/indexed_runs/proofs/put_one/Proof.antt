@@ -34,16 +34,16 @@ clamped-requires c κs = search rules
 
 cast-b : tie.Need-overflow_cast-b
 cast-b c =
-    let l : tie.After-clamped-y = search in
+    let l = c in
     (place l).cast
 
 mul_apply : tie.Need-offset_bounds-dst-b
 mul_apply c =
-    let l : tie.After-clamped-y = search in
+    let l = c in
     omega (arith, (place l).below, (at-start l).good.1.1.1.0.1)
 
 slice-copy-out-apply : tie.Need-slice_copy_out-apply
-slice-copy-out-apply c = let l : tie.After-clamped-y = search in (place l).below
+slice-copy-out-apply c = let l = c in (place l).below
 
 mul-apply-2 : tie.Need-offset_bounds-src-i
 mul-apply-2 c = search rules
@@ -53,12 +53,12 @@ shared-slice-copy-out-apply c = search rules
 
 mul-v : tie.Need-offset_bounds-dst-b-2
 mul-v c =
-    let l : tie.After-clamped-y = search in
+    let l = c in
     omega (arith, (place l).below, (at-start l).good.1.1.1.0.1)
 
 slice-set-from-v : tie.Need-bounds-dst-b
 slice-set-from-v c =
-    let l : tie.After-clamped-y = search in
+    let l = c in
     (place l).below
 
 same_length : tie.Need-shape_of-dst
@@ -66,13 +66,13 @@ same_length c = search rules
 
 returns : tie.Need-returns
 returns c =
-    let w : tie.After-apply-v = search in
-    let q : tie.After-clamped-y = search in
+    let w = c in
+    let q = c in
     let a = at-start q in
-    let m = nat_abs (read q.clamped.result.at) in (
+    let m = nat_abs (read q.clamped-y.result.at) in (
       one-turn (pos 0) (rule_i32 a.args.rule) a.args.src.now pos (one_at a.args.starts.now a.args.limit) a.args.dst.now a.args.i a.args.i m _ refl (by-start q)
-          (stored a.args.rule (get_or a.args.dst.now m (pos 0)) (get_or a.args.src.now a.args.i (pos 0)) w.apply.result (sfits_of w.before.before.apply-arg.given) (sfits_of w.before.apply-arg2.given) w.apply.ensures),
-      c.count_if.ensures ∙ ap (λ (b : Bool). cond b 1 0) (ones-moved a.args.starts.now a.args.limit a.args.i a.fits.limit (sfits_of q.before.x.given) _ q.clamped.ensures.1),
+          (stored a.args.rule (get_or a.args.dst.now m (pos 0)) (get_or a.args.src.now a.args.i (pos 0)) w.apply-v.result (sfits_of w.apply-arg-1.given) (sfits_of w.apply-arg-2-1.given) w.apply-v.ensures),
+      c.count_if.ensures ∙ ap (λ (b : Bool). cond b 1 0) (ones-moved a.args.starts.now a.args.limit a.args.i a.fits.limit (sfits_of q.x-1.given) _ q.clamped-y.ensures.1),
     )
 
 pub put_one_spec : {M : Type 1} → statement M

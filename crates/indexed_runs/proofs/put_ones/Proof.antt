@@ -18,46 +18,46 @@ use Rattle.indexed_runs.proofs.put_ones.Statement.{statement}
 use Rattle.indexed_runs.proofs.put_ones.Tie as tie
 
 mul-twos : tie.Need-overflow_mul-twos
-mul-twos c = let a : tie.Start = search in omega (arith, a.good.1.0.1)
+mul-twos c = let a = c in omega (arith, a.well_formed.1.0.1)
 
 put-few-requires : tie.Need-put_few-few-requires
-put-few-requires c κs = let a : tie.Start = search in (omega arith, omega arith, ones-left _ _ _ _ _ _ a.fits.limit a.pre refl refl)
+put-few-requires c κs = let a = c in (omega arith, omega arith, ones-left _ _ _ _ _ _ a.ranges.limit a.requires refl refl)
 
 put-rest-requires : tie.Need-put_rest-rest-requires
 put-rest-requires c κs =
-    let f : tie.After-put_few-few = search in
-    let a : tie.Start = search in (omega arith, omega arith, ones-left _ _ _ _ _ _ a.fits.limit a.pre refl f.put-few.kept.1.1.1.0)
+    let f = c in
+    let a = c in (omega arith, omega arith, ones-left _ _ _ _ _ _ a.ranges.limit a.requires refl f.put_few-few.kept.1.1.1.0)
 
 same_length : tie.Need-shape_of-dst
 same_length c = search rules
 
 -- those that are over, and the rest
 few-then-rest : (c : tie.After-put_rest-rest)
-    → let a : tie.Start = search in
-    let f : tie.After-put_few-few = search in
+    → let a = c in
+    let f = c in
     (c.put_rest-rest.new.1.1.1.0 ≡ in_order (cell_at (pos 0) (rule_i32 a.args.rule) a.args.src.now pos (one_at a.args.starts.now (read a.args.limit))) (length a.args.src.now) a.args.dst.now)
-    × (f.put-few.result + c.put_rest-rest.result ≡ how_many (length a.args.src.now) (moves_at a.args.starts.now pos (nat_abs (read a.args.limit))))
+    × (f.put_few-few.result + c.put_rest-rest.result ≡ how_many (length a.args.src.now) (moves_at a.args.starts.now pos (nat_abs (read a.args.limit))))
 few-then-rest c =
-    let f : tie.After-put_few-few = search in
-    let a : tie.Start = search in
+    let f = c in
+    let a = c in
     let over = length a.args.src.now % 4 in
     let turn = cell_at (pos 0) (rule_i32 a.args.rule) a.args.src.now pos (one_at a.args.starts.now (read a.args.limit)) in
     let flag = moves_at a.args.starts.now pos (nat_abs (read a.args.limit)) in (
-      turns-on turn over (length a.args.src.now) a.args.dst.now _ _ (omega arith) (turns-on turn 0 over a.args.dst.now a.args.dst.now _ (omega arith) (none turn 0 a.args.dst.now refl) f.put-few.ensures.0) c.put_rest-rest.ensures.0,
-      many-on over (length a.args.src.now) flag _ _ (omega arith) (many-first over flag _ f.put-few.ensures.1) c.put_rest-rest.ensures.1,
+      turns-on turn over (length a.args.src.now) a.args.dst.now _ _ (omega arith) (turns-on turn 0 over a.args.dst.now a.args.dst.now _ (omega arith) (none turn 0 a.args.dst.now refl) f.put_few-few.ensures.0) c.put_rest-rest.ensures.0,
+      many-on over (length a.args.src.now) flag _ _ (omega arith) (many-first over flag _ f.put_few-few.ensures.1) c.put_rest-rest.ensures.1,
     )
 
 add-result : tie.Need-overflow_add-result
 add-result c =
-    let r : tie.After-put_rest-rest = search in
-    let a : tie.Start = search in
-    omega (arith, (few-then-rest r).1, many_below (length a.args.src.now) (moves_at a.args.starts.now pos (nat_abs (read a.args.limit))), a.good.1.0.1)
+    let r = c in
+    let a = c in
+    omega (arith, (few-then-rest r.before).1, many_below (length a.args.src.now) (moves_at a.args.starts.now pos (nat_abs (read a.args.limit))), a.well_formed.1.0.1)
 
 returns : tie.Need-returns
 returns c =
-    let r : tie.After-put_rest-rest = search in
-    let a : tie.Start = search in
-    (put-ones-end (pos 0) (rule_i32 a.args.rule) a.args.src.now a.args.starts.now a.args.limit _ _ a.args.dst.now _ a.fits.limit refl (few-then-rest r).0, ones-count a.args.starts.now a.args.limit _ _ _ a.fits.limit refl (few-then-rest r).1)
+    let r = c in
+    let a = c in
+    (put-ones-end (pos 0) (rule_i32 a.args.rule) a.args.src.now a.args.starts.now a.args.limit _ _ a.args.dst.now _ a.ranges.limit refl (few-then-rest r.before).0, ones-count a.args.starts.now a.args.limit _ _ _ a.ranges.limit refl (few-then-rest r.before).1)
 
 pub put_ones_spec : {M : Type 1} → statement M
 put_ones_spec = tie.close (tie.spec mul-twos put-few-requires put-rest-requires add-result same_length returns)

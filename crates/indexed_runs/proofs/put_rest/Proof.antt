@@ -14,69 +14,69 @@ enum_told : tie.Need-enum_told-1
 enum_told c = search rules
 
 put-turns-requires : tie.Need-put_turns-requires
-put-turns-requires c κs = let a : tie.Start = search in (a.pre.0, ones-left _ _ _ _ _ _ a.fits.limit a.pre.2 refl refl)
+put-turns-requires c κs = let a = c in (a.requires.0, ones-left _ _ _ _ _ _ a.ranges.limit a.requires.2 refl refl)
 
 enum-told-2 : tie.Need-enum_told-in-Lowest
 enum-told-2 c = search rules
 
 put-turns-requires-2 : tie.Need-put_turns-requires-in-Lowest
-put-turns-requires-2 c κs = let a : tie.Start = search in (a.pre.0, ones-left _ _ _ _ _ _ a.fits.limit a.pre.2 refl refl)
+put-turns-requires-2 c κs = let a = c in (a.requires.0, ones-left _ _ _ _ _ _ a.ranges.limit a.requires.2 refl refl)
 
 enum-told-3 : tie.Need-enum_told-in-Highest
 enum-told-3 c = search rules
 
 put-turns-requires-3 : tie.Need-put_turns-requires-in-Highest
-put-turns-requires-3 c κs = let a : tie.Start = search in (a.pre.0, ones-left _ _ _ _ _ _ a.fits.limit a.pre.2 refl refl)
+put-turns-requires-3 c κs = let a = c in (a.requires.0, ones-left _ _ _ _ _ _ a.ranges.limit a.requires.2 refl refl)
 
 enum-told-4 : tie.Need-enum_told-in-Replace
 enum-told-4 c = search rules
 
 put-turns-requires-4 : tie.Need-put_turns-requires-in-Replace
-put-turns-requires-4 c κs = let a : tie.Start = search in (a.pre.1, ones-left _ _ _ _ _ _ a.fits.limit a.pre.2 refl refl)
+put-turns-requires-4 c κs = let a = c in (a.requires.1, ones-left _ _ _ _ _ _ a.ranges.limit a.requires.2 refl refl)
 
 same_length : tie.Need-shape_of-dst-in-Add
 same_length c = search rules
 
 returns : tie.Need-returns-in-Add
 returns c =
-    let e : tie.In-Add = search in
-    let p : tie.After-put_turns = search in
-    let a : tie.Start = search in
-    rw e.enum_told.given.1
-    (put-few-end (pos 0) (rule_i32 R.Add) a.args.src.now a.args.starts.now a.args.limit a.args.from (length a.args.src.now) (length a.args.src.now) a.args.dst.now _ a.fits.limit refl p.put-turns.ensures.0, few-count true a.args.starts.now a.args.limit a.args.from (length a.args.src.now) (length a.args.src.now) _ a.fits.limit refl p.put-turns.ensures.1)
+    let e = c in
+    let p = c in
+    let a = c in
+    rw e.in-Add.is
+    (put-few-end (pos 0) (rule_i32 R.Add) a.args.src.now a.args.starts.now a.args.limit a.args.from (length a.args.src.now) (length a.args.src.now) a.args.dst.now _ a.ranges.limit refl p.put_turns.ensures.0, few-count true a.args.starts.now a.args.limit a.args.from (length a.args.src.now) (length a.args.src.now) _ a.ranges.limit refl p.put_turns.ensures.1)
 
 same-length-2 : tie.Need-shape_of-dst-in-Lowest
 same-length-2 c = search rules
 
 returns-2 : tie.Need-returns-in-Lowest
 returns-2 c =
-    let e : tie.In-Lowest = search in
-    let p : tie.After-put_turns-in-Lowest = search in
-    let a : tie.Start = search in
-    rw e.enum-told2.given.1
-    (put-few-end (pos 0) (rule_i32 R.Lowest) a.args.src.now a.args.starts.now a.args.limit a.args.from (length a.args.src.now) (length a.args.src.now) a.args.dst.now _ a.fits.limit refl p.put-turns2.ensures.0, few-count true a.args.starts.now a.args.limit a.args.from (length a.args.src.now) (length a.args.src.now) _ a.fits.limit refl p.put-turns2.ensures.1)
+    let e = c in
+    let p = c in
+    let a = c in
+    rw e.in-Lowest.is
+    (put-few-end (pos 0) (rule_i32 R.Lowest) a.args.src.now a.args.starts.now a.args.limit a.args.from (length a.args.src.now) (length a.args.src.now) a.args.dst.now _ a.ranges.limit refl p.put_turns-in-Lowest.ensures.0, few-count true a.args.starts.now a.args.limit a.args.from (length a.args.src.now) (length a.args.src.now) _ a.ranges.limit refl p.put_turns-in-Lowest.ensures.1)
 
 same-length-3 : tie.Need-shape_of-dst-in-Highest
 same-length-3 c = search rules
 
 returns-3 : tie.Need-returns-in-Highest
 returns-3 c =
-    let e : tie.In-Highest = search in
-    let p : tie.After-put_turns-in-Highest = search in
-    let a : tie.Start = search in
-    rw e.enum-told3.given.1
-    (put-few-end (pos 0) (rule_i32 R.Highest) a.args.src.now a.args.starts.now a.args.limit a.args.from (length a.args.src.now) (length a.args.src.now) a.args.dst.now _ a.fits.limit refl p.put-turns3.ensures.0, few-count true a.args.starts.now a.args.limit a.args.from (length a.args.src.now) (length a.args.src.now) _ a.fits.limit refl p.put-turns3.ensures.1)
+    let e = c in
+    let p = c in
+    let a = c in
+    rw e.in-Highest.is
+    (put-few-end (pos 0) (rule_i32 R.Highest) a.args.src.now a.args.starts.now a.args.limit a.args.from (length a.args.src.now) (length a.args.src.now) a.args.dst.now _ a.ranges.limit refl p.put_turns-in-Highest.ensures.0, few-count true a.args.starts.now a.args.limit a.args.from (length a.args.src.now) (length a.args.src.now) _ a.ranges.limit refl p.put_turns-in-Highest.ensures.1)
 
 same-length-4 : tie.Need-shape_of-dst-in-Replace
 same-length-4 c = search rules
 
 returns-4 : tie.Need-returns-in-Replace
 returns-4 c =
-    let e : tie.In-Replace = search in
-    let p : tie.After-put_turns-in-Replace = search in
-    let a : tie.Start = search in
-    rw e.enum-told4.given.1
-    (put-few-end (pos 0) (rule_i32 R.Replace) a.args.src.now a.args.starts.now a.args.limit a.args.from (length a.args.src.now) (length a.args.src.now) a.args.dst.now _ a.fits.limit refl p.put-turns4.ensures.0, few-count true a.args.starts.now a.args.limit a.args.from (length a.args.src.now) (length a.args.src.now) _ a.fits.limit refl p.put-turns4.ensures.1)
+    let e = c in
+    let p = c in
+    let a = c in
+    rw e.in-Replace.is
+    (put-few-end (pos 0) (rule_i32 R.Replace) a.args.src.now a.args.starts.now a.args.limit a.args.from (length a.args.src.now) (length a.args.src.now) a.args.dst.now _ a.ranges.limit refl p.put_turns-in-Replace.ensures.0, few-count true a.args.starts.now a.args.limit a.args.from (length a.args.src.now) (length a.args.src.now) _ a.ranges.limit refl p.put_turns-in-Replace.ensures.1)
 
 pub put_rest_spec : {M : Type 1} → statement M
 put_rest_spec =

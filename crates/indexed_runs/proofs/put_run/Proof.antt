@@ -11,37 +11,37 @@ use Rattle.indexed_runs.proofs.put_run.Statement.{statement}
 use Rattle.indexed_runs.proofs.put_run.Tie as tie
 
 returns : tie.Need-returns-then-n-eq0
-returns c = let a : tie.Start = search in (none _ a.args.n a.args.dst.now c.if-n-eq0.true, many-none a.args.n _ c.if-n-eq0.true)
+returns c = let a = c in (none _ a.args.n a.args.dst.now c.if-n-eq0.true, many-none a.args.n _ c.if-n-eq0.true)
 
 put-row-requires : tie.Need-put_row-requires
 put-row-requires c κs =
     let t = c in
-    let a : tie.Start = search in
-    row-asks _ _ _ a.fits.ts a.fits.stride a.fits.ss t.if-ts-eq1.true t.if-stride-eq1.true t.if-ss-eq1.true _ _ _ _ _ _ _ _ a.fits.t a.fits.base a.fits.s t.if-n-eq0.false a.pre
+    let a = c in
+    row-asks _ _ _ a.ranges.ts a.ranges.stride a.ranges.ss t.if-ts-eq1.true t.if-stride-eq1.true t.if-ss-eq1.true _ _ _ _ _ _ _ _ a.ranges.t a.ranges.base a.ranges.s t.if-n-eq0.false a.requires
 
 same_length : tie.Need-shape_of-dst-then-ss-eq1
 same_length c = search rules
 
 returns-2 : tie.Need-returns-then-ss-eq1
 returns-2 c =
-    let p : tie.After-put_row = search in
-    let t : tie.Then-ss-eq1 = search in
-    let a : tie.Start = search in
-    (put-row-end a.args.ts a.args.stride a.args.ss a.fits.ts a.fits.stride a.fits.ss t.before.before.if2.taken t.before.if3.taken t.if4.taken (pos 0) (rule_i32 a.args.rule) a.args.src.now a.args.starts.now a.args.t a.args.base a.args.s a.args.limit a.args.n a.args.dst.now _ a.fits.t a.fits.base a.fits.s p.put-row.ensures.0, row-count a.args.ts a.args.stride a.args.ss a.fits.ts a.fits.stride a.fits.ss t.before.before.if2.taken t.before.if3.taken t.if4.taken a.args.starts.now a.args.t a.args.limit a.args.n _ a.fits.t p.put-row.ensures.1)
+    let p = c in
+    let t = c in
+    let a = c in
+    (put-row-end a.args.ts a.args.stride a.args.ss a.ranges.ts a.ranges.stride a.ranges.ss t.if-ts-eq1.true t.if-stride-eq1.true t.if-ss-eq1.true (pos 0) (rule_i32 a.args.rule) a.args.src.now a.args.starts.now a.args.t a.args.base a.args.s a.args.limit a.args.n a.args.dst.now _ a.ranges.t a.ranges.base a.ranges.s p.put_row.ensures.0, row-count a.args.ts a.args.stride a.args.ss a.ranges.ts a.ranges.stride a.ranges.ss t.if-ts-eq1.true t.if-stride-eq1.true t.if-ss-eq1.true a.args.starts.now a.args.t a.args.limit a.args.n _ a.ranges.t p.put_row.ensures.1)
 
 put-strided-requires : tie.Need-put_strided-requires
 put-strided-requires c κs =
-    let a : tie.Start = search in
-    strided-asks _ _ _ _ _ _ _ _ _ _ _ a.fits.t a.fits.ts a.fits.base a.fits.stride a.fits.s a.fits.ss a.pre
+    let a = c in
+    strided-asks _ _ _ _ _ _ _ _ _ _ _ a.ranges.t a.ranges.ts a.ranges.base a.ranges.stride a.ranges.s a.ranges.ss a.requires
 
 same-length-2 : tie.Need-shape_of-dst
 same-length-2 c = search rules
 
 returns-3 : tie.Need-returns
 returns-3 c =
-    let p : tie.After-put_strided = search in
-    let a : tie.Start = search in
-    (put-end (pos 0) (rule_i32 a.args.rule) a.args.src.now a.args.starts.now a.args.t a.args.ts a.args.base a.args.stride a.args.s a.args.ss a.args.limit a.args.n a.args.n a.args.dst.now p.put-strided.last.1.1.1.0 a.fits.t a.fits.ts a.fits.base a.fits.stride a.fits.s a.fits.ss refl p.put-strided.ensures.0, moves-end a.args.starts.now a.args.t a.args.ts a.args.n a.args.n _ a.fits.t a.fits.ts refl a.args.limit p.put-strided.ensures.1)
+    let p = c in
+    let a = c in
+    (put-end (pos 0) (rule_i32 a.args.rule) a.args.src.now a.args.starts.now a.args.t a.args.ts a.args.base a.args.stride a.args.s a.args.ss a.args.limit a.args.n a.args.n a.args.dst.now p.put_strided.last.1.1.1.0 a.ranges.t a.ranges.ts a.ranges.base a.ranges.stride a.ranges.s a.ranges.ss refl p.put_strided.ensures.0, moves-end a.args.starts.now a.args.t a.args.ts a.args.n a.args.n _ a.ranges.t a.ranges.ts refl a.args.limit p.put_strided.ensures.1)
 
 pub put_run_spec : {M : Type 1} → statement M
 put_run_spec =

@@ -46,37 +46,37 @@ module _ (c : tie.After-clamp_window_start-y invariant-loop decreases-loop) wher
 
 loop-holds : tie.Need-loop-i-init invariant-loop decreases-loop
 loop-holds c =
-    let a : tie.Start invariant-loop decreases-loop = search in
+    let a = c in
     (omega arith, refl, none _ 0 a.args.dst.now refl, many-none 0 _ refl)
 
 cast-k : tie.Need-overflow_cast-k invariant-loop decreases-loop
 cast-k c =
-    let d : tie.In-loop-i invariant-loop decreases-loop = search in
+    let d = c in
     (starts-at d).count
 
 mul-p : tie.Need-overflow_mul-p invariant-loop decreases-loop
 mul-p c =
-    let d : tie.In-loop-i invariant-loop decreases-loop = search in
+    let d = c in
     (starts-at d).multiple
 
 add-p : tie.Need-overflow_add-p invariant-loop decreases-loop
 add-p c =
-    let d : tie.In-loop-i invariant-loop decreases-loop = search in
+    let d = c in
     (starts-at d).fits
 
 cast-p : tie.Need-overflow_cast-p invariant-loop decreases-loop
 cast-p c =
-    let d : tie.In-loop-i invariant-loop decreases-loop = search in
+    let d = c in
     (starts-at d).cast
 
 mul-x : tie.Need-offset_bounds-starts-p invariant-loop decreases-loop
 mul-x c =
-    let d : tie.In-loop-i invariant-loop decreases-loop = search in
+    let d = c in
     omega (arith, (starts-at d).below, (start d).good.1.1.0.1)
 
 shared-slice-copy-out-x : tie.Need-bounds-starts-p invariant-loop decreases-loop
 shared-slice-copy-out-x c =
-    let d : tie.In-loop-i invariant-loop decreases-loop = search in
+    let d = c in
     (starts-at d).below
 
 clamp-window-start-requires : tie.Need-clamp_window_start-y-requires invariant-loop decreases-loop
@@ -84,55 +84,55 @@ clamp-window-start-requires c κs = tt
 
 cast-c : tie.Need-overflow_cast-c invariant-loop decreases-loop
 cast-c c =
-    let k : tie.After-clamp_window_start-y invariant-loop decreases-loop = search in
+    let k = c in
     (clamped-at k).count
 
 mul-b : tie.Need-overflow_mul-b invariant-loop decreases-loop
 mul-b c =
-    let k : tie.After-clamp_window_start-y invariant-loop decreases-loop = search in
+    let k = c in
     (clamped-at k).multiple
 
 add-b : tie.Need-overflow_add-b invariant-loop decreases-loop
 add-b c =
-    let k : tie.After-clamp_window_start-y invariant-loop decreases-loop = search in
+    let k = c in
     (clamped-at k).fits
 
 cast-b : tie.Need-overflow_cast-b invariant-loop decreases-loop
 cast-b c =
-    let k : tie.After-clamp_window_start-y invariant-loop decreases-loop = search in
+    let k = c in
     (clamped-at k).cast
 
 mul-a : tie.Need-overflow_mul-a invariant-loop decreases-loop
 mul-a c =
-    let d : tie.In-loop-i invariant-loop decreases-loop = search in
-    (plain_at d).multiple
+    let d = c in
+    (plain_at d.before.before.before).multiple
 
 add_a : tie.Need-overflow_add-a invariant-loop decreases-loop
 add_a c =
-    let d : tie.In-loop-i invariant-loop decreases-loop = search in
-    (plain_at d).fits
+    let d = c in
+    (plain_at d.before.before.before).fits
 
 cast-a : tie.Need-overflow_cast-a invariant-loop decreases-loop
 cast-a c =
-    let d : tie.In-loop-i invariant-loop decreases-loop = search in
-    (plain_at d).cast
+    let d = c in
+    (plain_at d.before.before.before).cast
 
 mul_apply : tie.Need-offset_bounds-dst-b invariant-loop decreases-loop
 mul_apply c =
-    let d : tie.In-loop-i invariant-loop decreases-loop = search in
-    let k : tie.After-clamp_window_start-y invariant-loop decreases-loop = search in
+    let d = c in
+    let k = c in
     omega (arith, (clamped-at k).below, (start d).good.1.1.1.0.1)
 
 slice-copy-out-apply : tie.Need-slice_copy_out-apply invariant-loop decreases-loop
 slice-copy-out-apply c =
-    let l : tie.After-clamp_window_start-y invariant-loop decreases-loop = search in
-    let h : tie.At-loop-i invariant-loop decreases-loop = search in
-    omega (arith, (clamped-at l).below, h.loop.inv.1)
+    let l = c in
+    let h = c in
+    omega (arith, (clamped-at l).below, h.loop-i.invariant.1)
 
 mul-apply-2 : tie.Need-offset_bounds-src-a invariant-loop decreases-loop
 mul-apply-2 c =
-    let d : tie.In-loop-i invariant-loop decreases-loop = search in
-    omega (arith, (plain_at d).below, (start d).good.1.0.1)
+    let d = c in
+    omega (arith, (plain_at d.before.before.before.before).below, (start d).good.1.0.1)
 
 shared-slice-copy-out-apply :
     tie.Need-bounds-src-a invariant-loop decreases-loop
@@ -143,21 +143,21 @@ apply-requires c κs = tt
 
 mul-v : tie.Need-offset_bounds-dst-b-in-loop-i invariant-loop decreases-loop
 mul-v c =
-    let k : tie.After-clamp_window_start-y invariant-loop decreases-loop = search in
-    let d : tie.In-loop-i invariant-loop decreases-loop = search in
+    let k = c in
+    let d = c in
     omega (arith, (clamped-at k).below, (start d).good.1.1.1.0.1)
 
 slice-set-from-v : tie.Need-bounds-dst-b invariant-loop decreases-loop
 slice-set-from-v c =
-    let k : tie.After-clamp_window_start-y invariant-loop decreases-loop = search in
-    let h : tie.At-loop-i invariant-loop decreases-loop = search in
-    omega (arith, (clamped-at k).below, h.loop.inv.1)
+    let k = c in
+    let h = c in
+    omega (arith, (clamped-at k).below, h.loop-i.invariant.1)
 
 add-slid : tie.Need-overflow_add-slid invariant-loop decreases-loop
 add-slid c =
-    let q : tie.After-clamp_window_start-y invariant-loop decreases-loop = search in
-    let h : tie.At-loop-i invariant-loop decreases-loop = search in
-    omega (arith, one_below h.loop.i _ _ _ q.clamp-window-start.result.moved h.loop.inv.3 c.count_if-one.ensures)
+    let q = c in
+    let h = c in
+    omega (arith, one_below h.loop-i.i _ _ _ q.clamp_window_start-y.result.moved h.loop-i.invariant.3 c.count_if-one.ensures)
 
 add-i : tie.Need-overflow_add-i invariant-loop decreases-loop
 add-i c = omega arith
@@ -167,18 +167,18 @@ loop-less c = omega arith
 
 loop-again : tie.Need-loop-i-preserved invariant-loop decreases-loop
 loop-again c =
-    let w : tie.After-apply-v invariant-loop decreases-loop = search in
-    let q : tie.After-clamp_window_start-y invariant-loop decreases-loop = search in
+    let w = c in
+    let q = c in
     let d = q.before.before in
     let h = d.before in
     let a = start d in
     let from = nat_abs (machine a.args.s a.args.ss h.loop.i) in
-    let to = nat_abs (machine a.args.base a.args.stride q.clamp-window-start.result.start) in (
+    let to = nat_abs (machine a.args.base a.args.stride q.clamp_window_start-y.result.start) in (
       omega arith,
       length-set h.loop.dst _ _ ∙ h.loop.inv.1,
-      cell-more (pos 0) (rule_i32 a.args.rule) a.args.src.now (line (read a.args.s) (read a.args.ss)) (clamped_at a.args.starts.now (line (read a.args.t) (read a.args.ts)) (read a.args.base) (read a.args.stride) a.args.limit) a.args.dst.now h.loop.dst h.loop.i from to _ h.loop.inv.2 (plain_at d).index_is (by-start q) (stored a.args.rule (get_or h.loop.dst to (pos 0)) (get_or a.args.src.now from (pos 0)) w.apply.result (sfits_of w.before.before.apply-arg.given) (sfits_of w.before.apply-arg2.given) w.apply.ensures),
-      many_more h.loop.i (moves_at a.args.starts.now (line (read a.args.t) (read a.args.ts)) a.args.limit) _ _ q.clamp-window-start.result.moved h.loop.inv.3 c.count_if-one.ensures
-          (moves-is a.args.starts.now _ _ a.args.limit _ _ (starts-at d) (sfits_of q.before.x.given) _ q.clamp-window-start.ensures.1),
+      cell-more (pos 0) (rule_i32 a.args.rule) a.args.src.now (line (read a.args.s) (read a.args.ss)) (clamped_at a.args.starts.now (line (read a.args.t) (read a.args.ts)) (read a.args.base) (read a.args.stride) a.args.limit) a.args.dst.now h.loop.dst h.loop.i from to _ h.loop.inv.2 (plain_at d).index_is (by-start q) (stored a.args.rule (get_or h.loop.dst to (pos 0)) (get_or a.args.src.now from (pos 0)) w.apply-v.result (sfits_of w.apply-arg-1.given) (sfits_of w.apply-arg-in-loop-i-1.given) w.apply-v.ensures),
+      many_more h.loop.i (moves_at a.args.starts.now (line (read a.args.t) (read a.args.ts)) a.args.limit) _ _ q.clamp_window_start-y.result.moved h.loop.inv.3 c.count_if-one.ensures
+          (moves-is a.args.starts.now _ _ a.args.limit _ _ (starts-at d) (sfits_of q.x-1.given) _ q.clamp_window_start-y.ensures.1),
     )
 
 same_length : tie.Need-shape_of-dst invariant-loop decreases-loop
@@ -187,9 +187,9 @@ same_length c = c.loop-i.invariant.1
 returns : tie.Need-returns invariant-loop decreases-loop
 returns c =
     let h = c in
-    let a : tie.Start invariant-loop decreases-loop = search in (
-      put-end (pos 0) (rule_i32 a.args.rule) a.args.src.now a.args.starts.now a.args.t a.args.ts a.args.base a.args.stride a.args.s a.args.ss a.args.limit h.loop-i.i a.args.n a.args.dst.now h.loop-i.dst a.fits.t a.fits.ts a.fits.base a.fits.stride a.fits.s a.fits.ss (omega arith) h.loop-i.invariant.2,
-      moves-end a.args.starts.now a.args.t a.args.ts h.loop-i.i a.args.n h.loop-i.slid a.fits.t a.fits.ts (omega arith) a.args.limit h.loop-i.invariant.3,
+    let a = c in (
+      put-end (pos 0) (rule_i32 a.args.rule) a.args.src.now a.args.starts.now a.args.t a.args.ts a.args.base a.args.stride a.args.s a.args.ss a.args.limit h.loop-i.i a.args.n a.args.dst.now h.loop-i.dst a.ranges.t a.ranges.ts a.ranges.base a.ranges.stride a.ranges.s a.ranges.ss (omega arith) h.loop-i.invariant.2,
+      moves-end a.args.starts.now a.args.t a.args.ts h.loop-i.i a.args.n h.loop-i.slid a.ranges.t a.ranges.ts (omega arith) a.args.limit h.loop-i.invariant.3,
     )
 
 pub put_strided_by_spec : {M : Type 1} → statement M

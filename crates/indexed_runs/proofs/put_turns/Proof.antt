@@ -42,47 +42,47 @@ module _ (d : tie.In-loop-left invariant-loop decreases-loop) where
 
 returns : tie.Need-returns-then-limit-lt0 invariant-loop decreases-loop
 returns c =
-    let a : tie.Start invariant-loop decreases-loop = search in
-    absurd (omega (arith, zfacts, a.pre.1.low, known a.fits.limit, only a.args.limit, c.if-limit-lt0.true))
+    let a = c in
+    absurd (omega (arith, zfacts, a.requires.1.low, known a.ranges.limit, only a.args.limit, c.if-limit-lt0.true))
 
 loop-holds : tie.Need-loop-left-init invariant-loop decreases-loop
 loop-holds c =
-    let a : tie.Start invariant-loop decreases-loop = search in
-    (omega arith, a.pre.0, refl, none _ (a.args.from - a.args.from) a.args.dst.now (omega arith), many-none (a.args.from - a.args.from) _ (omega arith))
+    let a = c in
+    (omega arith, a.requires.0, refl, none _ (a.args.from - a.args.from) a.args.dst.now (omega arith), many-none (a.args.from - a.args.from) _ (omega arith))
 
 add-e : tie.Need-overflow_add-e invariant-loop decreases-loop
 add-e c = omega (arith, fits c, (start c).well-formed.1.0.1)
 
 put-few-requires : tie.Need-put_few-few-requires invariant-loop decreases-loop
 put-few-requires c κs =
-    let d : tie.In-loop-left invariant-loop decreases-loop = search in
-    let h : tie.At-loop-left invariant-loop decreases-loop = search in
-    (omega arith, fits d, ones-left _ _ _ _ _ _ (start d).fits.limit (start d).pre.1 refl h.loop.inv.2)
+    let d = c in
+    let h = c in
+    (omega arith, fits d, ones-left _ _ _ _ _ _ (start d).fits.limit (start d).pre.1 refl h.loop-left.invariant.2)
 
 add-slid : tie.Need-overflow_add-slid invariant-loop decreases-loop
 add-slid c =
-    let p : tie.After-put_few-few invariant-loop decreases-loop = search in
-    let d : tie.In-loop-left invariant-loop decreases-loop = search in
-    let h : tie.At-loop-left invariant-loop decreases-loop = search in
-    omega (arith, further-below (start d).args.from h.loop.i (h.loop.i + (start d).args.width) _ _ _ _ h.loop.inv.0 (omega arith) h.loop.inv.4 p.put-few.ensures.1, fits d, (start d).good.1.0.1)
+    let p = c in
+    let d = c in
+    let h = c in
+    omega (arith, further-below (start d).args.from h.loop-left.i (h.loop-left.i + (start d).args.width) _ _ _ _ h.loop-left.invariant.0 (omega arith) h.loop-left.invariant.4 p.put_few-few.ensures.1, fits d, (start d).good.1.0.1)
 
 sub-left : tie.Need-overflow_sub-left invariant-loop decreases-loop
-sub-left c = let d : tie.In-loop-left invariant-loop decreases-loop = search in omega (arith, d.loop-test.taken)
+sub-left c = let d = c in omega (arith, d.loop-left-test.true)
 
 loop-less : tie.Need-loop-left-smaller invariant-loop decreases-loop
-loop-less c = let d : tie.In-loop-left invariant-loop decreases-loop = search in omega (arith, d.loop-test.taken)
+loop-less c = let d = c in omega (arith, d.loop-left-test.true)
 
 loop-again : tie.Need-loop-left-preserved invariant-loop decreases-loop
 loop-again c =
-    let p : tie.After-put_few-few invariant-loop decreases-loop = search in
-    let d : tie.In-loop-left invariant-loop decreases-loop = search in
-    let h : tie.At-loop-left invariant-loop decreases-loop = search in
+    let p = c in
+    let d = c in
+    let h = c in
     let a = start d in (
-      omega (arith, h.loop.inv.0),
+      omega (arith, h.loop-left.invariant.0),
       turn d,
-      p.put-few.kept.1.1.1.0 ∙ h.loop.inv.2,
-      turns-further (cell_at (pos 0) (rule_i32 a.args.rule) a.args.src.now pos (one_at a.args.starts.now (read a.args.limit))) a.args.from h.loop.i (h.loop.i + a.args.width) a.args.dst.now h.loop.dst _ h.loop.inv.0 (omega arith) h.loop.inv.3 p.put-few.ensures.0,
-      many-further a.args.from h.loop.i (h.loop.i + a.args.width) (moves_at a.args.starts.now pos (nat_abs (read a.args.limit))) _ _ h.loop.inv.0 (omega arith) h.loop.inv.4 p.put-few.ensures.1,
+      p.put_few-few.kept.1.1.1.0 ∙ h.loop-left.invariant.2,
+      turns-further (cell_at (pos 0) (rule_i32 a.args.rule) a.args.src.now pos (one_at a.args.starts.now (read a.args.limit))) a.args.from h.loop-left.i (h.loop-left.i + a.args.width) a.args.dst.now h.loop-left.dst _ h.loop-left.invariant.0 (omega arith) h.loop-left.invariant.3 p.put_few-few.ensures.0,
+      many-further a.args.from h.loop-left.i (h.loop-left.i + a.args.width) (moves_at a.args.starts.now pos (nat_abs (read a.args.limit))) _ _ h.loop-left.invariant.0 (omega arith) h.loop-left.invariant.4 p.put_few-few.ensures.1,
     )
 
 same_length : tie.Need-shape_of-dst invariant-loop decreases-loop
@@ -91,10 +91,10 @@ same_length c = c.loop-left.invariant.2
 returns-2 : tie.Need-returns invariant-loop decreases-loop
 returns-2 c =
     let h = c in
-    let a : tie.Start invariant-loop decreases-loop = search in
-    let e = none_left h.loop-left.i a.args.width h.loop-left.left (length a.args.src.now) h.loop-left.invariant.1 (omega (arith, c.loop-left-test.false)) in (
-      put-few-end (pos 0) (rule_i32 a.args.rule) a.args.src.now a.args.starts.now a.args.limit a.args.from h.loop-left.i (length a.args.src.now) a.args.dst.now h.loop-left.dst a.fits.limit e h.loop-left.invariant.3,
-      few-count true a.args.starts.now a.args.limit a.args.from h.loop-left.i (length a.args.src.now) h.loop-left.slid a.fits.limit e h.loop-left.invariant.4,
+    let a = c in
+    let e = none_left h.loop-left.i a.args.width h.loop-left.false (length a.args.src.now) h.loop-left.invariant.1 (omega (arith, c.loop-left-test.false)) in (
+      put-few-end (pos 0) (rule_i32 a.args.rule) a.args.src.now a.args.starts.now a.args.limit a.args.from h.loop-left.i (length a.args.src.now) a.args.dst.now h.loop-left.dst a.ranges.limit e h.loop-left.invariant.3,
+      few-count true a.args.starts.now a.args.limit a.args.from h.loop-left.i (length a.args.src.now) h.loop-left.slid a.ranges.limit e h.loop-left.invariant.4,
     )
 
 pub put_turns_spec : {M : Type 1} → statement M

@@ -37,10 +37,10 @@ loop-holds : tie.Need-loop-c-init invariant-loop decreases-loop
 loop-holds c = (omega arith, Fits-of_z c.ranges.s, none_yet c.args.starts.now c.args.offsets.now c.args.strides.now c.args.limits.now (read c.args.s) (read c.args.t), one_none (component_moved c.args.starts.now c.args.offsets.now c.args.limits.now (read c.args.t)))
 
 mul-p : tie.Need-offset_bounds-offsets-c invariant-loop decreases-loop
-mul-p c = let d : tie.In-loop-c invariant-loop decreases-loop = search in omega (arith, (start d).pre.few)
+mul-p c = let d = c in omega (arith, (start d).pre.few)
 
 element-copy-out-p : tie.Need-bounds-offsets-c invariant-loop decreases-loop
-element-copy-out-p c = let d : tie.In-loop-c invariant-loop decreases-loop = search in omega (arith, (start d).pre.few)
+element-copy-out-p c = let d = c in omega (arith, (start d).pre.few)
 
 add-p : tie.Need-overflow_add-p invariant-loop decreases-loop
 add-p c = let a = start c.before in component-fits _ _ _ _ _ _ _ _ a.pre (omega arith) a.fits.s a.fits.t _ c.loop-c-test.true (sfits_of c.p-1.given) (room a)
@@ -55,65 +55,65 @@ shared-slice-copy-out-x : tie.Need-bounds-starts-p invariant-loop decreases-loop
 shared-slice-copy-out-x c = (index_at c).below
 
 mul-clamp-window-start : tie.Need-offset_bounds-limits-c invariant-loop decreases-loop
-mul-clamp-window-start c = let d : tie.In-loop-c invariant-loop decreases-loop = search in omega (arith, (start d).pre.few)
+mul-clamp-window-start c = let d = c in omega (arith, (start d).pre.few)
 
 element-copy-out-clamp-window-start : tie.Need-bounds-limits-c invariant-loop decreases-loop
-element-copy-out-clamp-window-start c = let d : tie.In-loop-c invariant-loop decreases-loop = search in omega (arith, (start d).pre.few)
+element-copy-out-clamp-window-start c = let d = c in omega (arith, (start d).pre.few)
 
 clamp-window-start-requires : tie.Need-clamp_window_start-y-requires invariant-loop decreases-loop
 clamp-window-start-requires c κs = tt
 
 cast-k : tie.Need-overflow_cast-k invariant-loop decreases-loop
 cast-k c =
-    let k : tie.After-clamp_window_start-y invariant-loop decreases-loop = search in
-    let d : tie.In-loop-c invariant-loop decreases-loop = search in
-    clamped-fits _ _ _ ((start d).pre.small _ d.loop-test.taken) k.clamp-window-start.ensures.0
+    let k = c in
+    let d = c in
+    clamped-fits _ _ _ ((start d).pre.small _ d.loop-c-test.true) k.clamp_window_start-y.ensures.0
 
 mul_at : tie.Need-offset_bounds-strides-c invariant-loop decreases-loop
-mul_at c = let d : tie.In-loop-c invariant-loop decreases-loop = search in omega (arith, (start d).pre.few)
+mul_at c = let d = c in omega (arith, (start d).pre.few)
 
 element-copy-out-at : tie.Need-bounds-strides-c invariant-loop decreases-loop
-element-copy-out-at c = let d : tie.In-loop-c invariant-loop decreases-loop = search in omega (arith, (start d).pre.few)
+element-copy-out-at c = let d = c in omega (arith, (start d).pre.few)
 
 mul-at-2 : tie.Need-overflow_mul-at invariant-loop decreases-loop
 mul-at-2 c =
-    let v : tie.After-at-1 invariant-loop decreases-loop = search in
-    let k : tie.After-clamp_window_start-y invariant-loop decreases-loop = search in
-    let x : tie.After-x-1 invariant-loop decreases-loop = search in
-    let p : tie.After-p-1 invariant-loop decreases-loop = search in
+    let v = c in
+    let k = c in
+    let x = c in
+    let p = c in
     let d = p.before in
     let a = start d in
-    product-fits _ _ _ _ _ _ _ _ a.pre (omega arith) a.fits.s a.fits.t _ d.loop-test.taken (sfits_of p.p.given) (sfits_of v.at.given) _ d.before.loop.inv.2 _ (index_at p).is (sfits_of x.x.given) _ k.clamp-window-start.ensures.0
+    product-fits _ _ _ _ _ _ _ _ a.pre (omega arith) a.fits.s a.fits.t _ d.loop-test.taken (sfits_of p.p-1.given) (sfits_of v.at-1.given) _ d.before.loop.inv.2 _ (index_at p).is (sfits_of x.x-1.given) _ k.clamp_window_start-y.ensures.0
 
 add_at : tie.Need-overflow_add-at invariant-loop decreases-loop
 add_at c =
-    let v : tie.After-at-1 invariant-loop decreases-loop = search in
-    let k : tie.After-clamp_window_start-y invariant-loop decreases-loop = search in
-    let x : tie.After-x-1 invariant-loop decreases-loop = search in
-    let p : tie.After-p-1 invariant-loop decreases-loop = search in
+    let v = c in
+    let k = c in
+    let x = c in
+    let p = c in
     let d = p.before in
     let a = start d in
-    sum_fits _ _ _ _ _ _ _ _ a.pre (omega arith) a.fits.s a.fits.t _ d.loop-test.taken (sfits_of p.p.given) (sfits_of v.at.given) _ d.before.loop.inv.2 _ (index_at p).is (sfits_of x.x.given) _ k.clamp-window-start.ensures.0
+    sum_fits _ _ _ _ _ _ _ _ a.pre (omega arith) a.fits.s a.fits.t _ d.loop-test.taken (sfits_of p.p-1.given) (sfits_of v.at-1.given) _ d.before.loop.inv.2 _ (index_at p).is (sfits_of x.x-1.given) _ k.clamp_window_start-y.ensures.0
 
 add-c : tie.Need-overflow_add-c invariant-loop decreases-loop
-add-c c = let d : tie.In-loop-c invariant-loop decreases-loop = search in omega (arith, (start d).pre.few)
+add-c c = let d = c in omega (arith, (start d).pre.few)
 
 loop-less : tie.Need-loop-c-smaller invariant-loop decreases-loop
 loop-less c = omega arith
 
 loop-again : tie.Need-loop-c-preserved invariant-loop decreases-loop
 loop-again c =
-    let v : tie.After-at-1 invariant-loop decreases-loop = search in
-    let k : tie.After-clamp_window_start-y invariant-loop decreases-loop = search in
-    let x : tie.After-x-1 invariant-loop decreases-loop = search in
-    let p : tie.After-p-1 invariant-loop decreases-loop = search in
+    let v = c in
+    let k = c in
+    let x = c in
+    let p = c in
     let d = p.before in
     let a = start d in (
       omega arith,
-      Fits-of_z (sum_fits _ _ _ _ _ _ _ _ a.pre (omega arith) a.fits.s a.fits.t _ d.loop-test.taken (sfits_of p.p.given) (sfits_of v.at.given) _ d.before.loop.inv.2 _ (index_at p).is (sfits_of x.x.given) _ k.clamp-window-start.ensures.0),
-      sum-next _ _ _ _ _ _ _ _ a.pre (omega arith) a.fits.s a.fits.t _ d.loop-test.taken (sfits_of p.p.given) (sfits_of v.at.given) _ d.before.loop.inv.2 _ (index_at p).is (sfits_of x.x.given) _ k.clamp-window-start.ensures.0,
+      Fits-of_z (sum_fits _ _ _ _ _ _ _ _ a.pre (omega arith) a.fits.s a.fits.t _ d.loop-test.taken (sfits_of p.p-1.given) (sfits_of v.at-1.given) _ d.before.loop.inv.2 _ (index_at p).is (sfits_of x.x-1.given) _ k.clamp_window_start-y.ensures.0),
+      sum-next _ _ _ _ _ _ _ _ a.pre (omega arith) a.fits.s a.fits.t _ d.loop-test.taken (sfits_of p.p-1.given) (sfits_of v.at-1.given) _ d.before.loop.inv.2 _ (index_at p).is (sfits_of x.x-1.given) _ k.clamp_window_start-y.ensures.0,
       one_more _ (component_moved a.args.starts.now a.args.offsets.now a.args.limits.now (read a.args.t)) _ _ _ d.before.loop.inv.3
-          (component-moved _ _ _ _ _ _ _ _ a.pre (omega arith) a.fits.s a.fits.t _ d.loop-test.taken (sfits_of p.p.given) _ (index_at p).is (sfits_of x.x.given) _ k.clamp-window-start.ensures.1) c.either-moved.ensures,
+          (component-moved _ _ _ _ _ _ _ _ a.pre (omega arith) a.fits.s a.fits.t _ d.loop-test.taken (sfits_of p.p-1.given) _ (index_at p).is (sfits_of x.x-1.given) _ k.clamp_window_start-y.ensures.1) c.either-moved.ensures,
     )
 
 returns : tie.Need-returns invariant-loop decreases-loop

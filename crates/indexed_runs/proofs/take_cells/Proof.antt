@@ -14,50 +14,50 @@ use Rattle.indexed_runs.proofs.take_cells.Tie as tie
 
 take-pairs-requires : tie.Need-take_pairs-requires
 take-pairs-requires c κs =
-    let t : tie.Then-count-eq2 = search in
-    let a : tie.Start = search in
-    takes-ask _ _ _ _ _ _ _ _ _ _ _ _ _ _ a.fits.s a.fits.t a.fits.d a.fits.ss a.fits.ts a.fits.ds (subst (λ (m : ℕ). Taking a.args.starts.now a.args.offsets.now a.args.strides.now a.args.limits.now m a.args.s a.args.t a.args.d a.args.ss a.args.ts a.args.ds a.args.n (length a.args.src.now) (length a.args.dst.now)) t.if1.taken a.pre)
+    let t = c in
+    let a = c in
+    takes-ask _ _ _ _ _ _ _ _ _ _ _ _ _ _ a.ranges.s a.ranges.t a.ranges.d a.ranges.ss a.ranges.ts a.ranges.ds (subst (λ (m : ℕ). Taking a.args.starts.now a.args.offsets.now a.args.strides.now a.args.limits.now m a.args.s a.args.t a.args.d a.args.ss a.args.ts a.args.ds a.args.n (length a.args.src.now) (length a.args.dst.now)) t.if-count-eq2.true a.requires)
 
 same_length : tie.Need-shape_of-dst-then-count-eq2
 same_length c = search rules
 
 returns : tie.Need-returns-then-count-eq2
 returns c =
-    let o : tie.After-take_pairs = search in
-    let t : tie.Then-count-eq2 = search in
-    let a : tie.Start = search in
-    rw t.if1.taken
-    (cells-end (pos 0) (rule_i32 R.Replace) a.args.src.now a.args.starts.now a.args.offsets.now a.args.strides.now a.args.limits.now 2 _ _ _ _ _ _ a.args.n a.args.n a.args.dst.now _ a.fits.s a.fits.t a.fits.d a.fits.ss a.fits.ts a.fits.ds refl o.take-pairs.ensures.0, so-counted a.args.counts a.args.counts _ _ _ refl (starts-end a.args.starts.now a.args.t a.args.ts a.args.n a.args.n _ a.fits.t a.fits.ts refl a.args.offsets.now a.args.limits.now 2 refl) o.take-pairs.ensures.1)
+    let o = c in
+    let t = c in
+    let a = c in
+    rw t.if-count-eq2.true
+    (cells-end (pos 0) (rule_i32 R.Replace) a.args.src.now a.args.starts.now a.args.offsets.now a.args.strides.now a.args.limits.now 2 _ _ _ _ _ _ a.args.n a.args.n a.args.dst.now _ a.ranges.s a.ranges.t a.ranges.d a.ranges.ss a.ranges.ts a.ranges.ds refl o.take_pairs.ensures.0, so-counted a.args.counts a.args.counts _ _ _ refl (starts-end a.args.starts.now a.args.t a.args.ts a.args.n a.args.n _ a.ranges.t a.ranges.ts refl a.args.offsets.now a.args.limits.now 2 refl) o.take_pairs.ensures.1)
 
 take-cells-by-requires : tie.Need-take_cells_by-requires
 take-cells-by-requires c κs =
-    let a : tie.Start = search in
-    takes-ask _ _ _ _ _ _ _ _ _ _ _ _ _ _ a.fits.s a.fits.t a.fits.d a.fits.ss a.fits.ts a.fits.ds a.pre
+    let a = c in
+    takes-ask _ _ _ _ _ _ _ _ _ _ _ _ _ _ a.ranges.s a.ranges.t a.ranges.d a.ranges.ss a.ranges.ts a.ranges.ds a.requires
 
 same-length-2 : tie.Need-shape_of-dst-then-counts
 same-length-2 c = search rules
 
 returns-2 : tie.Need-returns-then-counts
 returns-2 c =
-    let o : tie.After-take_cells_by = search in
-    let t : tie.Then-counts = search in
-    let a : tie.Start = search in
-    (cells-end (pos 0) (rule_i32 R.Replace) a.args.src.now a.args.starts.now a.args.offsets.now a.args.strides.now a.args.limits.now a.args.count _ _ _ _ _ _ a.args.n a.args.n a.args.dst.now _ a.fits.s a.fits.t a.fits.d a.fits.ss a.fits.ts a.fits.ds refl o.take-cells-by.ensures.0, so-counted a.args.counts true _ _ _ t.if2.taken (starts-end a.args.starts.now a.args.t a.args.ts a.args.n a.args.n _ a.fits.t a.fits.ts refl a.args.offsets.now a.args.limits.now a.args.count refl) o.take-cells-by.ensures.1)
+    let o = c in
+    let t = c in
+    let a = c in
+    (cells-end (pos 0) (rule_i32 R.Replace) a.args.src.now a.args.starts.now a.args.offsets.now a.args.strides.now a.args.limits.now a.args.count _ _ _ _ _ _ a.args.n a.args.n a.args.dst.now _ a.ranges.s a.ranges.t a.ranges.d a.ranges.ss a.ranges.ts a.ranges.ds refl o.take_cells_by.ensures.0, so-counted a.args.counts true _ _ _ t.if-counts.true (starts-end a.args.starts.now a.args.t a.args.ts a.args.n a.args.n _ a.ranges.t a.ranges.ts refl a.args.offsets.now a.args.limits.now a.args.count refl) o.take_cells_by.ensures.1)
 
 take-cells-by-requires-2 : tie.Need-take_cells_by-requires-2
 take-cells-by-requires-2 c κs =
-    let a : tie.Start = search in
-    takes-ask _ _ _ _ _ _ _ _ _ _ _ _ _ _ a.fits.s a.fits.t a.fits.d a.fits.ss a.fits.ts a.fits.ds a.pre
+    let a = c in
+    takes-ask _ _ _ _ _ _ _ _ _ _ _ _ _ _ a.ranges.s a.ranges.t a.ranges.d a.ranges.ss a.ranges.ts a.ranges.ds a.requires
 
 same-length-3 : tie.Need-shape_of-dst
 same-length-3 c = search rules
 
 returns-3 : tie.Need-returns
 returns-3 c =
-    let o : tie.After-take_cells_by-2 = search in
-    let f : tie.Else-counts = search in
-    let a : tie.Start = search in
-    (cells-end (pos 0) (rule_i32 R.Replace) a.args.src.now a.args.starts.now a.args.offsets.now a.args.strides.now a.args.limits.now a.args.count _ _ _ _ _ _ a.args.n a.args.n a.args.dst.now _ a.fits.s a.fits.t a.fits.d a.fits.ss a.fits.ts a.fits.ds refl o.take-cells-by2.ensures.0, so-counted a.args.counts false _ _ _ f.if2.left (starts-end a.args.starts.now a.args.t a.args.ts a.args.n a.args.n _ a.fits.t a.fits.ts refl a.args.offsets.now a.args.limits.now a.args.count refl) o.take-cells-by2.ensures.1)
+    let o = c in
+    let f = c in
+    let a = c in
+    (cells-end (pos 0) (rule_i32 R.Replace) a.args.src.now a.args.starts.now a.args.offsets.now a.args.strides.now a.args.limits.now a.args.count _ _ _ _ _ _ a.args.n a.args.n a.args.dst.now _ a.ranges.s a.ranges.t a.ranges.d a.ranges.ss a.ranges.ts a.ranges.ds refl o.take_cells_by-2.ensures.0, so-counted a.args.counts false _ _ _ f.if-counts.false (starts-end a.args.starts.now a.args.t a.args.ts a.args.n a.args.n _ a.ranges.t a.ranges.ts refl a.args.offsets.now a.args.limits.now a.args.count refl) o.take_cells_by-2.ensures.1)
 
 pub take_cells_spec : {M : Type 1} → statement M
 take_cells_spec = tie.close (tie.spec take-pairs-requires same_length returns take-cells-by-requires same-length-2 returns-2 take-cells-by-requires-2 same-length-3 returns-3)

@@ -36,16 +36,16 @@ clamped-requires c κs = search rules
 
 cast-a : tie.Need-overflow_cast-a
 cast-a c =
-    let l : tie.After-clamped-y = search in
+    let l = c in
     (place l).cast
 
 mul-dst : tie.Need-offset_bounds-src-a
 mul-dst c =
-    let l : tie.After-clamped-y = search in
+    let l = c in
     omega (arith, (place l).below, (at-start l).good.1.0.1)
 
 shared-slice-copy-out-dst : tie.Need-bounds-src-a
-shared-slice-copy-out-dst c = let l : tie.After-clamped-y = search in (place l).below
+shared-slice-copy-out-dst c = let l = c in (place l).below
 
 mul-t18 : tie.Need-offset_bounds-dst-i
 mul-t18 c = search rules
@@ -58,10 +58,10 @@ same_length c = search rules
 
 returns : tie.Need-returns
 returns c =
-    let q : tie.After-clamped-y = search in
+    let q = c in
     let a = at-start q in (
-      one-turn (pos 0) (rule_i32 R.Replace) a.args.src.now (one_at a.args.starts.now a.args.limit) pos a.args.dst.now a.args.i (nat_abs (read q.clamped.result.at)) a.args.i _ (by-start q) refl (back (sfits_of c.dst-1.given)),
-      one-counts a.args.counts _ _ _ c.count_if-one.ensures c.count_if.ensures ∙ ap (λ (b : Bool). cond (a.args.counts && b) 1 0) (ones-moved a.args.starts.now a.args.limit a.args.i a.fits.limit (sfits_of q.before.x.given) _ q.clamped.ensures.1),
+      one-turn (pos 0) (rule_i32 R.Replace) a.args.src.now (one_at a.args.starts.now a.args.limit) pos a.args.dst.now a.args.i (nat_abs (read q.clamped-y.result.at)) a.args.i _ (by-start q) refl (back (sfits_of c.dst-1.given)),
+      one-counts a.args.counts _ _ _ c.count_if-one.ensures c.count_if.ensures ∙ ap (λ (b : Bool). cond (a.args.counts && b) 1 0) (ones-moved a.args.starts.now a.args.limit a.args.i a.fits.limit (sfits_of q.x-1.given) _ q.clamped-y.ensures.1),
     )
 
 pub take_one_spec : {M : Type 1} → statement M

@@ -11,33 +11,33 @@ use Rattle.indexed_runs.proofs.take_pairs.Tie as tie
 
 take-cells-by-requires : tie.Need-take_cells_by-requires
 take-cells-by-requires c κs =
-    let a : tie.Start = search in
-    takes-ask _ _ _ _ _ _ _ _ _ _ _ _ _ _ a.fits.s a.fits.t a.fits.d a.fits.ss a.fits.ts a.fits.ds a.pre
+    let a = c in
+    takes-ask _ _ _ _ _ _ _ _ _ _ _ _ _ _ a.ranges.s a.ranges.t a.ranges.d a.ranges.ss a.ranges.ts a.ranges.ds a.requires
 
 same_length : tie.Need-shape_of-dst-then-counts
 same_length c = search rules
 
 returns : tie.Need-returns-then-counts
 returns c =
-    let o : tie.After-take_cells_by = search in
-    let t : tie.Then-counts = search in
-    let a : tie.Start = search in
-    (cells-end (pos 0) (rule_i32 R.Replace) a.args.src.now a.args.starts.now a.args.offsets.now a.args.strides.now a.args.limits.now 2 _ _ _ _ _ _ a.args.n a.args.n a.args.dst.now _ a.fits.s a.fits.t a.fits.d a.fits.ss a.fits.ts a.fits.ds refl o.take-cells-by.ensures.0, so-counted a.args.counts true _ _ _ t.if1.taken (starts-end a.args.starts.now a.args.t a.args.ts a.args.n a.args.n _ a.fits.t a.fits.ts refl a.args.offsets.now a.args.limits.now 2 refl) o.take-cells-by.ensures.1)
+    let o = c in
+    let t = c in
+    let a = c in
+    (cells-end (pos 0) (rule_i32 R.Replace) a.args.src.now a.args.starts.now a.args.offsets.now a.args.strides.now a.args.limits.now 2 _ _ _ _ _ _ a.args.n a.args.n a.args.dst.now _ a.ranges.s a.ranges.t a.ranges.d a.ranges.ss a.ranges.ts a.ranges.ds refl o.take_cells_by.ensures.0, so-counted a.args.counts true _ _ _ t.if-counts.true (starts-end a.args.starts.now a.args.t a.args.ts a.args.n a.args.n _ a.ranges.t a.ranges.ts refl a.args.offsets.now a.args.limits.now 2 refl) o.take_cells_by.ensures.1)
 
 take-cells-by-requires-2 : tie.Need-take_cells_by-requires-2
 take-cells-by-requires-2 c κs =
-    let a : tie.Start = search in
-    takes-ask _ _ _ _ _ _ _ _ _ _ _ _ _ _ a.fits.s a.fits.t a.fits.d a.fits.ss a.fits.ts a.fits.ds a.pre
+    let a = c in
+    takes-ask _ _ _ _ _ _ _ _ _ _ _ _ _ _ a.ranges.s a.ranges.t a.ranges.d a.ranges.ss a.ranges.ts a.ranges.ds a.requires
 
 same-length-2 : tie.Need-shape_of-dst
 same-length-2 c = search rules
 
 returns-2 : tie.Need-returns
 returns-2 c =
-    let o : tie.After-take_cells_by-2 = search in
-    let f : tie.Else-counts = search in
-    let a : tie.Start = search in
-    (cells-end (pos 0) (rule_i32 R.Replace) a.args.src.now a.args.starts.now a.args.offsets.now a.args.strides.now a.args.limits.now 2 _ _ _ _ _ _ a.args.n a.args.n a.args.dst.now _ a.fits.s a.fits.t a.fits.d a.fits.ss a.fits.ts a.fits.ds refl o.take-cells-by2.ensures.0, so-counted a.args.counts false _ _ _ f.if1.left (starts-end a.args.starts.now a.args.t a.args.ts a.args.n a.args.n _ a.fits.t a.fits.ts refl a.args.offsets.now a.args.limits.now 2 refl) o.take-cells-by2.ensures.1)
+    let o = c in
+    let f = c in
+    let a = c in
+    (cells-end (pos 0) (rule_i32 R.Replace) a.args.src.now a.args.starts.now a.args.offsets.now a.args.strides.now a.args.limits.now 2 _ _ _ _ _ _ a.args.n a.args.n a.args.dst.now _ a.ranges.s a.ranges.t a.ranges.d a.ranges.ss a.ranges.ts a.ranges.ds refl o.take_cells_by-2.ensures.0, so-counted a.args.counts false _ _ _ f.if-counts.false (starts-end a.args.starts.now a.args.t a.args.ts a.args.n a.args.n _ a.ranges.t a.ranges.ts refl a.args.offsets.now a.args.limits.now 2 refl) o.take_cells_by-2.ensures.1)
 
 pub take_pairs_spec : {M : Type 1} → statement M
 take_pairs_spec = tie.close (tie.spec take-cells-by-requires same_length returns take-cells-by-requires-2 same-length-2 returns-2)

@@ -12,37 +12,37 @@ use Rattle.indexed_runs.proofs.take_run.Statement.{statement}
 use Rattle.indexed_runs.proofs.take_run.Tie as tie
 
 returns : tie.Need-returns-then-n-eq0
-returns c = let a : tie.Start = search in (none _ a.args.n a.args.dst.now c.if-n-eq0.true, none-counts a.args.counts _ (many-none a.args.n _ c.if-n-eq0.true))
+returns c = let a = c in (none _ a.args.n a.args.dst.now c.if-n-eq0.true, none-counts a.args.counts _ (many-none a.args.n _ c.if-n-eq0.true))
 
 take-row-requires : tie.Need-take_row-requires
 take-row-requires c κs =
     let t = c in
-    let a : tie.Start = search in
-    row-asks _ _ _ a.fits.ts a.fits.stride a.fits.ds t.if-ts-eq1.true t.if-stride-eq1.true t.if-ds-eq1.true _ _ _ _ _ _ _ _ a.fits.t a.fits.base a.fits.d t.if-n-eq0.false a.pre
+    let a = c in
+    row-asks _ _ _ a.ranges.ts a.ranges.stride a.ranges.ds t.if-ts-eq1.true t.if-stride-eq1.true t.if-ds-eq1.true _ _ _ _ _ _ _ _ a.ranges.t a.ranges.base a.ranges.d t.if-n-eq0.false a.requires
 
 same_length : tie.Need-shape_of-dst-then-ds-eq1
 same_length c = search rules
 
 returns-2 : tie.Need-returns-then-ds-eq1
 returns-2 c =
-    let k : tie.After-take_row = search in
-    let t : tie.Then-ds-eq1 = search in
-    let a : tie.Start = search in
-    (take-row-end a.args.ts a.args.stride a.args.ds a.fits.ts a.fits.stride a.fits.ds t.before.before.if2.taken t.before.if3.taken t.if4.taken (pos 0) (rule_i32 R.Replace) a.args.src.now a.args.starts.now a.args.t a.args.base a.args.d a.args.limit a.args.n a.args.dst.now _ a.fits.t a.fits.base a.fits.d k.take_row.ensures.0, so-counted a.args.counts a.args.counts _ _ _ refl (row-count a.args.ts a.args.stride a.args.ds a.fits.ts a.fits.stride a.fits.ds t.before.before.if2.taken t.before.if3.taken t.if4.taken a.args.starts.now a.args.t a.args.limit a.args.n _ a.fits.t refl) k.take_row.ensures.1)
+    let k = c in
+    let t = c in
+    let a = c in
+    (take-row-end a.args.ts a.args.stride a.args.ds a.ranges.ts a.ranges.stride a.ranges.ds t.if-ts-eq1.true t.if-stride-eq1.true t.if-ds-eq1.true (pos 0) (rule_i32 R.Replace) a.args.src.now a.args.starts.now a.args.t a.args.base a.args.d a.args.limit a.args.n a.args.dst.now _ a.ranges.t a.ranges.base a.ranges.d k.take_row.ensures.0, so-counted a.args.counts a.args.counts _ _ _ refl (row-count a.args.ts a.args.stride a.args.ds a.ranges.ts a.ranges.stride a.ranges.ds t.if-ts-eq1.true t.if-stride-eq1.true t.if-ds-eq1.true a.args.starts.now a.args.t a.args.limit a.args.n _ a.ranges.t refl) k.take_row.ensures.1)
 
 take-strided-requires : tie.Need-take_strided-requires
 take-strided-requires c κs =
-    let a : tie.Start = search in
-    strided-asks _ _ _ _ _ _ _ _ _ _ _ a.fits.t a.fits.ts a.fits.base a.fits.stride a.fits.d a.fits.ds a.pre
+    let a = c in
+    strided-asks _ _ _ _ _ _ _ _ _ _ _ a.ranges.t a.ranges.ts a.ranges.base a.ranges.stride a.ranges.d a.ranges.ds a.requires
 
 same-length-2 : tie.Need-shape_of-dst
 same-length-2 c = search rules
 
 returns-3 : tie.Need-returns
 returns-3 c =
-    let t : tie.After-take_strided = search in
-    let a : tie.Start = search in
-    (take-end (pos 0) (rule_i32 R.Replace) a.args.src.now a.args.starts.now a.args.t a.args.ts a.args.base a.args.stride a.args.d a.args.ds a.args.limit a.args.n a.args.n a.args.dst.now t.take-strided.last.1.1.1.0 a.fits.t a.fits.ts a.fits.base a.fits.stride a.fits.d a.fits.ds refl t.take-strided.ensures.0, so-counted a.args.counts a.args.counts _ _ _ refl (moves-end a.args.starts.now a.args.t a.args.ts a.args.n a.args.n _ a.fits.t a.fits.ts refl a.args.limit refl) t.take-strided.ensures.1)
+    let t = c in
+    let a = c in
+    (take-end (pos 0) (rule_i32 R.Replace) a.args.src.now a.args.starts.now a.args.t a.args.ts a.args.base a.args.stride a.args.d a.args.ds a.args.limit a.args.n a.args.n a.args.dst.now t.take_strided.last.1.1.1.0 a.ranges.t a.ranges.ts a.ranges.base a.ranges.stride a.ranges.d a.ranges.ds refl t.take_strided.ensures.0, so-counted a.args.counts a.args.counts _ _ _ refl (moves-end a.args.starts.now a.args.t a.args.ts a.args.n a.args.n _ a.ranges.t a.ranges.ts refl a.args.limit refl) t.take_strided.ensures.1)
 
 pub take_run_spec : {M : Type 1} → statement M
 take_run_spec =

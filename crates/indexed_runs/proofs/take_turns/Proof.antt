@@ -43,71 +43,71 @@ module _ (d : tie.In-loop-left invariant-loop decreases-loop) where
 
 returns : tie.Need-returns-then-limit-lt0 invariant-loop decreases-loop
 returns c =
-    let a : tie.Start invariant-loop decreases-loop = search in
-    absurd (omega (arith, zfacts, a.pre.1.low, known a.fits.limit, only a.args.limit, c.if-limit-lt0.true))
+    let a = c in
+    absurd (omega (arith, zfacts, a.requires.1.low, known a.ranges.limit, only a.args.limit, c.if-limit-lt0.true))
 
 take-few-requires : tie.Need-take_few-slid-requires invariant-loop decreases-loop
 take-few-requires c κs =
-    let a : tie.Start invariant-loop decreases-loop = search in
-    (omega arith, omega (arith, a.pre.0), ones-left _ _ _ _ _ _ a.fits.limit a.pre.1 refl refl)
+    let a = c in
+    (omega arith, omega (arith, a.requires.0), ones-left _ _ _ _ _ _ a.ranges.limit a.requires.1 refl refl)
 
 loop-holds : tie.Need-loop-left-init invariant-loop decreases-loop
 loop-holds c =
-    let f : tie.After-take_few-slid invariant-loop decreases-loop = search in
-    let a : tie.Start invariant-loop decreases-loop = search in
-    (a.pre.0 ∙ sym a.pre.1.each, refl, (λ x e. e), many-first a.args.over (λ k. a.args.counts && moves_at a.args.starts.now pos (nat_abs (read a.args.limit)) k) _ f.take-few.ensures.1)
+    let f = c in
+    let a = c in
+    (a.requires.0 ∙ sym a.requires.1.each, refl, (λ x e. e), many-first a.args.over (λ k. a.args.counts && moves_at a.args.starts.now pos (nat_abs (read a.args.limit)) k) _ f.take_few-slid.ensures.1)
 
 add-e : tie.Need-overflow_add-e invariant-loop decreases-loop
 add-e c = omega (arith, fits c, (start c).well-formed.1.1.0.1)
 
 take-few-requires-2 : tie.Need-take_few-few-requires invariant-loop decreases-loop
 take-few-requires-2 c κs =
-    let d : tie.In-loop-left invariant-loop decreases-loop = search in
-    let h : tie.At-loop-left invariant-loop decreases-loop = search in
-    let f : tie.After-take_few-slid invariant-loop decreases-loop = search in
-    let k = h.loop.inv.1 ∙ f.take-few.kept.1.1.1.0 in
+    let d = c in
+    let h = c in
+    let f = c in
+    let k = h.loop-left.invariant.1 ∙ f.take_few-slid.kept.1.1.1.0 in
     (omega arith, omega (arith, fits d, (start d).pre.1.each, k), ones-left _ _ _ _ _ _ (start d).fits.limit (start d).pre.1 k refl)
 
 add-slid : tie.Need-overflow_add-slid invariant-loop decreases-loop
 add-slid c =
-    let p : tie.After-take_few-few invariant-loop decreases-loop = search in
-    let d : tie.In-loop-left invariant-loop decreases-loop = search in
-    let h : tie.At-loop-left invariant-loop decreases-loop = search in
-    omega (arith, few-below h.loop.i (h.loop.i + (start d).args.width) _ _ _ _ (omega arith) h.loop.inv.3 p.take-few2.ensures.1, fits d, (start d).good.1.1.0.1)
+    let p = c in
+    let d = c in
+    let h = c in
+    omega (arith, few-below h.loop-left.i (h.loop-left.i + (start d).args.width) _ _ _ _ (omega arith) h.loop-left.invariant.3 p.take_few-few.ensures.1, fits d, (start d).good.1.1.0.1)
 
 sub-left : tie.Need-overflow_sub-left invariant-loop decreases-loop
-sub-left c = let d : tie.In-loop-left invariant-loop decreases-loop = search in omega (arith, d.loop-test.taken)
+sub-left c = let d = c in omega (arith, d.loop-left-test.true)
 
 loop-less : tie.Need-loop-left-smaller invariant-loop decreases-loop
-loop-less c = let d : tie.In-loop-left invariant-loop decreases-loop = search in omega (arith, d.loop-test.taken)
+loop-less c = let d = c in omega (arith, d.loop-left-test.true)
 
 loop-again : tie.Need-loop-left-preserved invariant-loop decreases-loop
 loop-again c =
-    let p : tie.After-take_few-few invariant-loop decreases-loop = search in
-    let d : tie.In-loop-left invariant-loop decreases-loop = search in
-    let h : tie.At-loop-left invariant-loop decreases-loop = search in
+    let p = c in
+    let d = c in
+    let h = c in
     let a = start d in (
       turn d,
-      p.take-few2.kept.1.1.1.0 ∙ h.loop.inv.1,
-      λ x e. turns-on (cell_at (pos 0) (rule_i32 R.Replace) a.args.src.now (one_at a.args.starts.now (read a.args.limit)) pos) h.loop.i (h.loop.i + a.args.width) x h.loop.dst _ (omega arith) (h.loop.inv.2 x e) p.take-few2.ensures.0,
-      many-on h.loop.i (h.loop.i + a.args.width) (λ k. a.args.counts && moves_at a.args.starts.now pos (nat_abs (read a.args.limit)) k) _ _ (omega arith) h.loop.inv.3 p.take-few2.ensures.1,
+      p.take_few-few.kept.1.1.1.0 ∙ h.loop-left.invariant.1,
+      λ x e. turns-on (cell_at (pos 0) (rule_i32 R.Replace) a.args.src.now (one_at a.args.starts.now (read a.args.limit)) pos) h.loop-left.i (h.loop-left.i + a.args.width) x h.loop-left.dst _ (omega arith) (h.loop-left.invariant.2 x e) p.take_few-few.ensures.0,
+      many-on h.loop-left.i (h.loop-left.i + a.args.width) (λ k. a.args.counts && moves_at a.args.starts.now pos (nat_abs (read a.args.limit)) k) _ _ (omega arith) h.loop-left.invariant.3 p.take_few-few.ensures.1,
     )
 
 same_length : tie.Need-shape_of-dst invariant-loop decreases-loop
 same_length c =
-    let f : tie.After-take_few-slid invariant-loop decreases-loop = search in
-    c.loop-left.invariant.1 ∙ f.take-few.kept.1.1.1.0
+    let f = c in
+    c.loop-left.invariant.1 ∙ f.take_few-slid.kept.1.1.1.0
 
 returns-2 : tie.Need-returns invariant-loop decreases-loop
 returns-2 c =
-    let f : tie.After-take_few-slid invariant-loop decreases-loop = search in
+    let f = c in
     let h = c in
-    let a : tie.Start invariant-loop decreases-loop = search in (
-      take-ones-end (pos 0) (rule_i32 R.Replace) a.args.src.now a.args.starts.now a.args.limit h.loop-left.i _ a.args.dst.now h.loop-left.dst a.fits.limit (none_left h.loop-left.i a.args.width h.loop-left.left _ (h.loop-left.invariant.0 ∙ a.pre.1.each) (omega (arith, c.loop-left-test.false)))
-          (h.loop-left.invariant.2 a.args.dst.now (turns-on (cell_at (pos 0) (rule_i32 R.Replace) a.args.src.now (one_at a.args.starts.now (read a.args.limit)) pos) 0 _ a.args.dst.now a.args.dst.now _ (omega arith) (none _ 0 a.args.dst.now refl) f.take-few.ensures.0)),
+    let a = c in (
+      take-ones-end (pos 0) (rule_i32 R.Replace) a.args.src.now a.args.starts.now a.args.limit h.loop-left.i _ a.args.dst.now h.loop-left.dst a.ranges.limit (none_left h.loop-left.i a.args.width h.loop-left.false _ (h.loop-left.invariant.0 ∙ a.requires.1.each) (omega (arith, c.loop-left-test.false)))
+          (h.loop-left.invariant.2 a.args.dst.now (turns-on (cell_at (pos 0) (rule_i32 R.Replace) a.args.src.now (one_at a.args.starts.now (read a.args.limit)) pos) 0 _ a.args.dst.now a.args.dst.now _ (omega arith) (none _ 0 a.args.dst.now refl) f.take_few-slid.ensures.0)),
       h.loop-left.invariant.3
           ∙ all-or-none a.args.counts h.loop-left.i (moves_at a.args.starts.now pos (nat_abs (read a.args.limit)))
-          ∙ ap (λ (m : ℕ). cond a.args.counts m 0) (ones-count a.args.starts.now a.args.limit h.loop-left.i _ _ a.fits.limit (none_left h.loop-left.i a.args.width h.loop-left.left _ (h.loop-left.invariant.0 ∙ a.pre.1.each) (omega (arith, c.loop-left-test.false))) refl),
+          ∙ ap (λ (m : ℕ). cond a.args.counts m 0) (ones-count a.args.starts.now a.args.limit h.loop-left.i _ _ a.ranges.limit (none_left h.loop-left.i a.args.width h.loop-left.false _ (h.loop-left.invariant.0 ∙ a.requires.1.each) (omega (arith, c.loop-left-test.false))) refl),
     )
 
 pub take_turns_spec : {M : Type 1} → statement M

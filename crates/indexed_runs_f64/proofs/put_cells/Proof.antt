@@ -14,115 +14,115 @@ use Rattle.indexed_runs_f64.proofs.put_cells.Tie as tie
 
 put-pairs-requires : tie.Need-put_pairs-requires
 put-pairs-requires c κs =
-    let t : tie.Then-count-eq2 = search in
-    let a : tie.Start = search in
-    puts-ask _ _ _ _ _ _ _ _ _ _ _ _ _ a.fits.s a.fits.t a.fits.d a.fits.ss a.fits.ts (subst (λ (m : ℕ). Putting a.args.starts.now a.args.offsets.now a.args.strides.now a.args.limits.now m a.args.s a.args.t a.args.d a.args.ss a.args.ts a.args.n (length a.args.src.now) (length a.args.dst.now)) t.if1.taken a.pre.1)
+    let t = c in
+    let a = c in
+    puts-ask _ _ _ _ _ _ _ _ _ _ _ _ _ a.ranges.s a.ranges.t a.ranges.d a.ranges.ss a.ranges.ts (subst (λ (m : ℕ). Putting a.args.starts.now a.args.offsets.now a.args.strides.now a.args.limits.now m a.args.s a.args.t a.args.d a.args.ss a.args.ts a.args.n (length a.args.src.now) (length a.args.dst.now)) t.if-count-eq2.true a.requires.1)
 
 same_length : tie.Need-shape_of-dst-then-count-eq2
 same_length c = search rules
 
 returns : tie.Need-returns-then-count-eq2
 returns c =
-    let o : tie.After-put_pairs = search in
-    let t : tie.Then-count-eq2 = search in
-    let a : tie.Start = search in
-    rw t.if1.taken
-    (puts-end nan (rule_f64 a.args.rule) a.args.src.now a.args.starts.now a.args.offsets.now a.args.strides.now a.args.limits.now 2 _ _ _ _ _ a.args.n a.args.n a.args.dst.now _ a.fits.s a.fits.t a.fits.d a.fits.ss a.fits.ts refl o.put-pairs.ensures.0, starts-end a.args.starts.now a.args.t a.args.ts a.args.n a.args.n _ a.fits.t a.fits.ts refl a.args.offsets.now a.args.limits.now 2 o.put-pairs.ensures.1)
+    let o = c in
+    let t = c in
+    let a = c in
+    rw t.if-count-eq2.true
+    (puts-end nan (rule_f64 a.args.rule) a.args.src.now a.args.starts.now a.args.offsets.now a.args.strides.now a.args.limits.now 2 _ _ _ _ _ a.args.n a.args.n a.args.dst.now _ a.ranges.s a.ranges.t a.ranges.d a.ranges.ss a.ranges.ts refl o.put_pairs.ensures.0, starts-end a.args.starts.now a.args.t a.args.ts a.args.n a.args.n _ a.ranges.t a.ranges.ts refl a.args.offsets.now a.args.limits.now 2 o.put_pairs.ensures.1)
 
 enum_told : tie.Need-enum_told-1
 enum_told c = search rules
 
 put-cells-by-requires : tie.Need-put_cells_by-requires
 put-cells-by-requires c κs =
-    let a : tie.Start = search in
-    (a.pre.0, puts-ask _ _ _ _ _ _ _ _ _ _ _ _ _ a.fits.s a.fits.t a.fits.d a.fits.ss a.fits.ts a.pre.1)
+    let a = c in
+    (a.requires.0, puts-ask _ _ _ _ _ _ _ _ _ _ _ _ _ a.ranges.s a.ranges.t a.ranges.d a.ranges.ss a.ranges.ts a.requires.1)
 
 enum-told-2 : tie.Need-enum_told-in-Lowest
 enum-told-2 c = search rules
 
 put-cells-by-requires-2 : tie.Need-put_cells_by-requires-in-Lowest
 put-cells-by-requires-2 c κs =
-    let a : tie.Start = search in
-    (a.pre.0, puts-ask _ _ _ _ _ _ _ _ _ _ _ _ _ a.fits.s a.fits.t a.fits.d a.fits.ss a.fits.ts a.pre.1)
+    let a = c in
+    (a.requires.0, puts-ask _ _ _ _ _ _ _ _ _ _ _ _ _ a.ranges.s a.ranges.t a.ranges.d a.ranges.ss a.ranges.ts a.requires.1)
 
 enum-told-3 : tie.Need-enum_told-in-Highest
 enum-told-3 c = search rules
 
 put-cells-by-requires-3 : tie.Need-put_cells_by-requires-in-Highest
 put-cells-by-requires-3 c κs =
-    let a : tie.Start = search in
-    (a.pre.0, puts-ask _ _ _ _ _ _ _ _ _ _ _ _ _ a.fits.s a.fits.t a.fits.d a.fits.ss a.fits.ts a.pre.1)
+    let a = c in
+    (a.requires.0, puts-ask _ _ _ _ _ _ _ _ _ _ _ _ _ a.ranges.s a.ranges.t a.ranges.d a.ranges.ss a.ranges.ts a.requires.1)
 
 enum-told-4 : tie.Need-enum_told-in-Replace
 enum-told-4 c = search rules
 
 put-cells-by-requires-4 : tie.Need-put_cells_by-requires-in-Replace
 put-cells-by-requires-4 c κs =
-    let a : tie.Start = search in
-    (a.pre.0, puts-ask _ _ _ _ _ _ _ _ _ _ _ _ _ a.fits.s a.fits.t a.fits.d a.fits.ss a.fits.ts a.pre.1)
+    let a = c in
+    (a.requires.0, puts-ask _ _ _ _ _ _ _ _ _ _ _ _ _ a.ranges.s a.ranges.t a.ranges.d a.ranges.ss a.ranges.ts a.requires.1)
 
 enum-known-rule : tie.Need-enum_known-rule
 enum-known-rule c = search rules
 
 put-cells-by-requires-5 : tie.Need-put_cells_by-requires-in-Ceiling
 put-cells-by-requires-5 c κs =
-    let a : tie.Start = search in
-    (a.pre.0, puts-ask _ _ _ _ _ _ _ _ _ _ _ _ _ a.fits.s a.fits.t a.fits.d a.fits.ss a.fits.ts a.pre.1)
+    let a = c in
+    (a.requires.0, puts-ask _ _ _ _ _ _ _ _ _ _ _ _ _ a.ranges.s a.ranges.t a.ranges.d a.ranges.ss a.ranges.ts a.requires.1)
 
 same-length-2 : tie.Need-shape_of-dst-in-Add
 same-length-2 c = search rules
 
 returns-2 : tie.Need-returns-in-Add
 returns-2 c =
-    let e : tie.In-Add = search in
-    let o : tie.After-put_cells_by = search in
-    let a : tie.Start = search in
-    rw e.enum_told.given.1
-    (puts-end nan (rule_f64 R.Add) a.args.src.now a.args.starts.now a.args.offsets.now a.args.strides.now a.args.limits.now a.args.count _ _ _ _ _ a.args.n a.args.n a.args.dst.now _ a.fits.s a.fits.t a.fits.d a.fits.ss a.fits.ts refl o.put-cells-by.ensures.0, starts-end a.args.starts.now a.args.t a.args.ts a.args.n a.args.n _ a.fits.t a.fits.ts refl a.args.offsets.now a.args.limits.now a.args.count o.put-cells-by.ensures.1)
+    let e = c in
+    let o = c in
+    let a = c in
+    rw e.in-Add.is
+    (puts-end nan (rule_f64 R.Add) a.args.src.now a.args.starts.now a.args.offsets.now a.args.strides.now a.args.limits.now a.args.count _ _ _ _ _ a.args.n a.args.n a.args.dst.now _ a.ranges.s a.ranges.t a.ranges.d a.ranges.ss a.ranges.ts refl o.put_cells_by.ensures.0, starts-end a.args.starts.now a.args.t a.args.ts a.args.n a.args.n _ a.ranges.t a.ranges.ts refl a.args.offsets.now a.args.limits.now a.args.count o.put_cells_by.ensures.1)
 
 same-length-3 : tie.Need-shape_of-dst-in-Lowest
 same-length-3 c = search rules
 
 returns-3 : tie.Need-returns-in-Lowest
 returns-3 c =
-    let e : tie.In-Lowest = search in
-    let o : tie.After-put_cells_by-in-Lowest = search in
-    let a : tie.Start = search in
-    rw e.enum-told2.given.1
-    (puts-end nan (rule_f64 R.Lowest) a.args.src.now a.args.starts.now a.args.offsets.now a.args.strides.now a.args.limits.now a.args.count _ _ _ _ _ a.args.n a.args.n a.args.dst.now _ a.fits.s a.fits.t a.fits.d a.fits.ss a.fits.ts refl o.put-cells-by2.ensures.0, starts-end a.args.starts.now a.args.t a.args.ts a.args.n a.args.n _ a.fits.t a.fits.ts refl a.args.offsets.now a.args.limits.now a.args.count o.put-cells-by2.ensures.1)
+    let e = c in
+    let o = c in
+    let a = c in
+    rw e.in-Lowest.is
+    (puts-end nan (rule_f64 R.Lowest) a.args.src.now a.args.starts.now a.args.offsets.now a.args.strides.now a.args.limits.now a.args.count _ _ _ _ _ a.args.n a.args.n a.args.dst.now _ a.ranges.s a.ranges.t a.ranges.d a.ranges.ss a.ranges.ts refl o.put_cells_by-in-Lowest.ensures.0, starts-end a.args.starts.now a.args.t a.args.ts a.args.n a.args.n _ a.ranges.t a.ranges.ts refl a.args.offsets.now a.args.limits.now a.args.count o.put_cells_by-in-Lowest.ensures.1)
 
 same-length-4 : tie.Need-shape_of-dst-in-Highest
 same-length-4 c = search rules
 
 returns-4 : tie.Need-returns-in-Highest
 returns-4 c =
-    let e : tie.In-Highest = search in
-    let o : tie.After-put_cells_by-in-Highest = search in
-    let a : tie.Start = search in
-    rw e.enum-told3.given.1
-    (puts-end nan (rule_f64 R.Highest) a.args.src.now a.args.starts.now a.args.offsets.now a.args.strides.now a.args.limits.now a.args.count _ _ _ _ _ a.args.n a.args.n a.args.dst.now _ a.fits.s a.fits.t a.fits.d a.fits.ss a.fits.ts refl o.put-cells-by3.ensures.0, starts-end a.args.starts.now a.args.t a.args.ts a.args.n a.args.n _ a.fits.t a.fits.ts refl a.args.offsets.now a.args.limits.now a.args.count o.put-cells-by3.ensures.1)
+    let e = c in
+    let o = c in
+    let a = c in
+    rw e.in-Highest.is
+    (puts-end nan (rule_f64 R.Highest) a.args.src.now a.args.starts.now a.args.offsets.now a.args.strides.now a.args.limits.now a.args.count _ _ _ _ _ a.args.n a.args.n a.args.dst.now _ a.ranges.s a.ranges.t a.ranges.d a.ranges.ss a.ranges.ts refl o.put_cells_by-in-Highest.ensures.0, starts-end a.args.starts.now a.args.t a.args.ts a.args.n a.args.n _ a.ranges.t a.ranges.ts refl a.args.offsets.now a.args.limits.now a.args.count o.put_cells_by-in-Highest.ensures.1)
 
 same-length-5 : tie.Need-shape_of-dst-in-Replace
 same-length-5 c = search rules
 
 returns-5 : tie.Need-returns-in-Replace
 returns-5 c =
-    let e : tie.In-Replace = search in
-    let o : tie.After-put_cells_by-in-Replace = search in
-    let a : tie.Start = search in
-    rw e.enum-told4.given.1
-    (puts-end nan (rule_f64 R.Replace) a.args.src.now a.args.starts.now a.args.offsets.now a.args.strides.now a.args.limits.now a.args.count _ _ _ _ _ a.args.n a.args.n a.args.dst.now _ a.fits.s a.fits.t a.fits.d a.fits.ss a.fits.ts refl o.put-cells-by4.ensures.0, starts-end a.args.starts.now a.args.t a.args.ts a.args.n a.args.n _ a.fits.t a.fits.ts refl a.args.offsets.now a.args.limits.now a.args.count o.put-cells-by4.ensures.1)
+    let e = c in
+    let o = c in
+    let a = c in
+    rw e.in-Replace.is
+    (puts-end nan (rule_f64 R.Replace) a.args.src.now a.args.starts.now a.args.offsets.now a.args.strides.now a.args.limits.now a.args.count _ _ _ _ _ a.args.n a.args.n a.args.dst.now _ a.ranges.s a.ranges.t a.ranges.d a.ranges.ss a.ranges.ts refl o.put_cells_by-in-Replace.ensures.0, starts-end a.args.starts.now a.args.t a.args.ts a.args.n a.args.n _ a.ranges.t a.ranges.ts refl a.args.offsets.now a.args.limits.now a.args.count o.put_cells_by-in-Replace.ensures.1)
 
 same-length-6 : tie.Need-shape_of-dst-in-Ceiling
 same-length-6 c = search rules
 
 returns-6 : tie.Need-returns-in-Ceiling
 returns-6 c =
-    let e : tie.In-Ceiling-2 = search in
-    let o : tie.After-put_cells_by-in-Ceiling = search in
-    let a : tie.Start = search in
-    rw e.rule.given.1
-    (puts-end nan (rule_f64 (R.Ceiling e.rule.given.0.0)) a.args.src.now a.args.starts.now a.args.offsets.now a.args.strides.now a.args.limits.now a.args.count _ _ _ _ _ a.args.n a.args.n a.args.dst.now _ a.fits.s a.fits.t a.fits.d a.fits.ss a.fits.ts refl o.put-cells-by5.ensures.0, starts-end a.args.starts.now a.args.t a.args.ts a.args.n a.args.n _ a.fits.t a.fits.ts refl a.args.offsets.now a.args.limits.now a.args.count o.put-cells-by5.ensures.1)
+    let e = c in
+    let o = c in
+    let a = c in
+    rw e.in-Ceiling.is
+    (puts-end nan (rule_f64 (R.Ceiling e.in-Ceiling.ceiling)) a.args.src.now a.args.starts.now a.args.offsets.now a.args.strides.now a.args.limits.now a.args.count _ _ _ _ _ a.args.n a.args.n a.args.dst.now _ a.ranges.s a.ranges.t a.ranges.d a.ranges.ss a.ranges.ts refl o.put_cells_by-in-Ceiling.ensures.0, starts-end a.args.starts.now a.args.t a.args.ts a.args.n a.args.n _ a.ranges.t a.ranges.ts refl a.args.offsets.now a.args.limits.now a.args.count o.put_cells_by-in-Ceiling.ensures.1)
 
 pub put_cells_spec : {M : Type 1} → statement M
 put_cells_spec =

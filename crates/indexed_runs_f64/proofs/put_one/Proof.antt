@@ -35,16 +35,16 @@ clamped-requires c κs = search rules
 
 cast-b : tie.Need-overflow_cast-b
 cast-b c =
-    let l : tie.After-clamped-y = search in
+    let l = c in
     (place l).cast
 
 mul-apply-f64 : tie.Need-offset_bounds-dst-b
 mul-apply-f64 c =
-    let l : tie.After-clamped-y = search in
+    let l = c in
     omega (arith, (place l).below, (at-start l).good.1.1.1.0.1)
 
 slice-read-apply-f64 : tie.Need-bounds-dst-b
-slice-read-apply-f64 c = let l : tie.After-clamped-y = search in (place l).below
+slice-read-apply-f64 c = let l = c in (place l).below
 
 mul-apply-f64-2 : tie.Need-offset_bounds-src-i
 mul-apply-f64-2 c = search rules
@@ -54,12 +54,12 @@ shared-slice-read-apply-f64 c = search rules
 
 mul-dst : tie.Need-offset_bounds-dst-b-2
 mul-dst c =
-    let l : tie.After-clamped-y = search in
+    let l = c in
     omega (arith, (place l).below, (at-start l).good.1.1.1.0.1)
 
 slice-write-dst : tie.Need-bounds-dst-b-2
 slice-write-dst c =
-    let l : tie.After-clamped-y = search in
+    let l = c in
     (place l).below
 
 same_length : tie.Need-shape_of-dst
@@ -67,13 +67,13 @@ same_length c = search rules
 
 returns : tie.Need-returns
 returns c =
-    let w : tie.After-apply_f64-v = search in
-    let q : tie.After-clamped-y = search in
+    let w = c in
+    let q = c in
     let a = at-start q in
-    let m = nat_abs (read q.clamped.result.at) in (
+    let m = nat_abs (read q.clamped-y.result.at) in (
       one-turn nan (rule_f64 a.args.rule) a.args.src.now pos (one_at a.args.starts.now a.args.limit) a.args.dst.now a.args.i a.args.i m _ refl (by-start q)
-          w.apply-f64.ensures,
-      c.count_if.ensures ∙ ap (λ (b : Bool). cond b 1 0) (ones-moved a.args.starts.now a.args.limit a.args.i a.fits.limit (sfits_of q.before.x.given) _ q.clamped.ensures.1),
+          w.apply_f64-v.ensures,
+      c.count_if.ensures ∙ ap (λ (b : Bool). cond b 1 0) (ones-moved a.args.starts.now a.args.limit a.args.i a.fits.limit (sfits_of q.x-1.given) _ q.clamped-y.ensures.1),
     )
 
 pub put_one_spec : {M : Type 1} → statement M

@@ -14,86 +14,86 @@ enum_told : tie.Need-enum_told-1
 enum_told c = search rules
 
 put-strided-by-requires : tie.Need-put_strided_by-requires
-put-strided-by-requires c κs = let a : tie.Start = search in strided-asks _ _ _ _ _ _ _ _ _ _ _ a.fits.t a.fits.ts a.fits.base a.fits.stride a.fits.s a.fits.ss a.pre
+put-strided-by-requires c κs = let a = c in strided-asks _ _ _ _ _ _ _ _ _ _ _ a.ranges.t a.ranges.ts a.ranges.base a.ranges.stride a.ranges.s a.ranges.ss a.requires
 
 enum-told-2 : tie.Need-enum_told-in-Lowest
 enum-told-2 c = search rules
 
 put-strided-by-requires-2 : tie.Need-put_strided_by-requires-in-Lowest
-put-strided-by-requires-2 c κs = let a : tie.Start = search in strided-asks _ _ _ _ _ _ _ _ _ _ _ a.fits.t a.fits.ts a.fits.base a.fits.stride a.fits.s a.fits.ss a.pre
+put-strided-by-requires-2 c κs = let a = c in strided-asks _ _ _ _ _ _ _ _ _ _ _ a.ranges.t a.ranges.ts a.ranges.base a.ranges.stride a.ranges.s a.ranges.ss a.requires
 
 enum-told-3 : tie.Need-enum_told-in-Highest
 enum-told-3 c = search rules
 
 put-strided-by-requires-3 : tie.Need-put_strided_by-requires-in-Highest
-put-strided-by-requires-3 c κs = let a : tie.Start = search in strided-asks _ _ _ _ _ _ _ _ _ _ _ a.fits.t a.fits.ts a.fits.base a.fits.stride a.fits.s a.fits.ss a.pre
+put-strided-by-requires-3 c κs = let a = c in strided-asks _ _ _ _ _ _ _ _ _ _ _ a.ranges.t a.ranges.ts a.ranges.base a.ranges.stride a.ranges.s a.ranges.ss a.requires
 
 enum-told-4 : tie.Need-enum_told-in-Replace
 enum-told-4 c = search rules
 
 put-strided-by-requires-4 : tie.Need-put_strided_by-requires-in-Replace
-put-strided-by-requires-4 c κs = let a : tie.Start = search in strided-asks _ _ _ _ _ _ _ _ _ _ _ a.fits.t a.fits.ts a.fits.base a.fits.stride a.fits.s a.fits.ss a.pre
+put-strided-by-requires-4 c κs = let a = c in strided-asks _ _ _ _ _ _ _ _ _ _ _ a.ranges.t a.ranges.ts a.ranges.base a.ranges.stride a.ranges.s a.ranges.ss a.requires
 
 enum-known-rule : tie.Need-enum_known-rule
 enum-known-rule c = search rules
 
 put-strided-by-requires-5 : tie.Need-put_strided_by-requires-in-Ceiling
-put-strided-by-requires-5 c κs = let a : tie.Start = search in strided-asks _ _ _ _ _ _ _ _ _ _ _ a.fits.t a.fits.ts a.fits.base a.fits.stride a.fits.s a.fits.ss a.pre
+put-strided-by-requires-5 c κs = let a = c in strided-asks _ _ _ _ _ _ _ _ _ _ _ a.ranges.t a.ranges.ts a.ranges.base a.ranges.stride a.ranges.s a.ranges.ss a.requires
 
 same_length : tie.Need-shape_of-dst-in-Add
 same_length c = search rules
 
 returns : tie.Need-returns-in-Add
 returns c =
-    let e : tie.In-Add = search in
-    let o : tie.After-put_strided_by = search in
-    let a : tie.Start = search in
-    rw e.enum_told.given.1
-    (put-end nan (rule_f64 R.Add) a.args.src.now a.args.starts.now a.args.t a.args.ts a.args.base a.args.stride a.args.s a.args.ss a.args.limit a.args.n a.args.n a.args.dst.now _ a.fits.t a.fits.ts a.fits.base a.fits.stride a.fits.s a.fits.ss refl o.put-strided-by.ensures.0, moves-end a.args.starts.now a.args.t a.args.ts a.args.n a.args.n _ a.fits.t a.fits.ts refl a.args.limit o.put-strided-by.ensures.1)
+    let e = c in
+    let o = c in
+    let a = c in
+    rw e.in-Add.is
+    (put-end nan (rule_f64 R.Add) a.args.src.now a.args.starts.now a.args.t a.args.ts a.args.base a.args.stride a.args.s a.args.ss a.args.limit a.args.n a.args.n a.args.dst.now _ a.ranges.t a.ranges.ts a.ranges.base a.ranges.stride a.ranges.s a.ranges.ss refl o.put_strided_by.ensures.0, moves-end a.args.starts.now a.args.t a.args.ts a.args.n a.args.n _ a.ranges.t a.ranges.ts refl a.args.limit o.put_strided_by.ensures.1)
 
 same-length-2 : tie.Need-shape_of-dst-in-Lowest
 same-length-2 c = search rules
 
 returns-2 : tie.Need-returns-in-Lowest
 returns-2 c =
-    let e : tie.In-Lowest = search in
-    let o : tie.After-put_strided_by-in-Lowest = search in
-    let a : tie.Start = search in
-    rw e.enum-told2.given.1
-    (put-end nan (rule_f64 R.Lowest) a.args.src.now a.args.starts.now a.args.t a.args.ts a.args.base a.args.stride a.args.s a.args.ss a.args.limit a.args.n a.args.n a.args.dst.now _ a.fits.t a.fits.ts a.fits.base a.fits.stride a.fits.s a.fits.ss refl o.put-strided-by2.ensures.0, moves-end a.args.starts.now a.args.t a.args.ts a.args.n a.args.n _ a.fits.t a.fits.ts refl a.args.limit o.put-strided-by2.ensures.1)
+    let e = c in
+    let o = c in
+    let a = c in
+    rw e.in-Lowest.is
+    (put-end nan (rule_f64 R.Lowest) a.args.src.now a.args.starts.now a.args.t a.args.ts a.args.base a.args.stride a.args.s a.args.ss a.args.limit a.args.n a.args.n a.args.dst.now _ a.ranges.t a.ranges.ts a.ranges.base a.ranges.stride a.ranges.s a.ranges.ss refl o.put_strided_by-in-Lowest.ensures.0, moves-end a.args.starts.now a.args.t a.args.ts a.args.n a.args.n _ a.ranges.t a.ranges.ts refl a.args.limit o.put_strided_by-in-Lowest.ensures.1)
 
 same-length-3 : tie.Need-shape_of-dst-in-Highest
 same-length-3 c = search rules
 
 returns-3 : tie.Need-returns-in-Highest
 returns-3 c =
-    let e : tie.In-Highest = search in
-    let o : tie.After-put_strided_by-in-Highest = search in
-    let a : tie.Start = search in
-    rw e.enum-told3.given.1
-    (put-end nan (rule_f64 R.Highest) a.args.src.now a.args.starts.now a.args.t a.args.ts a.args.base a.args.stride a.args.s a.args.ss a.args.limit a.args.n a.args.n a.args.dst.now _ a.fits.t a.fits.ts a.fits.base a.fits.stride a.fits.s a.fits.ss refl o.put-strided-by3.ensures.0, moves-end a.args.starts.now a.args.t a.args.ts a.args.n a.args.n _ a.fits.t a.fits.ts refl a.args.limit o.put-strided-by3.ensures.1)
+    let e = c in
+    let o = c in
+    let a = c in
+    rw e.in-Highest.is
+    (put-end nan (rule_f64 R.Highest) a.args.src.now a.args.starts.now a.args.t a.args.ts a.args.base a.args.stride a.args.s a.args.ss a.args.limit a.args.n a.args.n a.args.dst.now _ a.ranges.t a.ranges.ts a.ranges.base a.ranges.stride a.ranges.s a.ranges.ss refl o.put_strided_by-in-Highest.ensures.0, moves-end a.args.starts.now a.args.t a.args.ts a.args.n a.args.n _ a.ranges.t a.ranges.ts refl a.args.limit o.put_strided_by-in-Highest.ensures.1)
 
 same-length-4 : tie.Need-shape_of-dst-in-Replace
 same-length-4 c = search rules
 
 returns-4 : tie.Need-returns-in-Replace
 returns-4 c =
-    let e : tie.In-Replace = search in
-    let o : tie.After-put_strided_by-in-Replace = search in
-    let a : tie.Start = search in
-    rw e.enum-told4.given.1
-    (put-end nan (rule_f64 R.Replace) a.args.src.now a.args.starts.now a.args.t a.args.ts a.args.base a.args.stride a.args.s a.args.ss a.args.limit a.args.n a.args.n a.args.dst.now _ a.fits.t a.fits.ts a.fits.base a.fits.stride a.fits.s a.fits.ss refl o.put-strided-by4.ensures.0, moves-end a.args.starts.now a.args.t a.args.ts a.args.n a.args.n _ a.fits.t a.fits.ts refl a.args.limit o.put-strided-by4.ensures.1)
+    let e = c in
+    let o = c in
+    let a = c in
+    rw e.in-Replace.is
+    (put-end nan (rule_f64 R.Replace) a.args.src.now a.args.starts.now a.args.t a.args.ts a.args.base a.args.stride a.args.s a.args.ss a.args.limit a.args.n a.args.n a.args.dst.now _ a.ranges.t a.ranges.ts a.ranges.base a.ranges.stride a.ranges.s a.ranges.ss refl o.put_strided_by-in-Replace.ensures.0, moves-end a.args.starts.now a.args.t a.args.ts a.args.n a.args.n _ a.ranges.t a.ranges.ts refl a.args.limit o.put_strided_by-in-Replace.ensures.1)
 
 same-length-5 : tie.Need-shape_of-dst-in-Ceiling
 same-length-5 c = search rules
 
 returns-5 : tie.Need-returns-in-Ceiling
 returns-5 c =
-    let e : tie.In-Ceiling-2 = search in
-    let o : tie.After-put_strided_by-in-Ceiling = search in
-    let a : tie.Start = search in
-    rw e.rule.given.1
-    (put-end nan (rule_f64 (R.Ceiling e.rule.given.0.0)) a.args.src.now a.args.starts.now a.args.t a.args.ts a.args.base a.args.stride a.args.s a.args.ss a.args.limit a.args.n a.args.n a.args.dst.now _ a.fits.t a.fits.ts a.fits.base a.fits.stride a.fits.s a.fits.ss refl o.put-strided-by5.ensures.0, moves-end a.args.starts.now a.args.t a.args.ts a.args.n a.args.n _ a.fits.t a.fits.ts refl a.args.limit o.put-strided-by5.ensures.1)
+    let e = c in
+    let o = c in
+    let a = c in
+    rw e.in-Ceiling.is
+    (put-end nan (rule_f64 (R.Ceiling e.in-Ceiling.ceiling)) a.args.src.now a.args.starts.now a.args.t a.args.ts a.args.base a.args.stride a.args.s a.args.ss a.args.limit a.args.n a.args.n a.args.dst.now _ a.ranges.t a.ranges.ts a.ranges.base a.ranges.stride a.ranges.s a.ranges.ss refl o.put_strided_by-in-Ceiling.ensures.0, moves-end a.args.starts.now a.args.t a.args.ts a.args.n a.args.n _ a.ranges.t a.ranges.ts refl a.args.limit o.put_strided_by-in-Ceiling.ensures.1)
 
 pub put_strided_spec : {M : Type 1} → statement M
 put_strided_spec =

@@ -52,85 +52,85 @@ read-at c = let a = start c.before in place-index _ _ _ _ _ _ _ _ _ _ _ _ _ _ a.
 
 loop-holds : tie.Need-loop-i-init invariant-loop decreases-loop
 loop-holds c =
-    let a : tie.Start invariant-loop decreases-loop = search in
+    let a = c in
     (omega arith, refl, none _ 0 a.args.dst.now refl, many-none 0 _ refl)
 
 cast-k : tie.Need-overflow_cast-k invariant-loop decreases-loop
 cast-k c =
-    let d : tie.In-loop-i invariant-loop decreases-loop = search in
+    let d = c in
     (from d).count
 
 mul-p : tie.Need-overflow_mul-p invariant-loop decreases-loop
 mul-p c =
-    let d : tie.In-loop-i invariant-loop decreases-loop = search in
+    let d = c in
     (from d).multiple
 
 add-p : tie.Need-overflow_add-p invariant-loop decreases-loop
 add-p c =
-    let d : tie.In-loop-i invariant-loop decreases-loop = search in
+    let d = c in
     (from d).fits
 
 mul-q : tie.Need-overflow_mul-q invariant-loop decreases-loop
 mul-q c =
-    let d : tie.In-loop-i invariant-loop decreases-loop = search in
+    let d = c in
     (index d).multiple
 
 add-q : tie.Need-overflow_add-q invariant-loop decreases-loop
 add-q c =
-    let d : tie.In-loop-i invariant-loop decreases-loop = search in
+    let d = c in
     (index d).fits
 
 started-requires : tie.Need-started-m-requires invariant-loop decreases-loop
 started-requires c κs =
-    let d : tie.In-loop-i invariant-loop decreases-loop = search in
+    let d = c in
     let a = start d in started-asks _ _ _ _ _ _ _ _ _ _ _ _ _ _ a.pre _ c.loop-i-test.true (from d) (index d) (src-room a)
 
 cast-a : tie.Need-overflow_cast-a invariant-loop decreases-loop
 cast-a c =
-    let s : tie.After-started-m invariant-loop decreases-loop = search in
-    (read-at s).cast
+    let s = c in
+    (read-at s.before).cast
 
 mul-b : tie.Need-overflow_mul-b invariant-loop decreases-loop
 mul-b c =
-    let d : tie.In-loop-i invariant-loop decreases-loop = search in
+    let d = c in
     (to d).multiple
 
 add-b : tie.Need-overflow_add-b invariant-loop decreases-loop
 add-b c =
-    let d : tie.In-loop-i invariant-loop decreases-loop = search in
+    let d = c in
     (to d).fits
 
 cast-b : tie.Need-overflow_cast-b invariant-loop decreases-loop
 cast-b c =
-    let d : tie.In-loop-i invariant-loop decreases-loop = search in
+    let d = c in
     (to d).cast
 
 mul-dst : tie.Need-offset_bounds-src-a invariant-loop decreases-loop
 mul-dst c =
-    let d : tie.In-loop-i invariant-loop decreases-loop = search in
-    let s : tie.After-started-m invariant-loop decreases-loop = search in
-    omega (arith, (read-at s).below, (start d).good.1.0.1)
+    let d = c in
+    let s = c in
+    omega (arith, (read-at s.before).below, (start d).good.1.0.1)
 
 shared-slice-read-dst : tie.Need-bounds-src-a invariant-loop decreases-loop
-shared-slice-read-dst c = let s : tie.After-started-m invariant-loop decreases-loop = search in (read-at s).below
+shared-slice-read-dst c = let s = c in (read-at s.before.before).below
 
 mul-dst-2 : tie.Need-offset_bounds-dst-b invariant-loop decreases-loop
 mul-dst-2 c =
-    let d : tie.In-loop-i invariant-loop decreases-loop = search in
+    let d = c in
     omega (arith, (to d).below, (start d).good.1.1.1.0.1)
 
 slice-write-dst : tie.Need-bounds-dst-b invariant-loop decreases-loop
 slice-write-dst c =
-    let d : tie.In-loop-i invariant-loop decreases-loop = search in
-    let h : tie.At-loop-i invariant-loop decreases-loop = search in
-    omega (arith, (to d).below, h.loop.inv.1)
+    let d = c in
+    let h = c in
+    omega (arith, (to d).below, h.loop-i.invariant.1)
 
 add-slid : tie.Need-overflow_add-slid invariant-loop decreases-loop
 add-slid c =
-    let q : tie.After-started-m invariant-loop decreases-loop = search in
-    let h : tie.At-loop-i invariant-loop decreases-loop = search in
+    let q = c in
+    let h = c in
     let a = start q.before in
-    omega (arith, one_below h.loop.i _ _ _ (a.args.counts && q.started.result.moved) h.loop.inv.3 (one-counts a.args.counts _ _ _ c.count_if-one.ensures c.count_if-more.ensures))
+    omega (arith, one_below h.loop-i.i _ _ _ (a.args.counts && q.started-m.result.moved) h.loop-i.invariant.3 (one-counts a.args.counts _ _ _ c.count_if-one.ensures c.count_if-more.ensures))
 
 add-i : tie.Need-overflow_add-i invariant-loop decreases-loop
 add-i c = omega arith
@@ -140,17 +140,17 @@ loop-less c = omega arith
 
 loop-again : tie.Need-loop-i-preserved invariant-loop decreases-loop
 loop-again c =
-    let q : tie.After-started-m invariant-loop decreases-loop = search in
+    let q = c in
     let d = q.before in
     let h = d.before in
     let a = start d in (
       omega arith,
       length-set h.loop.dst _ _ ∙ h.loop.inv.1,
       cell-more nan (rule_f64 R.Replace) a.args.src.now (moved_at a.args.starts.now a.args.offsets.now a.args.strides.now a.args.limits.now a.args.count (line (read a.args.s) (read a.args.ss)) (line (read a.args.t) (read a.args.ts))) (line (read a.args.d) (read a.args.ds)) a.args.dst.now h.loop.dst h.loop.i _ _ _ h.loop.inv.2
-          (place_is _ _ _ _ _ _ _ _ _ _ _ _ _ _ a.pre _ d.loop-test.taken (from d) (index d) _ q.started.ensures.0 (src-room a)) (to d).index_is refl,
-      many_more h.loop.i (λ k. a.args.counts && start_moved a.args.starts.now a.args.offsets.now a.args.limits.now (line (read a.args.t) (read a.args.ts) k) a.args.count) _ _ (a.args.counts && q.started.result.moved) h.loop.inv.3
+          (place_is _ _ _ _ _ _ _ _ _ _ _ _ _ _ a.pre _ d.loop-test.taken (from d) (index d) _ q.started-m.ensures.0 (src-room a)) (to d).index_is refl,
+      many_more h.loop.i (λ k. a.args.counts && start_moved a.args.starts.now a.args.offsets.now a.args.limits.now (line (read a.args.t) (read a.args.ts) k) a.args.count) _ _ (a.args.counts && q.started-m.result.moved) h.loop.inv.3
           (one-counts a.args.counts _ _ _ c.count_if-one.ensures c.count_if-more.ensures)
-          (ap (λ (b : Bool). a.args.counts && b) (started-is a.args.starts.now a.args.offsets.now a.args.limits.now a.args.count _ _ _ _ (index d) _ q.started.ensures.1)),
+          (ap (λ (b : Bool). a.args.counts && b) (started-is a.args.starts.now a.args.offsets.now a.args.limits.now a.args.count _ _ _ _ (index d) _ q.started-m.ensures.1)),
     )
 
 same_length : tie.Need-shape_of-dst invariant-loop decreases-loop
@@ -159,11 +159,11 @@ same_length c = c.loop-i.invariant.1
 returns : tie.Need-returns invariant-loop decreases-loop
 returns c =
     let h = c in
-    let a : tie.Start invariant-loop decreases-loop = search in (
-      cells-end nan (rule_f64 R.Replace) a.args.src.now a.args.starts.now a.args.offsets.now a.args.strides.now a.args.limits.now a.args.count _ _ _ _ _ _ _ _ a.args.dst.now h.loop-i.dst a.fits.s a.fits.t a.fits.d a.fits.ss a.fits.ts a.fits.ds (omega arith) h.loop-i.invariant.2,
+    let a = c in (
+      cells-end nan (rule_f64 R.Replace) a.args.src.now a.args.starts.now a.args.offsets.now a.args.strides.now a.args.limits.now a.args.count _ _ _ _ _ _ _ _ a.args.dst.now h.loop-i.dst a.ranges.s a.ranges.t a.ranges.d a.ranges.ss a.ranges.ts a.ranges.ds (omega arith) h.loop-i.invariant.2,
       h.loop-i.invariant.3
           ∙ all-or-none a.args.counts h.loop-i.i (λ k. start_moved a.args.starts.now a.args.offsets.now a.args.limits.now (line (read a.args.t) (read a.args.ts) k) a.args.count)
-          ∙ ap (λ (m : ℕ). cond a.args.counts m 0) (starts-end a.args.starts.now a.args.t a.args.ts h.loop-i.i a.args.n _ a.fits.t a.fits.ts (omega arith) a.args.offsets.now a.args.limits.now a.args.count refl),
+          ∙ ap (λ (m : ℕ). cond a.args.counts m 0) (starts-end a.args.starts.now a.args.t a.args.ts h.loop-i.i a.args.n _ a.ranges.t a.ranges.ts (omega arith) a.args.offsets.now a.args.limits.now a.args.count refl),
     )
 
 pub take_cells_by_spec : {M : Type 1} → statement M

@@ -37,16 +37,16 @@ clamped-requires c κs = search rules
 
 cast-a : tie.Need-overflow_cast-a
 cast-a c =
-    let l : tie.After-clamped-y = search in
+    let l = c in
     (place l).cast
 
 mul-dst : tie.Need-offset_bounds-src-a
 mul-dst c =
-    let l : tie.After-clamped-y = search in
+    let l = c in
     omega (arith, (place l).below, (at-start l).good.1.0.1)
 
 shared-slice-read-dst : tie.Need-bounds-src-a
-shared-slice-read-dst c = let l : tie.After-clamped-y = search in (place l).below
+shared-slice-read-dst c = let l = c in (place l).below
 
 mul-dst-2 : tie.Need-offset_bounds-dst-i
 mul-dst-2 c = search rules
@@ -59,10 +59,10 @@ same_length c = search rules
 
 returns : tie.Need-returns
 returns c =
-    let q : tie.After-clamped-y = search in
+    let q = c in
     let a = at-start q in (
-      one-turn nan (rule_f64 R.Replace) a.args.src.now (one_at a.args.starts.now a.args.limit) pos a.args.dst.now a.args.i (nat_abs (read q.clamped.result.at)) a.args.i _ (by-start q) refl refl,
-      one-counts a.args.counts _ _ _ c.count_if-one.ensures c.count_if.ensures ∙ ap (λ (b : Bool). cond (a.args.counts && b) 1 0) (ones-moved a.args.starts.now a.args.limit a.args.i a.fits.limit (sfits_of q.before.x.given) _ q.clamped.ensures.1),
+      one-turn nan (rule_f64 R.Replace) a.args.src.now (one_at a.args.starts.now a.args.limit) pos a.args.dst.now a.args.i (nat_abs (read q.clamped-y.result.at)) a.args.i _ (by-start q) refl refl,
+      one-counts a.args.counts _ _ _ c.count_if-one.ensures c.count_if.ensures ∙ ap (λ (b : Bool). cond (a.args.counts && b) 1 0) (ones-moved a.args.starts.now a.args.limit a.args.i a.fits.limit (sfits_of q.x-1.given) _ q.clamped-y.ensures.1),
     )
 
 pub take_one_spec : {M : Type 1} → statement M

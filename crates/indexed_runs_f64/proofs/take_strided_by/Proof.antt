@@ -49,37 +49,37 @@ module _ (c : tie.After-clamp_window_start-y invariant-loop decreases-loop) wher
 
 loop-holds : tie.Need-loop-i-init invariant-loop decreases-loop
 loop-holds c =
-    let a : tie.Start invariant-loop decreases-loop = search in
+    let a = c in
     (omega arith, refl, none _ 0 a.args.dst.now refl, many-none 0 _ refl)
 
 cast-k : tie.Need-overflow_cast-k invariant-loop decreases-loop
 cast-k c =
-    let d : tie.In-loop-i invariant-loop decreases-loop = search in
+    let d = c in
     (starts-at d).count
 
 mul-p : tie.Need-overflow_mul-p invariant-loop decreases-loop
 mul-p c =
-    let d : tie.In-loop-i invariant-loop decreases-loop = search in
+    let d = c in
     (starts-at d).multiple
 
 add-p : tie.Need-overflow_add-p invariant-loop decreases-loop
 add-p c =
-    let d : tie.In-loop-i invariant-loop decreases-loop = search in
+    let d = c in
     (starts-at d).fits
 
 cast-p : tie.Need-overflow_cast-p invariant-loop decreases-loop
 cast-p c =
-    let d : tie.In-loop-i invariant-loop decreases-loop = search in
+    let d = c in
     (starts-at d).cast
 
 mul-x : tie.Need-offset_bounds-starts-p invariant-loop decreases-loop
 mul-x c =
-    let d : tie.In-loop-i invariant-loop decreases-loop = search in
+    let d = c in
     omega (arith, (starts-at d).below, (start d).good.1.1.0.1)
 
 shared-slice-copy-out-x : tie.Need-bounds-starts-p invariant-loop decreases-loop
 shared-slice-copy-out-x c =
-    let d : tie.In-loop-i invariant-loop decreases-loop = search in
+    let d = c in
     (starts-at d).below
 
 clamp-window-start-requires : tie.Need-clamp_window_start-y-requires invariant-loop decreases-loop
@@ -87,67 +87,67 @@ clamp-window-start-requires c κs = tt
 
 cast-c : tie.Need-overflow_cast-c invariant-loop decreases-loop
 cast-c c =
-    let k : tie.After-clamp_window_start-y invariant-loop decreases-loop = search in
+    let k = c in
     (clamped-at k).count
 
 mul-a : tie.Need-overflow_mul-a invariant-loop decreases-loop
 mul-a c =
-    let k : tie.After-clamp_window_start-y invariant-loop decreases-loop = search in
+    let k = c in
     (clamped-at k).multiple
 
 add_a : tie.Need-overflow_add-a invariant-loop decreases-loop
 add_a c =
-    let k : tie.After-clamp_window_start-y invariant-loop decreases-loop = search in
+    let k = c in
     (clamped-at k).fits
 
 cast-a : tie.Need-overflow_cast-a invariant-loop decreases-loop
 cast-a c =
-    let k : tie.After-clamp_window_start-y invariant-loop decreases-loop = search in
+    let k = c in
     (clamped-at k).cast
 
 mul-b : tie.Need-overflow_mul-b invariant-loop decreases-loop
 mul-b c =
-    let d : tie.In-loop-i invariant-loop decreases-loop = search in
-    (plain_at d).multiple
+    let d = c in
+    (plain_at d.before.before.before).multiple
 
 add-b : tie.Need-overflow_add-b invariant-loop decreases-loop
 add-b c =
-    let d : tie.In-loop-i invariant-loop decreases-loop = search in
-    (plain_at d).fits
+    let d = c in
+    (plain_at d.before.before.before).fits
 
 cast-b : tie.Need-overflow_cast-b invariant-loop decreases-loop
 cast-b c =
-    let d : tie.In-loop-i invariant-loop decreases-loop = search in
-    (plain_at d).cast
+    let d = c in
+    (plain_at d.before.before.before).cast
 
 mul-dst : tie.Need-offset_bounds-src-a invariant-loop decreases-loop
 mul-dst c =
-    let d : tie.In-loop-i invariant-loop decreases-loop = search in
-    let k : tie.After-clamp_window_start-y invariant-loop decreases-loop = search in
+    let d = c in
+    let k = c in
     omega (arith, (clamped-at k).below, (start d).good.1.0.1)
 
 shared-slice-read-dst : tie.Need-bounds-src-a invariant-loop decreases-loop
 shared-slice-read-dst c =
-    let l : tie.After-clamp_window_start-y invariant-loop decreases-loop = search in
+    let l = c in
     (clamped-at l).below
 
 mul-dst-2 : tie.Need-offset_bounds-dst-b invariant-loop decreases-loop
 mul-dst-2 c =
-    let d : tie.In-loop-i invariant-loop decreases-loop = search in
-    omega (arith, (plain_at d).below, (start d).good.1.1.1.0.1)
+    let d = c in
+    omega (arith, (plain_at d.before.before.before.before).below, (start d).good.1.1.1.0.1)
 
 slice-write-dst : tie.Need-bounds-dst-b invariant-loop decreases-loop
 slice-write-dst c =
-    let d : tie.In-loop-i invariant-loop decreases-loop = search in
-    let h : tie.At-loop-i invariant-loop decreases-loop = search in
-    omega (arith, (plain_at d).below, h.loop.inv.1)
+    let d = c in
+    let h = c in
+    omega (arith, (plain_at d.before.before.before.before).below, h.loop-i.invariant.1)
 
 add-slid : tie.Need-overflow_add-slid invariant-loop decreases-loop
 add-slid c =
-    let q : tie.After-clamp_window_start-y invariant-loop decreases-loop = search in
-    let h : tie.At-loop-i invariant-loop decreases-loop = search in
+    let q = c in
+    let h = c in
     let a = start q.before.before in
-    omega (arith, one_below h.loop.i _ _ _ (a.args.counts && q.clamp-window-start.result.moved) h.loop.inv.3 (one-counts a.args.counts _ _ _ c.count_if-one.ensures c.count_if-more.ensures))
+    omega (arith, one_below h.loop-i.i _ _ _ (a.args.counts && q.clamp_window_start-y.result.moved) h.loop-i.invariant.3 (one-counts a.args.counts _ _ _ c.count_if-one.ensures c.count_if-more.ensures))
 
 add-i : tie.Need-overflow_add-i invariant-loop decreases-loop
 add-i c = omega arith
@@ -157,16 +157,16 @@ loop-less c = omega arith
 
 loop-again : tie.Need-loop-i-preserved invariant-loop decreases-loop
 loop-again c =
-    let q : tie.After-clamp_window_start-y invariant-loop decreases-loop = search in
+    let q = c in
     let d = q.before.before in
     let h = d.before in
     let a = start d in (
       omega arith,
       length-set h.loop.dst _ _ ∙ h.loop.inv.1,
-      cell-more nan (rule_f64 R.Replace) a.args.src.now (clamped_at a.args.starts.now (line (read a.args.t) (read a.args.ts)) (read a.args.base) (read a.args.stride) a.args.limit) (line (read a.args.d) (read a.args.ds)) a.args.dst.now h.loop.dst h.loop.i (nat_abs (machine a.args.base a.args.stride q.clamp-window-start.result.start)) (nat_abs (machine a.args.d a.args.ds h.loop.i)) _ h.loop.inv.2 (by-start q) (plain_at d).index_is refl,
-      many_more h.loop.i (λ k. a.args.counts && moves_at a.args.starts.now (line (read a.args.t) (read a.args.ts)) a.args.limit k) _ _ (a.args.counts && q.clamp-window-start.result.moved) h.loop.inv.3
+      cell-more nan (rule_f64 R.Replace) a.args.src.now (clamped_at a.args.starts.now (line (read a.args.t) (read a.args.ts)) (read a.args.base) (read a.args.stride) a.args.limit) (line (read a.args.d) (read a.args.ds)) a.args.dst.now h.loop.dst h.loop.i (nat_abs (machine a.args.base a.args.stride q.clamp_window_start-y.result.start)) (nat_abs (machine a.args.d a.args.ds h.loop.i)) _ h.loop.inv.2 (by-start q) (plain_at d).index_is refl,
+      many_more h.loop.i (λ k. a.args.counts && moves_at a.args.starts.now (line (read a.args.t) (read a.args.ts)) a.args.limit k) _ _ (a.args.counts && q.clamp_window_start-y.result.moved) h.loop.inv.3
           (one-counts a.args.counts _ _ _ c.count_if-one.ensures c.count_if-more.ensures)
-          (ap (λ (b : Bool). a.args.counts && b) (moves-is a.args.starts.now _ _ a.args.limit _ _ (starts-at d) (sfits_of q.before.x.given) _ q.clamp-window-start.ensures.1)),
+          (ap (λ (b : Bool). a.args.counts && b) (moves-is a.args.starts.now _ _ a.args.limit _ _ (starts-at d) (sfits_of q.x-1.given) _ q.clamp_window_start-y.ensures.1)),
     )
 
 same_length : tie.Need-shape_of-dst invariant-loop decreases-loop
@@ -175,11 +175,11 @@ same_length c = c.loop-i.invariant.1
 returns : tie.Need-returns invariant-loop decreases-loop
 returns c =
     let h = c in
-    let a : tie.Start invariant-loop decreases-loop = search in (
-      take-end nan (rule_f64 R.Replace) a.args.src.now a.args.starts.now a.args.t a.args.ts a.args.base a.args.stride a.args.d a.args.ds a.args.limit h.loop-i.i a.args.n a.args.dst.now h.loop-i.dst a.fits.t a.fits.ts a.fits.base a.fits.stride a.fits.d a.fits.ds (omega arith) h.loop-i.invariant.2,
+    let a = c in (
+      take-end nan (rule_f64 R.Replace) a.args.src.now a.args.starts.now a.args.t a.args.ts a.args.base a.args.stride a.args.d a.args.ds a.args.limit h.loop-i.i a.args.n a.args.dst.now h.loop-i.dst a.ranges.t a.ranges.ts a.ranges.base a.ranges.stride a.ranges.d a.ranges.ds (omega arith) h.loop-i.invariant.2,
       h.loop-i.invariant.3
           ∙ all-or-none a.args.counts h.loop-i.i (moves_at a.args.starts.now (line (read a.args.t) (read a.args.ts)) a.args.limit)
-          ∙ ap (λ (m : ℕ). cond a.args.counts m 0) (moves-end a.args.starts.now a.args.t a.args.ts h.loop-i.i a.args.n _ a.fits.t a.fits.ts (omega arith) a.args.limit refl),
+          ∙ ap (λ (m : ℕ). cond a.args.counts m 0) (moves-end a.args.starts.now a.args.t a.args.ts h.loop-i.i a.args.n _ a.ranges.t a.ranges.ts (omega arith) a.args.limit refl),
     )
 
 pub take_strided_by_spec : {M : Type 1} → statement M

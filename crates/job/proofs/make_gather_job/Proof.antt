@@ -4,8 +4,8 @@ use Rattle.job.proofs.make_gather_job.Tie as tie
 
 returns : tie.Need-returns
 returns c =
-    let s : tie.Start = search in
-    simp (back s.fits.operand-offset, back s.fits.index-offset, back s.fits.dest-offset) at c.make_job.ensures
+    let s = c in
+    simp (back s.ranges.operand-offset, back s.ranges.index-offset, back s.ranges.dest-offset) at c.make_job.ensures
 
 pub make_gather_job_spec : {M : Type 1} → statement M
 make_gather_job_spec = tie.close (tie.spec (λ c κs. tt) returns)

@@ -14,8 +14,8 @@ part-make-job-end c = search rules
 
 returns : tie.Need-returns
 returns c =
-    let s : tie.Start = search in
-    simp (back s.fits.index-offset, back s.fits.update-offset, back s.fits.dest-offset) at c.make_job.ensures
+    let s = c in
+    simp (back s.ranges.index-offset, back s.ranges.update-offset, back s.ranges.dest-offset) at c.make_job.ensures
 
 pub make_scatter_job_spec : {M : Type 1} → statement M
 make_scatter_job_spec =

@@ -22,7 +22,7 @@ add-t5 : tie.Need-overflow_add-result
 add-t5 c = search rules
 
 returns-3 : tie.Need-returns
-returns-3 c = sym (ap held_number (number-here _ _ _ _ (omega arith) c.number_of_lem.ensures))
+returns-3 c = sym (ap held_number (number-here _ _ _ _ (omega arith) c.number_of-value.ensures))
 
 pub read_number_spec : {M : Type 1} → statement M
 read_number_spec =

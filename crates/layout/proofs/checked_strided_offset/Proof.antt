@@ -77,7 +77,7 @@ loop-again c =
     let l = w in
     let s = l in
     let a = c.in-Fits.o in
-    let fa : SFits w64 a = sfits_of c.known_told-1.given.0.1 in
+    let fa : SFits w64 a = sfits_of c.in-Fits.known_told-1-own.given.0.1 in
     let m : length s.args.t2 ≡ rank_limit = search rules in
     let k : length s.args.t3 ≡ rank_limit = search rules in (
       omega (arith, w.loop-i-test.true),

@@ -7,15 +7,15 @@ use Rattle.layout.proofs.make_layout.Tie as tie
 
 returns : tie.Need-returns-then-not-is_done
 unfolding layout_from
-returns c = c.refused_layout.ensures ∙ first-refuses _ _ c.check_stride_length-lengths.ensures c.is_done.ensures (not-true _ c.if-not-is_done.true)
+returns c = c.refused_layout.ensures ∙ first-refuses _ _ c.check_stride_length-lengths.ensures c.is_done.ensures c.if-not-is_done.true
 
 returns-2 : tie.Need-returns-then-not-is_done-2
 unfolding layout_from
-returns-2 c = c.refused_layout-then-not-is_done-2.ensures ∙ second-refuses _ c.check_stride_length-lengths.ensures c.is_done.ensures (not-false _ c.if-not-is_done.false) c.check_rank-limit.ensures c.is_done-2.ensures (not-true _ c.if-not-is_done-2.true)
+returns-2 c = c.refused_layout-then-not-is_done-2.ensures ∙ second-refuses _ c.check_stride_length-lengths.ensures c.is_done.ensures c.if-not-is_done.false c.check_rank-limit.ensures c.is_done-2.ensures c.if-not-is_done-2.true
 
 returns-3 : tie.Need-returns
 unfolding layout_from
-returns-3 c = rw (c.padded_extents-e.ensures, c.padded_strides-s.ensures) (both-pass _ c.check_stride_length-lengths.ensures c.is_done.ensures (not-false _ c.if-not-is_done.false) c.check_rank-limit.ensures c.is_done-2.ensures (not-false _ c.if-not-is_done-2.false))
+returns-3 c = rw (c.padded_extents-e.ensures, c.padded_strides-s.ensures) (both-pass _ c.check_stride_length-lengths.ensures c.is_done.ensures c.if-not-is_done.false c.check_rank-limit.ensures c.is_done-2.ensures c.if-not-is_done-2.false)
 
 pub make_layout_spec : {M : Type 1} → statement M
 make_layout_spec =

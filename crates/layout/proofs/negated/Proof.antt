@@ -16,7 +16,7 @@ enum_told c = search rules
 
 returns : tie.Need-returns-in-Fits
 returns c =
-    let z : SFits w64 c.in-Fits.e = sfits_of c.known_told-1.given.0.1 in
+    let z : SFits w64 c.in-Fits.e = sfits_of c.in-Fits.known_told-1-own.given.0.1 in
     rw c.in-Fits.is (c.checked_neg_i64.ensures ∙ ap (λ (t : ℤ). checked (neg_ℤ t)) (back z))
 
 returns-2 : tie.Need-returns-in-Overflow

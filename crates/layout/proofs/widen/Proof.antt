@@ -40,7 +40,7 @@ returns c =
     let k = c in
     let s = k in
     let e = k.in-Fits.e in
-    let z : SFits w64 e = sfits_of k.known_told-1.given.0.1 in
+    let z : SFits w64 e = sfits_of k.in-Fits.known_told-1-own.given.0.1 in
     c.with_low.ensures
     ∙ ap₂ (λ (x : Checked) (h : ℤ). span_of x (λ l. S.Fits l h)) (c.checked_add_i64-sum.ensures ∙ ap checked (ap₂ ◌+ℤ◌ (back s.ranges.low) (back z))) (back s.ranges.high)
     ∙ below s.args.low s.args.high s.args.extent s.args.stride e (sym (k.axis_reach-far.ensures ∙ ap (reach_of s.args.extent) (back s.ranges.stride)) ∙ k.in-Fits.is) (is_neg-yes e (less z (sfits_lit {z = pos 0} tt) c.if-e-lt0.true))
@@ -50,7 +50,7 @@ returns-2 c =
     let k = c in
     let s = k in
     let e = k.in-Fits.e in
-    let z : SFits w64 e = sfits_of k.known_told-1.given.0.1 in
+    let z : SFits w64 e = sfits_of k.in-Fits.known_told-1-own.given.0.1 in
     c.with_high.ensures
     ∙ ap₂ (λ (x : Checked) (t : ℤ). span_of x (λ h. S.Fits t h)) (c.checked_add_i64-sum-else-e-lt0.ensures ∙ ap checked (ap₂ ◌+ℤ◌ (back s.ranges.high) (back z))) (back s.ranges.low)
     ∙ above s.args.low s.args.high s.args.extent s.args.stride e (sym (k.axis_reach-far.ensures ∙ ap (reach_of s.args.extent) (back s.ranges.stride)) ∙ k.in-Fits.is) (is_neg-no e (not-less z (sfits_lit {z = pos 0} tt) c.if-e-lt0.false))

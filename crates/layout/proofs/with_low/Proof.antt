@@ -15,7 +15,7 @@ enum_told c = search rules
 
 returns : tie.Need-returns-in-Fits
 returns c =
-    let z : SFits w64 c.in-Fits.l = sfits_of c.known_told-1.given.0.1 in
+    let z : SFits w64 c.in-Fits.l = sfits_of c.in-Fits.known_told-1-own.given.0.1 in
     rw c.in-Fits.is (ap₂ S.Fits (back z) (back c.ranges.high))
 
 returns-2 : tie.Need-returns-in-Overflow

@@ -5,14 +5,14 @@ use Rattle.operand_calls.proofs.copy_from.Tie as tie
 
 returns : tie.Need-returns
 returns c =
-    let s : tie.Start = search in
-    let e : tie.After-padded_extents-held_extents = search in
-    let f : tie.After-padded_strides-held_strides = search in
-    let g : tie.After-padded_strides-held_dest = search in
+    let s = c in
+    let e = c in
+    let f = c in
+    let g = c in
     λ i. record {
-      layout = record { rank = length s.args.extents.now; extents = e.padded-extents.ensures i; strides = f.padded-strides.ensures i };
-      strides = g.padded-strides2.ensures i;
-      offset = back s.fits.offset i;
+      layout = record { rank = length s.args.extents.now; extents = e.padded_extents-held_extents.ensures i; strides = f.padded_strides-held_strides.ensures i };
+      strides = g.padded_strides-held_dest.ensures i;
+      offset = back s.ranges.offset i;
     }
 
 pub copy_from_spec : {M : Type 1} → statement M

@@ -8,7 +8,7 @@ returns : tie.Need-returns-then-same_extents
 returns c = rw (← extents-same c.same_extents.ensures, c.if-same_extents.true)
 
 returns-2 : tie.Need-returns-else-same_extents
-returns-2 c = let s : tie.After-same_extents = search in let e : tie.Else-same_extents = search in rw (← extents-same s.same-extents.ensures, e.if1.left)
+returns-2 c = let s = c in let e = c in rw (← extents-same s.same_extents.ensures, e.if-same_extents.false)
 
 pub check_extents_spec : {M : Type 1} → statement M
 check_extents_spec = tie.close (tie.spec (λ c κs. tt) returns returns-2)

@@ -26,63 +26,63 @@ returns c =
 
 over-fused-requires : tie.Need-over_fused-requires
 over-fused-requires c κs =
-    let k : tie.In-Fits = search in
-    let p : tie.After-pays = search in
-    let q : tie.Then-pays = search in
-    let f : tie.After-copy_axes-f = search in
+    let k = c in
+    let p = c in
+    let q = c in
+    let f = c in
     let a = start k in
     cells-by _ _ _ _ _ _ a.fits.s a.fits.d _ _ _ refl refl refl _ _
-    (chosen-cells _ _ _ _ _ _ _ _ a.pre (omega (arith, counted k)) (omega (arith, counted k, pays-few a.args.rank _ _ a.args.extents (sym p.pays.ensures ∙ q.if2.taken) (counted k))) _ f.copy-axes.ensures)
+    (chosen-cells _ _ _ _ _ _ _ _ a.pre (omega (arith, counted k)) (omega (arith, counted k, pays-few a.args.rank _ _ a.args.extents (sym p.pays.ensures ∙ q.if-pays.true) (counted k))) _ f.copy_axes-f.ensures)
 
 same_length : tie.Need-shape_of-dst-then-pays
 same_length c = search rules
 
 returns-2 : tie.Need-returns-then-pays
 returns-2 c =
-    let k : tie.In-Fits = search in
-    let f : tie.After-copy_axes-f = search in
-    let x : tie.After-over_fused = search in
+    let k = c in
+    let f = c in
+    let x = c in
     let a = start k in
-    chosen-end _ a.args.s a.args.d a.args.extents a.args.ss a.args.ds a.args.rank a.args.src.now a.args.dst.now a.fits.s a.fits.d _ _ _ a.pre _ f.copy-axes.ensures x.over-fused.ensures
+    chosen-end _ a.args.s a.args.d a.args.extents a.args.ss a.args.ds a.args.rank a.args.src.now a.args.dst.now a.fits.s a.fits.d _ _ _ a.pre _ f.copy_axes-f.ensures x.over_fused.ensures
 
 over-axes-requires : tie.Need-over_axes-requires
 over-axes-requires c κs =
-    let k : tie.In-Fits = search in
-    let p : tie.After-pays = search in
-    let q : tie.Else-pays = search in
+    let k = c in
+    let p = c in
+    let q = c in
     let a = start k in
     cells-by _ _ _ _ _ _ a.fits.s a.fits.d _ _ _ refl refl refl _ _
-    (given-cells _ _ _ _ _ _ _ _ a.pre (pays-not a.args.rank _ _ (sym p.pays.ensures ∙ q.if2.left)) (omega (arith, counted k)))
+    (given-cells _ _ _ _ _ _ _ _ a.pre (pays-not a.args.rank _ _ (sym p.pays.ensures ∙ q.if-pays.false)) (omega (arith, counted k)))
 
 enum_told : tie.Need-enum_told-1
 enum_told c = search rules
 
 over-axes-requires-2 : tie.Need-over_axes-requires-in-Overflow
 over-axes-requires-2 c κs =
-    let t : tie.After-total_len-total = search in
-    let e : tie.In-Overflow = search in
-    let a : tie.Start = search in
-    let m = total-many (take a.args.rank a.args.extents) t.total-len.result t.total-len.ensures e.enum_told.given.1 in
-    cells-by _ _ _ _ _ _ a.fits.s a.fits.d _ _ _ refl refl refl _ _
-    (given-cells _ _ _ _ _ _ _ _ a.pre (many-axes a.args.rank a.args.extents (omega arith)) (omega arith))
+    let t = c in
+    let e = c in
+    let a = c in
+    let m = total-many (take a.args.rank a.args.extents) t.total_len-total.result t.total_len-total.ensures e.in-Overflow.is in
+    cells-by _ _ _ _ _ _ a.ranges.s a.ranges.d _ _ _ refl refl refl _ _
+    (given-cells _ _ _ _ _ _ _ _ a.requires (many-axes a.args.rank a.args.extents (omega arith)) (omega arith))
 
 same-length-2 : tie.Need-shape_of-dst-else-pays
 same-length-2 c = search rules
 
 returns-3 : tie.Need-returns-else-pays
 returns-3 c =
-    let a : tie.Start = search in
-    let x : tie.After-over_axes = search in
-    given-end _ a.args.s a.args.d a.args.extents a.args.ss a.args.ds a.args.rank a.args.src.now a.args.dst.now a.fits.s a.fits.d _ x.over-axes.ensures
+    let a = c in
+    let x = c in
+    given-end _ a.args.s a.args.d a.args.extents a.args.ss a.args.ds a.args.rank a.args.src.now a.args.dst.now a.ranges.s a.ranges.d _ x.over_axes.ensures
 
 same-length-3 : tie.Need-shape_of-dst-in-Overflow
 same-length-3 c = search rules
 
 returns-4 : tie.Need-returns-in-Overflow
 returns-4 c =
-    let a : tie.Start = search in
-    let x : tie.After-over_axes-in-Overflow = search in
-    given-end _ a.args.s a.args.d a.args.extents a.args.ss a.args.ds a.args.rank a.args.src.now a.args.dst.now a.fits.s a.fits.d _ x.over-axes2.ensures
+    let a = c in
+    let x = c in
+    given-end _ a.args.s a.args.d a.args.extents a.args.ss a.args.ds a.args.rank a.args.src.now a.args.dst.now a.ranges.s a.ranges.d _ x.over_axes-in-Overflow.ensures
 
 pub copy_operand_spec : {M : Type 1} → statement M
 copy_operand_spec =

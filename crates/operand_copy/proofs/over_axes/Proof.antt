@@ -12,18 +12,18 @@ run-axis-requires c κs = search rules
 
 axes-requires : tie.Need-axes-requires
 axes-requires c κs =
-    let a : tie.Start = search in
-    let l : tie.After-run_axis-low = search in
-    cells-level _ _ _ _ _ _ a.fits.s a.fits.d _ _ _ a.pre l.run-axis.ensures
+    let a = c in
+    let l = c in
+    cells-level _ _ _ _ _ _ a.ranges.s a.ranges.d _ _ _ a.requires l.run_axis-low.ensures
 
 same_length : tie.Need-shape_of-dst
 same_length c = search rules
 
 returns : tie.Need-returns
 returns c =
-    let a : tie.Start = search in
-    let x : tie.After-axes = search in
-    left_by _ _ a.args.t3 a.args.t4 a.args.t5 a.args.rank a.fits.s a.fits.d _ _ _ refl refl refl (pos 0) (rule_i32 R.Replace) a.args.src.now a.args.dst.now _ x.axes.ensures
+    let a = c in
+    let x = c in
+    left_by _ _ a.args.t3 a.args.t4 a.args.t5 a.args.rank a.ranges.s a.ranges.d _ _ _ refl refl refl (pos 0) (rule_i32 R.Replace) a.args.src.now a.args.dst.now _ x.axes.ensures
 
 pub over_axes_spec : {M : Type 1} → statement M
 over_axes_spec = tie.close (tie.spec run-axis-requires axes-requires same_length returns)

@@ -65,7 +65,7 @@ returns c =
     let i = c in
     let k = i in
     let s = begun k in
-    refused-first (o s) (w s) (v s) (x s) (y s) (z s) s.args.operand-len s.args.starts-len s.args.updates-len s.args.dest-len k.same_views-same.ensures i.examine-found.ensures.answered i.check_plan-eight.ensures i.or_else-refusal.ensures _ c.refused.ensures (sym i.is_done.ensures ∙ not-true _ i.if-not-is_done.true)
+    refused-first (o s) (w s) (v s) (x s) (y s) (z s) s.args.operand-len s.args.starts-len s.args.updates-len s.args.dest-len k.same_views-same.ensures i.examine-found.ensures.answered i.check_plan-eight.ensures i.or_else-refusal.ensures _ c.refused.ensures (sym i.is_done.ensures ∙ i.if-not-is_done.true)
 
 reach-of-requires : tie.Need-reach_of-w-requires
 reach-of-requires c κs = (sized_on (o (start c)) (w (start c)) (found c).sizes).operand
@@ -90,7 +90,7 @@ returns-2 c =
     let i = q1 in
     let s = start i in
     same-views (o s) (w s) (v s) (x s) (y s) (z s) s.args.operand-len s.args.starts-len s.args.updates-len s.args.dest-len _ (compared i).same-views.ensures (both-pass i).1
-    (second-refusal (o s) (w s) s.args.operand-offset s.args.index-offset s.args.updates-offset s.args.dest-offset s.args.operand-len s.args.starts-len s.args.updates-len s.args.dest-len {w = q1.reach_of-w.result} {x = q2.reach_of-x.result} {y = q3.reach_of-y.result} {z = q4.reach_of-z.result} (examined i).examine.ensures.answered (both-pass i).0 (q1.reach_of-w.ensures ∙ ap (λ (z : ℤ). view_reach s.args.operand-extents.now s.args.operand-strides.now z s.args.operand-len) (back s.fits.operand-offset)) (q2.reach_of-x.ensures ∙ ap (λ (z : ℤ). view_reach s.args.index-extents.now s.args.index-strides.now z s.args.starts-len) (back s.fits.index-offset)) (q3.reach_of-y.ensures ∙ ap (λ (z : ℤ). view_reach s.args.updates-extents.now s.args.updates-strides.now z s.args.updates-len) (back s.fits.updates-offset)) (q4.reach_of-z.ensures ∙ ap (λ (z : ℤ). view_reach s.args.dest-extents.now s.args.dest-strides.now z s.args.dest-len) (back s.fits.dest-offset)) n.check_bounds-answer.ensures _ c.refused-then-not-is_done-2.ensures (sym j.is_done-2.ensures ∙ not-true _ j.if-not-is_done-2.true))
+    (second-refusal (o s) (w s) s.args.operand-offset s.args.index-offset s.args.updates-offset s.args.dest-offset s.args.operand-len s.args.starts-len s.args.updates-len s.args.dest-len {w = q1.reach_of-w.result} {x = q2.reach_of-x.result} {y = q3.reach_of-y.result} {z = q4.reach_of-z.result} (examined i).examine.ensures.answered (both-pass i).0 (q1.reach_of-w.ensures ∙ ap (λ (z : ℤ). view_reach s.args.operand-extents.now s.args.operand-strides.now z s.args.operand-len) (back s.fits.operand-offset)) (q2.reach_of-x.ensures ∙ ap (λ (z : ℤ). view_reach s.args.index-extents.now s.args.index-strides.now z s.args.starts-len) (back s.fits.index-offset)) (q3.reach_of-y.ensures ∙ ap (λ (z : ℤ). view_reach s.args.updates-extents.now s.args.updates-strides.now z s.args.updates-len) (back s.fits.updates-offset)) (q4.reach_of-z.ensures ∙ ap (λ (z : ℤ). view_reach s.args.dest-extents.now s.args.dest-strides.now z s.args.dest-len) (back s.fits.dest-offset)) n.check_bounds-answer.ensures _ c.refused-then-not-is_done-2.ensures (sym j.is_done-2.ensures ∙ j.if-not-is_done-2.true))
 
 prepared-from-requires : tie.Need-prepared_from-requires
 prepared-from-requires c κs = let i = c in (found i).scatter
@@ -106,7 +106,7 @@ returns-3 c =
     let i = q1 in
     let s = start i in
     same-views (o s) (w s) (v s) (x s) (y s) (z s) s.args.operand-len s.args.starts-len s.args.updates-len s.args.dest-len _ (compared i).same-views.ensures (both-pass i).1
-    (prepared (o s) (w s) s.args.operand-offset s.args.index-offset s.args.updates-offset s.args.dest-offset s.args.operand-len s.args.starts-len s.args.updates-len s.args.dest-len {w = q1.reach_of-w.result} {x = q2.reach_of-x.result} {y = q3.reach_of-y.result} {z = q4.reach_of-z.result} (examined i).examine.ensures.answered (both-pass i).0 (q1.reach_of-w.ensures ∙ ap (λ (z : ℤ). view_reach s.args.operand-extents.now s.args.operand-strides.now z s.args.operand-len) (back s.fits.operand-offset)) (q2.reach_of-x.ensures ∙ ap (λ (z : ℤ). view_reach s.args.index-extents.now s.args.index-strides.now z s.args.starts-len) (back s.fits.index-offset)) (q3.reach_of-y.ensures ∙ ap (λ (z : ℤ). view_reach s.args.updates-extents.now s.args.updates-strides.now z s.args.updates-len) (back s.fits.updates-offset)) (q4.reach_of-z.ensures ∙ ap (λ (z : ℤ). view_reach s.args.dest-extents.now s.args.dest-strides.now z s.args.dest-len) (back s.fits.dest-offset)) n.check_bounds-answer.ensures (found i) (sym j.is_done-2.ensures ∙ not-false _ j.if-not-is_done-2.false) _
+    (prepared (o s) (w s) s.args.operand-offset s.args.index-offset s.args.updates-offset s.args.dest-offset s.args.operand-len s.args.starts-len s.args.updates-len s.args.dest-len {w = q1.reach_of-w.result} {x = q2.reach_of-x.result} {y = q3.reach_of-y.result} {z = q4.reach_of-z.result} (examined i).examine.ensures.answered (both-pass i).0 (q1.reach_of-w.ensures ∙ ap (λ (z : ℤ). view_reach s.args.operand-extents.now s.args.operand-strides.now z s.args.operand-len) (back s.fits.operand-offset)) (q2.reach_of-x.ensures ∙ ap (λ (z : ℤ). view_reach s.args.index-extents.now s.args.index-strides.now z s.args.starts-len) (back s.fits.index-offset)) (q3.reach_of-y.ensures ∙ ap (λ (z : ℤ). view_reach s.args.updates-extents.now s.args.updates-strides.now z s.args.updates-len) (back s.fits.updates-offset)) (q4.reach_of-z.ensures ∙ ap (λ (z : ℤ). view_reach s.args.dest-extents.now s.args.dest-strides.now z s.args.dest-len) (back s.fits.dest-offset)) n.check_bounds-answer.ensures (found i) (sym j.is_done-2.ensures ∙ j.if-not-is_done-2.false) _
     (simp (back s.fits.index-offset, back s.fits.updates-offset, back s.fits.dest-offset) at c.prepared_from.ensures))
 
 pub prepare_views_spec : {M : Type 1} → statement M

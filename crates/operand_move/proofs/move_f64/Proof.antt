@@ -33,24 +33,24 @@ module _ (e : tie.Else-not-is_done) where
 
 returns : tie.Need-returns-then-not-is_done
 returns c =
-    let d : tie.After-is_done = search in
-    let t : tie.Then-not-is_done = search in
-    λ k. refused (sym d.is-done.ensures ∙ not-true _ t.if1.taken) c.refused_call.ensures
+    let d = c in
+    let t = c in
+    λ k. refused (sym d.is_done.ensures ∙ t.if-not-is_done.true) c.refused_call.ensures
 
 copy-operand-requires : tie.Need-copy_operand-requires
 copy-operand-requires c κs =
-    let e : tie.Else-not-is_done = search in
-    let s : tie.Start = search in
-    let k = s.pre in
-    copy-window s.args.p s.args.c k.operand k.scatter _ _ _ _ (k.ready (ready e)) (k.copy (ready e)) (offsets s).0 (offsets s).1
+    let e = c in
+    let s = c in
+    let k = s.requires in
+    copy-window s.args.p s.args.c k.operand k.scatter _ _ _ _ (k.ready (ready e)) (k.copy (ready e)) (offsets s.before.before.before.before.before.before.before.before.before.before.before.before).0 (offsets s.before.before.before.before.before.before.before.before.before.before.before.before).1
 
 move-f64-requires : tie.Need-move_f64-requires
 move-f64-requires c κs =
-    let e : tie.Else-not-is_done = search in
-    let o : tie.After-copy_operand = search in
-    let s : tie.Start = search in
-    let k = s.pre in
-    let q = o.copy-operand.ensures ∙ copy-leaves s.args.p s.args.c k.operand k.scatter _ _ _ _ (k.ready (ready e)) (k.copy (ready e)) nan s.args.operand.now s.args.into.now (offsets s).0 (offsets s).1 in
+    let e = c in
+    let o = c in
+    let s = c in
+    let k = s.requires in
+    let q = o.copy_operand.ensures ∙ copy-leaves s.args.p s.args.c k.operand k.scatter _ _ _ _ (k.ready (ready e)) (k.copy (ready e)) nan s.args.operand.now s.args.into.now (offsets s.before.before.before.before.before.before.before.before.before.before.before.before.before.before.before.before).0 (offsets s.before.before.before.before.before.before.before.before.before.before.before.before.before.before.before.before).1 in
     moving _ (ap length q ∙ length-copied nan k.operand k.scatter.result s.args.operand.now s.args.into.now) k
 
 same_length : tie.Need-shape_of-into
@@ -58,14 +58,14 @@ same_length c = search rules
 
 returns-2 : tie.Need-returns
 returns-2 c =
-    let e : tie.Else-not-is_done = search in
-    let o : tie.After-copy_operand = search in
-    let m : tie.After-move_f64 = search in
-    let s : tie.Start = search in
+    let e = c in
+    let o = c in
+    let m = c in
+    let s = c in
     λ k.
-    let q = o.copy-operand.ensures ∙ copy-leaves s.args.p s.args.c k.operand k.scatter _ _ _ _ (k.ready (ready e)) (k.copy (ready e)) nan s.args.operand.now s.args.into.now (offsets s).0 (offsets s).1 in
+    let q = o.copy_operand.ensures ∙ copy-leaves s.args.p s.args.c k.operand k.scatter _ _ _ _ (k.ready (ready e)) (k.copy (ready e)) nan s.args.operand.now s.args.into.now (offsets s.before.before.before.before.before.before.before.before.before.before.before.before.before.before.before.before.before.before.before).0 (offsets s.before.before.before.before.before.before.before.before.before.before.before.before.before.before.before.before.before.before.before).1 in
     moved_on s.args.p.answer (slid_scatter k.scatter s.args.starts.now) (scattered (rule_f64 s.args.rule) nan k.scatter s.args.starts.now s.args.source.now) s.args.into.now _ (operand_copied nan k.operand k.scatter.result s.args.operand.now s.args.into.now) _ _ (ready e) q
-    (m.move-f64.ensures (moving _ (ap length q ∙ length-copied nan k.operand k.scatter.result s.args.operand.now s.args.into.now) k))
+    (m.move_f64.ensures (moving _ (ap length q ∙ length-copied nan k.operand k.scatter.result s.args.operand.now s.args.into.now) k))
 
 pub move_f64_spec : {M : Type 1} → statement M
 move_f64_spec =

@@ -21,9 +21,9 @@ part-padded-numbers-start c = search rules
 
 part-padded-numbers-end : tie.Need-slice_bounds-padded_numbers-end
 part-padded-numbers-end c =
-    let s : tie.Start = search in
-    let a : tie.After-axis_count-n = search in
-    part-fits a.axis-count.result s.args.l.rank s.args.l.extents a.axis-count.ensures (lengths s).0
+    let s = c in
+    let a = c in
+    part-fits a.axis_count-n.result s.args.l.rank s.args.l.extents a.axis_count-n.ensures (lengths s.before.before.before).0
 
 sub-padded-strides : tie.Need-slice_bounds-padded_strides-count
 sub-padded-strides c = search rules
@@ -33,19 +33,19 @@ part-padded-strides-start c = search rules
 
 part-padded-strides-end : tie.Need-slice_bounds-padded_strides-end
 part-padded-strides-end c =
-    let s : tie.Start = search in
-    let a : tie.After-axis_count-n = search in
-    part-fits a.axis-count.result s.args.l.rank s.args.l.strides a.axis-count.ensures (lengths s).1
+    let s = c in
+    let a = c in
+    part-fits a.axis_count-n.result s.args.l.rank s.args.l.strides a.axis_count-n.ensures (lengths s.before.before.before.before.before).1
 
 returns : tie.Need-returns
 returns c =
-    let s : tie.Start = search in
-    let a : tie.After-axis_count-n = search in
-    let x : tie.After-padded_numbers-es = search in
-    let y : tie.After-padded_strides-ss = search in
-    let r : a.axis-count.result ≡ _ = a.axis-count.ensures ∙ sym (length-take s.args.l.rank s.args.l.extents ∙ omega (arith, (lengths s).0)) in
-    let e = x.padded-numbers.ensures ∙ ap (λ (l : List ℕ). padded rank_limit 1 l) (part-read a.axis-count.result s.args.l.rank s.args.l.extents a.axis-count.ensures (lengths s).0) in
-    let f = y.padded-strides.ensures ∙ ap (λ (l : List ℤ). padded rank_limit (pos 0) l) (part-read a.axis-count.result s.args.l.rank s.args.l.strides a.axis-count.ensures (lengths s).1) in
+    let s = c in
+    let a = c in
+    let x = c in
+    let y = c in
+    let r : a.axis_count-n.result ≡ _ = a.axis_count-n.ensures ∙ sym (length-take s.args.l.rank s.args.l.extents ∙ omega (arith, (lengths s.before.before.before.before.before.before.before).0)) in
+    let e = x.padded_numbers-es.ensures ∙ ap (λ (l : List ℕ). padded rank_limit 1 l) (part-read a.axis_count-n.result s.args.l.rank s.args.l.extents a.axis_count-n.ensures (lengths s.before.before.before.before.before.before.before).0) in
+    let f = y.padded_strides-ss.ensures ∙ ap (λ (l : List ℤ). padded rank_limit (pos 0) l) (part-read a.axis_count-n.result s.args.l.rank s.args.l.strides a.axis_count-n.ensures (lengths s.before.before.before.before.before.before.before).1) in
     λ i. record { rank = r i; extents = e i; strides = f i }
 
 pub held_again_spec : {M : Type 1} → statement M

@@ -10,15 +10,15 @@ use Rattle.operand_plan.proofs.is_compiled.Tie as tie
 
 returns : tie.Need-returns
 returns c =
-    let s : tie.Start = search in
-    let z : tie.After-sizes_of-sizes = search in
-    let h : tie.After-held_again-fresh = search in
-    let d : tie.After-is_done-done = search in
-    let m : tie.After-same_layout-same = search in
-    let r : tie.After-is_compiled-rest = search in
-    let b : tie.After-both = search in
+    let s = c in
+    let z = c in
+    let h = c in
+    let d = c in
+    let m = c in
+    let r = c in
+    let b = c in
     c.both-2.ensures
-    ∙ ap₂ ◌&&◌ (d.is-done.ensures ∙ ap is_done z.sizes-of.ensures) (b.both.ensures ∙ ap₂ ◌&&◌ (m.same_layout.ensures ∙ ap (λ (l : Layout). same_layout s.args.plan.operand l) h.held-again.ensures) r.is-compiled.ensures)
+    ∙ ap₂ ◌&&◌ (d.is_done-done.ensures ∙ ap is_done z.sizes_of-sizes.ensures) (b.both.ensures ∙ ap₂ ◌&&◌ (m.same_layout-same.ensures ∙ ap (λ (l : Layout). same_layout s.args.plan.operand l) h.held_again-fresh.ensures) r.is_compiled-rest.ensures)
     ∙ tests-are s.args.plan s.args.batch-rows s.args.window-rows
 
 pub is_compiled_spec : {M : Type 1} → statement M

@@ -28,21 +28,21 @@ copied s = copy_is s.args.plan s.args.batch-rows s.args.window-rows s.args.opera
 
 move-f64-requires : tie.Need-move_f64-requires
 move-f64-requires c κs =
-    let k : tie.After-copy_by-c = search in
-    let p : tie.After-prepare-p = search in
-    let s : tie.Start = search in
-    movable p.prepare.ensures (λ d. k.copy-by.ensures ∙ ap (copy_by s.args.plan) (back (fits s)) ∙ copied s d)
+    let k = c in
+    let p = c in
+    let s = c in
+    movable p.prepare-p.ensures (λ d. k.copy_by-c.ensures ∙ ap (copy_by s.args.plan) (back (fits s.before.before.before.before.before.before.before)) ∙ copied s.before.before.before.before.before.before.before d)
 
 same_length : tie.Need-shape_of-into
 same_length c = search rules
 
 returns : tie.Need-returns
 returns c =
-    let m : tie.After-move_f64 = search in
-    let k : tie.After-copy_by-c = search in
-    let p : tie.After-prepare-p = search in
-    let s : tie.Start = search in
-    by_answer p.prepare.ensures.answered (m.move-f64.ensures (movable p.prepare.ensures (λ d. k.copy-by.ensures ∙ ap (copy_by s.args.plan) (back (fits s)) ∙ copied s d)))
+    let m = c in
+    let k = c in
+    let p = c in
+    let s = c in
+    by_answer p.prepare-p.ensures.answered (m.move_f64.ensures (movable p.prepare-p.ensures (λ d. k.copy_by-c.ensures ∙ ap (copy_by s.args.plan) (back (fits s.before.before.before.before.before.before.before.before.before.before)) ∙ copied s.before.before.before.before.before.before.before.before.before.before d)))
 
 pub scatter_f64_spec : {M : Type 1} → statement M
 scatter_f64_spec = tie.close (tie.spec (λ c κs. tt) (λ c κs. tt) move-f64-requires same_length returns)

@@ -12,13 +12,13 @@ same-length-2 c = search rules
 
 returns : tie.Need-returns
 returns c =
-    let a : tie.After-scatter_on-north_first = search in
-    let b : tie.After-updates_by-south_second = search in
-    let d : tie.After-scatter_on-south_first = search in
-    let e : tie.After-updates_by-north_second = search in
-    let s : tie.Start = search in
+    let a = c in
+    let b = c in
+    let d = c in
+    let e = c in
+    let s = c in
     in-either-order-on as_is _ _ _ _ _ _ _ s.args.one.now s.args.other.now _ _ _ _ _ _ _ _
-    a.scatter-on.ensures b.updates-by.ensures d.scatter-on2.ensures e.updates-by2.ensures
+    a.scatter_on-north_first.ensures b.updates_by-south_second.ensures d.scatter_on-south_first.ensures e.updates_by-north_second.ensures
 
 pub either_order_on_spec : {M : Type 1} → statement M
 either_order_on_spec =

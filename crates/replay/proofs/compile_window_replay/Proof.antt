@@ -47,10 +47,10 @@ returns c =
     let s = v in
     let x = k.source_span-1.given.0 in
     let y = u.dest_span-1.given.0 in
-    let fa : SFits w64 x.0 = sfits_of k.known_told-1.given.0.1 in
-    let fb : SFits w64 x.1.0 = sfits_of k.known_told-1.given.1.0.1 in
-    let fc : SFits w64 y.0 = sfits_of u.known_told-in-Fits-1.given.0.1 in
-    let fd : SFits w64 y.1.0 = sfits_of u.known_told-in-Fits-1.given.1.0.1 in
+    let fa : SFits w64 x.0 = sfits_of k.in-Fits.known_told-1-own.given.0.1 in
+    let fb : SFits w64 x.1.0 = sfits_of k.in-Fits.known_told-1-own.given.1.0.1 in
+    let fc : SFits w64 y.0 = sfits_of u.in-Fits-dest_span.known_told-in-Fits-1-own.given.0.1 in
+    let fd : SFits w64 y.1.0 = sfits_of u.in-Fits-dest_span.known_told-in-Fits-1-own.given.1.0.1 in
     c.fuse.ensures
     ∙ (λ ι. walk_of (given_axes (take s.args.rank s.args.shape) (take s.args.rank s.args.source-strides) (take s.args.rank s.args.dest-strides)) (the_spans (back fa ι) (back fb ι) (back fc ι) (back fd ι)))
     ∙ passes (take s.args.rank s.args.shape) (take s.args.rank s.args.source-strides) (take s.args.rank s.args.dest-strides) v.held_span-source_span.result v.held_span-dest_span.result v.held_span-source_span.ensures v.held_span-dest_span.ensures x.0 x.1.0 y.0 y.1.0 k.in-Fits.is u.in-Fits-dest_span.is

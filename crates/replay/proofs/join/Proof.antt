@@ -40,11 +40,11 @@ returns c =
     let s = h in
     let a = k.in-Fits.s in
     let b = z.in-Fits-expected_dest.d in
-    let fa : SFits w64 a = sfits_of k.known_told-1.given.0.1 in
-    let fb : SFits w64 b = sfits_of z.known_told-in-Fits-1.given.0.1 in
+    let fa : SFits w64 a = sfits_of k.in-Fits.known_told-1-own.given.0.1 in
+    let fb : SFits w64 b = sfits_of z.in-Fits-expected_dest.known_told-in-Fits-1-own.given.0.1 in
     c.apart.ensures
     ∙ ap₂ (λ (x y : ℤ). as_apart (checked_axis (axis_of s.args.extent x y))) (back s.ranges.source) (back s.ranges.dest)
-    ∙ join_apart s.args.before s.args.extent s.args.source s.args.dest h.past_last-expected_source.result h.past_last-expected_dest.result (expected h.before.before.before.before.before.before.before.before.before) (expected2 h.before.before.before.before.before.before.before.before.before) a b k.in-Fits.is z.in-Fits-expected_dest.is (sym (c.same_i64.ensures ∙ ap₂ eq_z (back s.ranges.source) (back fa)) ∙ not-true _ c.if-not-same_i64.true)
+    ∙ join_apart s.args.before s.args.extent s.args.source s.args.dest h.past_last-expected_source.result h.past_last-expected_dest.result (expected h.before.before.before.before.before.before.before.before.before) (expected2 h.before.before.before.before.before.before.before.before.before) a b k.in-Fits.is z.in-Fits-expected_dest.is (sym (c.same_i64.ensures ∙ ap₂ eq_z (back s.ranges.source) (back fa)) ∙ c.if-not-same_i64.true)
 
 returns-2 : tie.Need-returns-then-not-same_i64-2
 returns-2 c =
@@ -54,11 +54,11 @@ returns-2 c =
     let s = h in
     let a = k.in-Fits.s in
     let b = z.in-Fits-expected_dest.d in
-    let fa : SFits w64 a = sfits_of k.known_told-1.given.0.1 in
-    let fb : SFits w64 b = sfits_of z.known_told-in-Fits-1.given.0.1 in
+    let fa : SFits w64 a = sfits_of k.in-Fits.known_told-1-own.given.0.1 in
+    let fb : SFits w64 b = sfits_of z.in-Fits-expected_dest.known_told-in-Fits-1-own.given.0.1 in
     c.apart-then-not-same_i64-2.ensures
     ∙ ap₂ (λ (x y : ℤ). as_apart (checked_axis (axis_of s.args.extent x y))) (back s.ranges.source) (back s.ranges.dest)
-    ∙ join-apart2 s.args.before s.args.extent s.args.source s.args.dest h.past_last-expected_source.result h.past_last-expected_dest.result (expected h.before.before.before.before.before.before.before.before.before.before.before) (expected2 h.before.before.before.before.before.before.before.before.before.before.before) a b k.in-Fits.is z.in-Fits-expected_dest.is (sym (c.same_i64.ensures ∙ ap₂ eq_z (back s.ranges.source) (back fa)) ∙ not-false _ c.if-not-same_i64.false) (sym (c.same_i64-in-Fits-expected_dest.ensures ∙ ap₂ eq_z (back s.ranges.dest) (back fb)) ∙ not-true _ c.if-not-same_i64-2.true)
+    ∙ join-apart2 s.args.before s.args.extent s.args.source s.args.dest h.past_last-expected_source.result h.past_last-expected_dest.result (expected h.before.before.before.before.before.before.before.before.before.before.before) (expected2 h.before.before.before.before.before.before.before.before.before.before.before) a b k.in-Fits.is z.in-Fits-expected_dest.is (sym (c.same_i64.ensures ∙ ap₂ eq_z (back s.ranges.source) (back fa)) ∙ c.if-not-same_i64.false) (sym (c.same_i64-in-Fits-expected_dest.ensures ∙ ap₂ eq_z (back s.ranges.dest) (back fb)) ∙ c.if-not-same_i64-2.true)
 
 enum_told : tie.Need-enum_told-1
 enum_told c = search rules
@@ -74,11 +74,11 @@ returns-3 c =
     let s = h in
     let a = k.in-Fits.s in
     let b = z.in-Fits-expected_dest.d in
-    let fa : SFits w64 a = sfits_of k.known_told-1.given.0.1 in
-    let fb : SFits w64 b = sfits_of z.known_told-in-Fits-1.given.0.1 in
+    let fa : SFits w64 a = sfits_of k.in-Fits.known_told-1-own.given.0.1 in
+    let fb : SFits w64 b = sfits_of z.in-Fits-expected_dest.known_told-in-Fits-1-own.given.0.1 in
     c.merge.ensures
     ∙ ap₂ (λ (x y : ℤ). as_merged (checked_axis (axis_of (s.args.before.extent * s.args.extent) x y))) (back (source_fits s.before.before.before.before.before.before.before.before.before.before.before.before.before.before.before)) (back (dest-fits s.before.before.before.before.before.before.before.before.before.before.before.before.before.before.before))
-    ∙ join-merge s.args.before s.args.extent s.args.source s.args.dest h.past_last-expected_source.result h.past_last-expected_dest.result (expected h.before.before.before.before.before.before.before.before.before.before.before) (expected2 h.before.before.before.before.before.before.before.before.before.before.before) a b k.in-Fits.is z.in-Fits-expected_dest.is (sym (c.same_i64.ensures ∙ ap₂ eq_z (back s.ranges.source) (back fa)) ∙ not-false _ c.if-not-same_i64.false) (sym (c.same_i64-in-Fits-expected_dest.ensures ∙ ap₂ eq_z (back s.ranges.dest) (back fb)) ∙ not-false _ c.if-not-same_i64-2.false)
+    ∙ join-merge s.args.before s.args.extent s.args.source s.args.dest h.past_last-expected_source.result h.past_last-expected_dest.result (expected h.before.before.before.before.before.before.before.before.before.before.before) (expected2 h.before.before.before.before.before.before.before.before.before.before.before) a b k.in-Fits.is z.in-Fits-expected_dest.is (sym (c.same_i64.ensures ∙ ap₂ eq_z (back s.ranges.source) (back fa)) ∙ c.if-not-same_i64.false) (sym (c.same_i64-in-Fits-expected_dest.ensures ∙ ap₂ eq_z (back s.ranges.dest) (back fb)) ∙ c.if-not-same_i64-2.false)
 
 returns-4 : tie.Need-returns-in-Overflow-expected_dest
 returns-4 c =

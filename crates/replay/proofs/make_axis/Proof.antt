@@ -34,8 +34,8 @@ returns c =
     let s = h in
     let a = k.in-Fits.back in
     let b = c.in-Fits-dest_reset.home in
-    let fa : SFits w64 a = sfits_of k.known_told-1.given.0.1 in
-    let fb : SFits w64 b = sfits_of c.known_told-in-Fits-1.given.0.1 in
+    let fa : SFits w64 a = sfits_of k.in-Fits.known_told-1-own.given.0.1 in
+    let fb : SFits w64 b = sfits_of c.in-Fits-dest_reset.known_told-in-Fits-1-own.given.0.1 in
     made s.args.extent _ s.args.source _ s.args.dest _ a _ b (back s.ranges.source) (back fa) (back s.ranges.dest) (back fb)
     ∙ axis-fits s.args.extent s.args.source s.args.dest a b (sym (h.checked_replay_reset-source_reset.ensures ∙ ap (reset_of s.args.extent) (back s.ranges.source)) ∙ k.in-Fits.is) (sym (h.checked_replay_reset-dest_reset.ensures ∙ ap (reset_of s.args.extent) (back s.ranges.dest)) ∙ c.in-Fits-dest_reset.is)
 

@@ -21,7 +21,7 @@ decreases-loop src dst₀ n at₀ dst at = length dst₀ - at
 
 loop-holds : tie.Need-loop-at-init invariant-loop decreases-loop
 loop-holds c =
-    let a : tie.Start invariant-loop decreases-loop = search in
+    let a = c in
     (omega arith, refl, none _ 0 a.args.dst.now refl)
 
 sub-loop : tie.Need-overflow_sub-n invariant-loop decreases-loop
@@ -62,11 +62,11 @@ loop-less c = omega arith
 
 loop-again : tie.Need-loop-at-preserved invariant-loop decreases-loop
 loop-again c =
-    let b : tie.After-block invariant-loop decreases-loop = search in
-    let h : tie.At-loop-at invariant-loop decreases-loop = search in
-    let a : tie.Start invariant-loop decreases-loop = search in
-    let at = h.loop.at in
-    let e = block_more (pos 0) (rule_i32 R.Replace) a.args.src.now a.args.dst.now h.loop.dst b.block.last.1.0 at block_cells (at + block_cells - at) (omega arith) (omega arith) h.loop.inv.2 b.block.ensures in
+    let b = c in
+    let h = c in
+    let a = c in
+    let at = h.loop-at.at in
+    let e = block_more (pos 0) (rule_i32 R.Replace) a.args.src.now a.args.dst.now h.loop-at.dst b.block.last.1.0 at block_cells (at + block_cells - at) (omega arith) (omega arith) h.loop-at.invariant.2 b.block.ensures in
     (omega arith, ap length e ∙ length-cells (pos 0) (rule_i32 R.Replace) a.args.src.now pos pos (at + block_cells) a.args.dst.now, e)
 
 mul-block-3 : tie.Need-offset_bounds-src-at-2 invariant-loop decreases-loop
@@ -101,13 +101,13 @@ same_length c = search rules
 
 returns : tie.Need-returns invariant-loop decreases-loop
 returns c =
-    let b2 : tie.After-block-2 invariant-loop decreases-loop = search in
-    let h : tie.At-loop-at invariant-loop decreases-loop = search in
-    let a : tie.Start invariant-loop decreases-loop = search in
-    let at = h.loop.at in
+    let b2 = c in
+    let h = c in
+    let a = c in
+    let at = h.loop-at.at in
     let n = length a.args.dst.now in
     let e : at + (n - at) ≡ n = omega arith in
-    block_more (pos 0) (rule_i32 R.Replace) a.args.src.now a.args.dst.now h.loop.dst b2.block2.last.1.0 at (n - at) (n - at) refl (omega arith) h.loop.inv.2 b2.block2.ensures
+    block_more (pos 0) (rule_i32 R.Replace) a.args.src.now a.args.dst.now h.loop-at.dst b2.block-2.last.1.0 at (n - at) (n - at) refl (omega arith) h.loop-at.invariant.2 b2.block-2.ensures
     ∙ ap (λ (m : ℕ). in_order (cell_at (pos 0) (rule_i32 R.Replace) a.args.src.now pos pos) m a.args.dst.now) e
 
 pub copies_spec : {M : Type 1} → statement M

@@ -17,19 +17,19 @@ to : (a : tie.Start) → Part a.args.d a.args.n (length a.args.dst.now)
 to a = part_of _ _ _ a.requires.1.dest a.requires.0 (omega (arith, a.well_formed.1.1.0.1))
 
 cast-a : tie.Need-overflow_cast-a
-cast-a c = let a : tie.Start = search in (from a).cast
+cast-a c = let a = c in (from a).cast
 
 cast-b : tie.Need-overflow_cast-b
-cast-b c = let a : tie.Start = search in (to a).cast
+cast-b c = let a = c in (to a).cast
 
 add-e : tie.Need-overflow_add-e
-add-e c = let a : tie.Start = search in omega (arith, (from a).room, a.good.1.0.1)
+add-e c = let a = c in omega (arith, (from a).room, a.well_formed.1.0.1)
 
 add-f : tie.Need-overflow_add-f
-add-f c = let a : tie.Start = search in omega (arith, (to a).room, a.good.1.1.0.1)
+add-f c = let a = c in omega (arith, (to a).room, a.well_formed.1.1.0.1)
 
 mul-copied : tie.Need-offset_bounds-src-a
-mul-copied c = let a : tie.Start = search in omega (arith, (from a).room, a.good.1.0.1)
+mul-copied c = let a = c in omega (arith, (from a).room, a.well_formed.1.0.1)
 
 sub-copied : tie.Need-slice_bounds-copied-count
 sub-copied c = search rules
@@ -38,10 +38,10 @@ part-copied-start : tie.Need-slice_bounds-copied-start
 part-copied-start c = search rules
 
 part-copied-end : tie.Need-slice_bounds-copied-end
-part-copied-end c = let a : tie.Start = search in (from a).room
+part-copied-end c = let a = c in (from a).room
 
 mul-copied-2 : tie.Need-offset_bounds-dst-b
-mul-copied-2 c = let a : tie.Start = search in omega (arith, (to a).room, a.good.1.1.0.1)
+mul-copied-2 c = let a = c in omega (arith, (to a.before).room, a.well_formed.1.1.0.1)
 
 sub-copied-2 : tie.Need-slice_bounds-copied-count-2
 sub-copied-2 c = search rules
@@ -50,7 +50,7 @@ part-copied-start-2 : tie.Need-slice_bounds-copied-start-2
 part-copied-start-2 c = search rules
 
 part-copied-end-2 : tie.Need-slice_bounds-copied-end-2
-part-copied-end-2 c = let a : tie.Start = search in (to a).room
+part-copied-end-2 c = let a = c in (to a.before).room
 
 copied-requires : tie.Need-copied-requires
 copied-requires c κs = search rules
@@ -59,11 +59,11 @@ same_length : tie.Need-shape_of-dst
 same_length c = search rules
 
 returns : tie.Need-returns
-returns c = let a : tie.Start = search in
-    let o : tie.After-copied = search in
+returns c = let a = c in
+    let o = c in
     let x : ℕ = nat_abs (read a.args.s) in
     let y : ℕ = nat_abs (read a.args.d) in
-    part-run (pos 0) (rule_i32 R.Replace) a.args.src.now a.args.dst.now _ a.args.s a.args.d x y a.args.n (x + a.args.n - x) (y + a.args.n - y) (omega arith) (omega arith) (from a).is (to a).is (to a).room o.copied.ensures
+    part-run (pos 0) (rule_i32 R.Replace) a.args.src.now a.args.dst.now _ a.args.s a.args.d x y a.args.n (x + a.args.n - x) (y + a.args.n - y) (omega arith) (omega arith) (from a.before.before.before.before).is (to a.before.before.before.before).is (to a.before.before.before.before).room o.copied.ensures
 
 pub copy_row_spec : {M : Type 1} → statement M
 copy_row_spec =

@@ -33,7 +33,7 @@ to d = let a = start d in step _ _ a.args.n _ a.fits.d a.fits.ds a.pre.dest (ome
 
 loop-holds : tie.Need-loop-i-init invariant-loop decreases-loop
 loop-holds c =
-    let a : tie.Start invariant-loop decreases-loop = search in
+    let a = c in
     (omega arith, refl, none _ 0 a.args.dst.now refl)
 
 cast-k : tie.Need-overflow_cast-k invariant-loop decreases-loop
@@ -58,31 +58,31 @@ cast-b : tie.Need-overflow_cast-b invariant-loop decreases-loop
 cast-b c = (to c).cast
 
 mul_apply : tie.Need-offset_bounds-dst-b invariant-loop decreases-loop
-mul_apply c = let a : tie.Start invariant-loop decreases-loop = search in omega (arith, (to c).below, a.good.1.1.0.1)
+mul_apply c = let a = c in omega (arith, (to c).below, a.well_formed.1.1.0.1)
 
 slice-copy-out-apply : tie.Need-slice_copy_out-apply invariant-loop decreases-loop
 slice-copy-out-apply c =
-    let d : tie.In-loop-i invariant-loop decreases-loop = search in
-    let h : tie.At-loop-i invariant-loop decreases-loop = search in
-    omega (arith, (to d).below, h.loop.inv.1)
+    let d = c in
+    let h = c in
+    omega (arith, (to d).below, h.loop-i.invariant.1)
 
 mul-apply-2 : tie.Need-offset_bounds-src-a invariant-loop decreases-loop
 mul-apply-2 c =
-    let a : tie.Start invariant-loop decreases-loop = search in
+    let a = c in
     let d = c in
-    omega (arith, (from d.before).below, a.good.1.0.1)
+    omega (arith, (from d.before).below, a.well_formed.1.0.1)
 
 shared-slice-copy-out-apply : tie.Need-bounds-src-a invariant-loop decreases-loop
-shared-slice-copy-out-apply c = let d : tie.In-loop-i invariant-loop decreases-loop = search in (from d).below
+shared-slice-copy-out-apply c = let d = c in (from d.before).below
 
 apply-requires : tie.Need-apply-v-requires invariant-loop decreases-loop
 apply-requires c κs = tt
 
 mul-v : tie.Need-offset_bounds-dst-b-in-loop-i invariant-loop decreases-loop
 mul-v c =
-    let a : tie.Start invariant-loop decreases-loop = search in
+    let a = c in
     let d = c in
-    omega (arith, (to d.before.before.before).below, a.good.1.1.0.1)
+    omega (arith, (to d.before.before.before).below, a.well_formed.1.1.0.1)
 
 slice-set-from-v : tie.Need-bounds-dst-b invariant-loop decreases-loop
 slice-set-from-v c = let d = c in omega (arith, (to d.before.before.before).below, d.loop-i.invariant.1)
@@ -97,7 +97,7 @@ loop-again : tie.Need-loop-i-preserved invariant-loop decreases-loop
 loop-again c =
     let d = c in
     let h = d in
-    let a : tie.Start invariant-loop decreases-loop = search in (
+    let a = c in (
       omega arith,
       length-set h.loop-i.dst _ _ ∙ h.loop-i.invariant.1,
       turn (pos 0) (rule_i32 a.args.rule) a.args.src.now a.args.s a.args.d a.args.ss a.args.ds a.args.dst.now h.loop-i.dst h.loop-i.i _ _ _ h.loop-i.invariant.2 (from d.before.before.before) (to d.before.before.before)
@@ -110,8 +110,8 @@ same_length c = c.loop-i.invariant.1
 returns : tie.Need-returns invariant-loop decreases-loop
 returns c =
     let h = c in
-    let a : tie.Start invariant-loop decreases-loop = search in
-    ends (pos 0) (rule_i32 a.args.rule) a.args.src.now a.args.s a.args.d a.args.ss a.args.ds h.loop-i.i a.args.n a.args.dst.now h.loop-i.dst a.fits.s a.fits.d a.fits.ss a.fits.ds (omega arith) h.loop-i.invariant.2
+    let a = c in
+    ends (pos 0) (rule_i32 a.args.rule) a.args.src.now a.args.s a.args.d a.args.ss a.args.ds h.loop-i.i a.args.n a.args.dst.now h.loop-i.dst a.ranges.s a.ranges.d a.ranges.ss a.ranges.ds (omega arith) h.loop-i.invariant.2
 
 pub strided_spec : {M : Type 1} → statement M
 strided_spec =

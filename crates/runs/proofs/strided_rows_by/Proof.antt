@@ -31,7 +31,7 @@ to d = let a = start d in move-dest _ _ _ _ _ _ _ _ _ _ a.pre _ d.loop-j-test.tr
 
 loop-holds : tie.Need-loop-j-init invariant-loop decreases-loop
 loop-holds c =
-    let a : tie.Start invariant-loop decreases-loop = search in
+    let a = c in
     (omega arith, refl, none _ 0 a.args.dst.now refl)
 
 cast-k : tie.Need-overflow_cast-k invariant-loop decreases-loop
@@ -52,24 +52,24 @@ add-strided-2 c = (to c.before).step.fits
 strided-requires : tie.Need-strided-requires invariant-loop decreases-loop
 strided-requires c κs =
     let d = c in
-    let a : tie.Start invariant-loop decreases-loop = search in
+    let a = c in
     record { source = (from d.before).run; dest = subst (Line (machine a.args.d a.args.dt d.loop-j.j) (read a.args.ds) a.args.n) (sym d.loop-j.invariant.1) (to d.before).run }
 
 add-j : tie.Need-overflow_add-j invariant-loop decreases-loop
-add-j c = let a : tie.Start invariant-loop decreases-loop = search in omega (arith, a.pre.few)
+add-j c = let a = c in omega (arith, a.requires.few)
 
 loop-less : tie.Need-loop-j-smaller invariant-loop decreases-loop
 loop-less c = omega arith
 
 loop-again : tie.Need-loop-j-preserved invariant-loop decreases-loop
 loop-again c =
-    let s : tie.After-strided invariant-loop decreases-loop = search in
-    let d : tie.In-loop-j invariant-loop decreases-loop = search in
+    let s = c in
+    let d = c in
     let h = d.before in
-    let a : tie.Start invariant-loop decreases-loop = search in (
+    let a = c in (
       omega arith,
       s.strided.kept.1.1.0 ∙ h.loop.inv.1,
-      runs-more (pos 0) (rule_i32 a.args.rule) a.args.src.now a.args.s a.args.d a.args.ss a.args.ds a.args.st a.args.dt a.args.n h.loop.j _ _ a.args.dst.now h.loop.dst _ h.loop.inv.2 (from d) (to d) s.strided.ensures,
+      runs-more (pos 0) (rule_i32 a.args.rule) a.args.src.now a.args.s a.args.d a.args.ss a.args.ds a.args.st a.args.dt a.args.n h.loop.j _ _ a.args.dst.now h.loop.dst _ h.loop.inv.2 (from d.before.before.before) (to d.before.before.before) s.strided.ensures,
     )
 
 same_length : tie.Need-shape_of-dst invariant-loop decreases-loop
@@ -78,8 +78,8 @@ same_length c = c.loop-j.invariant.1
 returns : tie.Need-returns invariant-loop decreases-loop
 returns c =
     let h = c in
-    let a : tie.Start invariant-loop decreases-loop = search in
-    runs-end (pos 0) (rule_i32 a.args.rule) a.args.src.now a.args.s a.args.d a.args.ss a.args.ds a.args.st a.args.dt a.args.n h.loop-j.j a.args.m a.args.dst.now h.loop-j.dst a.fits.s a.fits.d a.fits.ss a.fits.ds a.fits.st a.fits.dt (omega arith) h.loop-j.invariant.2
+    let a = c in
+    runs-end (pos 0) (rule_i32 a.args.rule) a.args.src.now a.args.s a.args.d a.args.ss a.args.ds a.args.st a.args.dt a.args.n h.loop-j.j a.args.m a.args.dst.now h.loop-j.dst a.ranges.s a.ranges.d a.ranges.ss a.ranges.ds a.ranges.st a.ranges.dt (omega arith) h.loop-j.invariant.2
 
 pub strided_rows_by_spec : {M : Type 1} → statement M
 strided_rows_by_spec =

@@ -41,14 +41,14 @@ returns-4 : tie.Need-returns-then-not-all_few
 returns-4 c = let f = c in
     let a = few f in
     let z = f in
-    tested a _ (few-no a.args.rank a.args.extents a.args.ss a.args.ds a.args.s a.args.d a.args.sn a.args.dn z.if-rank-eq0.false z.if-rank-gt-RAW_FUSED_RANK_LIMIT.false (sym z.has_zero.ensures ∙ f.if-has_zero.false) (sym f.all_few.ensures ∙ not-true _ c.if-not-all_few.true))
+    tested a _ (few-no a.args.rank a.args.extents a.args.ss a.args.ds a.args.s a.args.d a.args.sn a.args.dn z.if-rank-eq0.false z.if-rank-gt-RAW_FUSED_RANK_LIMIT.false (sym z.has_zero.ensures ∙ f.if-has_zero.false) (sym f.all_few.ensures ∙ c.if-not-all_few.true))
 
 returns-5 : tie.Need-returns-then-not-inside
 returns-5 c = let t = c in
     let f = t in
     let a = few f in
     let z = f in
-    tested a _ (source-no a.args.rank a.args.extents a.args.ss a.args.ds a.args.s a.args.d a.args.sn a.args.dn z.if-rank-eq0.false z.if-rank-gt-RAW_FUSED_RANK_LIMIT.false (sym z.has_zero.ensures ∙ f.if-has_zero.false) (sym f.all_few.ensures ∙ not-false _ t.if-not-all_few.false) (source t.before ∙ not-true _ c.if-not-inside.true))
+    tested a _ (source-no a.args.rank a.args.extents a.args.ss a.args.ds a.args.s a.args.d a.args.sn a.args.dn z.if-rank-eq0.false z.if-rank-gt-RAW_FUSED_RANK_LIMIT.false (sym z.has_zero.ensures ∙ f.if-has_zero.false) (sym f.all_few.ensures ∙ t.if-not-all_few.false) (source t.before ∙ c.if-not-inside.true))
 
 returns-6 : tie.Need-returns
 returns-6 c = let t = c in
@@ -57,7 +57,7 @@ returns-6 c = let t = c in
     let z = f in
     tested a _ (c.inside-2.ensures
     ∙ ap (λ (z : ℤ). covers (take a.args.rank a.args.extents) (take a.args.rank a.args.ds) z a.args.dn) (back a.fits.d)
-    ∙ source-yes a.args.rank a.args.extents a.args.ss a.args.ds a.args.s a.args.d a.args.sn a.args.dn z.if-rank-eq0.false z.if-rank-gt-RAW_FUSED_RANK_LIMIT.false (sym z.has_zero.ensures ∙ f.if-has_zero.false) (sym f.all_few.ensures ∙ not-false _ t.if-not-all_few.false) (source t.before.before ∙ not-false _ c.if-not-inside.false))
+    ∙ source-yes a.args.rank a.args.extents a.args.ss a.args.ds a.args.s a.args.d a.args.sn a.args.dn z.if-rank-eq0.false z.if-rank-gt-RAW_FUSED_RANK_LIMIT.false (sym z.has_zero.ensures ∙ f.if-has_zero.false) (sym f.all_few.ensures ∙ t.if-not-all_few.false) (source t.before.before ∙ c.if-not-inside.false))
 
 pub accepts_spec : {M : Type 1} → statement M
 accepts_spec =

@@ -44,7 +44,7 @@ accepts-requires : tie.Need-accepts-requires invariant-loop decreases-loop
 accepts-requires c κs = tt
 
 returns : tie.Need-returns-then-not-accepts invariant-loop decreases-loop
-returns c = refused _ _ _ _ (test-is c.before ∙ not-true _ c.if-not-accepts.true)
+returns c = refused _ _ _ _ (test-is c.before ∙ c.if-not-accepts.true)
 
 rule-f64-requires : tie.Need-rule_f64-rule-requires invariant-loop decreases-loop
 rule-f64-requires c κs = tt
@@ -54,11 +54,11 @@ loop-holds c = (omega arith, refl, none _ 0 _ refl)
 
 plane-requires : tie.Need-plane-requires invariant-loop decreases-loop
 plane-requires c κs =
-    let e : tie.Else-not-accepts invariant-loop decreases-loop = search in
-    let h : tie.At-loop-i invariant-loop decreases-loop = search in
+    let e = c in
+    let h = c in
     let a = start e.before in
     simp (back a.fits.s, back a.fits.d, back a.fits.ss, back a.fits.ds)
-    (subst (Plane a.args.s a.args.d a.args.ss a.args.ds (pos 0) (pos 0) a.args.n 1 (length a.args.src.now)) (sym h.loop.inv.1) (accepted-plane a.args.n a.args.ss a.args.ds a.args.s a.args.d _ _ (passed e)))
+    (subst (Plane a.args.s a.args.d a.args.ss a.args.ds (pos 0) (pos 0) a.args.n 1 (length a.args.src.now)) (sym h.loop-i.invariant.1) (accepted-plane a.args.n a.args.ss a.args.ds a.args.s a.args.d _ _ (passed e)))
 
 add-i : tie.Need-overflow_add-i invariant-loop decreases-loop
 add-i c = omega arith
@@ -68,14 +68,14 @@ loop-less c = omega arith
 
 loop-again : tie.Need-loop-i-preserved invariant-loop decreases-loop
 loop-again c =
-    let r : tie.After-plane invariant-loop decreases-loop = search in
-    let h : tie.At-loop-i invariant-loop decreases-loop = search in
-    let e : tie.Else-not-accepts invariant-loop decreases-loop = search in
-    let k : tie.After-rule_f64-rule invariant-loop decreases-loop = search in
+    let r = c in
+    let h = c in
+    let e = c in
+    let k = c in
     let a = start e.before in (
       omega arith,
-      r.plane.kept.1.1.0 ∙ h.loop.inv.1,
-      more _ h.loop.i _ h.loop.dst _ h.loop.inv.2 (r.plane.ensures ∙ one-row nan (rule_f64 k.rule-f64.result) a.args.src.now (read a.args.s) (read a.args.d) (read a.args.ss) (read a.args.ds) (pos 0) (pos 0) a.args.n h.loop.dst),
+      r.plane.kept.1.1.0 ∙ h.loop-i.invariant.1,
+      more _ h.loop-i.i _ h.loop-i.dst _ h.loop-i.invariant.2 (r.plane.ensures ∙ one-row nan (rule_f64 k.rule_f64-rule.result) a.args.src.now (read a.args.s) (read a.args.d) (read a.args.ss) (read a.args.ds) (pos 0) (pos 0) a.args.n h.loop-i.dst),
     )
 
 same_length : tie.Need-shape_of-dst invariant-loop decreases-loop
@@ -83,11 +83,11 @@ same_length c = c.loop-i.invariant.1
 
 returns-2 : tie.Need-returns invariant-loop decreases-loop
 returns-2 c =
-    let e : tie.Else-not-accepts invariant-loop decreases-loop = search in
-    let r : tie.After-rule_f64-rule invariant-loop decreases-loop = search in
+    let e = c in
+    let r = c in
     let h = c in
     let a = start e.before in
-    ran _ _ _ _ h.loop-i.dst h.loop-i.i (passed e) (omega arith) (runs_by nan rule_f64 a.args.src.now _ _ a.args.s a.args.d r.rule-f64.ensures a.fits.s a.fits.d h.loop-i.i a.args.dst.now h.loop-i.dst a.args.ss a.args.ds a.args.n a.fits.ss a.fits.ds h.loop-i.invariant.2)
+    ran _ _ _ _ h.loop-i.dst h.loop-i.i (passed e) (omega arith) (runs_by nan rule_f64 a.args.src.now _ _ a.args.s a.args.d r.rule_f64-rule.ensures a.fits.s a.fits.d h.loop-i.i a.args.dst.now h.loop-i.dst a.args.ss a.args.ds a.args.n a.fits.ss a.fits.ds h.loop-i.invariant.2)
 
 pub bench_run_f64_spec : {M : Type 1} → statement M
 bench_run_f64_spec =

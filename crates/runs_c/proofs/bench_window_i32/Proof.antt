@@ -39,7 +39,7 @@ accepts-requires : tie.Need-accepts-requires invariant-loop decreases-loop
 accepts-requires c κs = tt
 
 returns : tie.Need-returns-then-not-accepts invariant-loop decreases-loop
-returns c = refused _ _ _ _ (test-is c.before ∙ not-true _ c.if-not-accepts.true)
+returns c = refused _ _ _ _ (test-is c.before ∙ c.if-not-accepts.true)
 
 rule-i32-requires : tie.Need-rule_i32-rule-requires invariant-loop decreases-loop
 rule-i32-requires c κs = tt
@@ -49,19 +49,19 @@ loop-holds c = (omega arith, refl, none _ 0 _ refl)
 
 run-axis-requires : tie.Need-run_axis-low-requires invariant-loop decreases-loop
 run-axis-requires c κs =
-    let e : tie.Else-not-accepts invariant-loop decreases-loop = search in
-    let p = e.before.accepts.ensures in
+    let e = c in
+    let p = e.accepts.ensures in
     (accepted-some _ _ _ _ _ _ _ _ p.shape-long p.source-long p.dest-long (passed e), (accepted-window _ _ _ _ _ _ _ _ p.shape-long p.source-long p.dest-long (passed e)).small)
 
 axes-requires : tie.Need-axes-requires invariant-loop decreases-loop
 axes-requires c κs =
-    let e : tie.Else-not-accepts invariant-loop decreases-loop = search in
-    let h : tie.At-loop-i invariant-loop decreases-loop = search in
-    let l : tie.After-run_axis-low invariant-loop decreases-loop = search in
-    let p = e.before.accepts.ensures in
+    let e = c in
+    let h = c in
+    let l = c in
+    let p = e.accepts.ensures in
     let a = start e.before in
-    subst (Level (read a.args.s) (read a.args.d) a.args.extents.now a.args.ss.now a.args.ds.now l.run-axis.result a.args.rank (length a.args.src.now)) (sym h.loop.inv.1)
-    (accepted-level _ _ _ _ _ _ _ _ p.shape-long p.source-long p.dest-long (passed e) l.run-axis.result l.run-axis.ensures.below l.run-axis.ensures.units a.fits.s a.fits.d)
+    subst (Level (read a.args.s) (read a.args.d) a.args.extents.now a.args.ss.now a.args.ds.now l.run_axis-low.result a.args.rank (length a.args.src.now)) (sym h.loop-i.invariant.1)
+    (accepted-level _ _ _ _ _ _ _ _ p.shape-long p.source-long p.dest-long (passed e) l.run_axis-low.result l.run_axis-low.ensures.below l.run_axis-low.ensures.units a.fits.s a.fits.d)
 
 add-i : tie.Need-overflow_add-i invariant-loop decreases-loop
 add-i c = omega arith
@@ -71,11 +71,11 @@ loop-less c = omega arith
 
 loop-again : tie.Need-loop-i-preserved invariant-loop decreases-loop
 loop-again c =
-    let r : tie.After-axes invariant-loop decreases-loop = search in
-    let h : tie.At-loop-i invariant-loop decreases-loop = search in (
+    let r = c in
+    let h = c in (
       omega arith,
-      r.axes.kept.1.1.0 ∙ h.loop.inv.1,
-      more _ h.loop.i _ h.loop.dst _ h.loop.inv.2 r.axes.ensures,
+      r.axes.kept.1.1.0 ∙ h.loop-i.invariant.1,
+      more _ h.loop-i.i _ h.loop-i.dst _ h.loop-i.invariant.2 r.axes.ensures,
     )
 
 same_length : tie.Need-shape_of-dst invariant-loop decreases-loop
@@ -83,11 +83,11 @@ same_length c = c.loop-i.invariant.1
 
 returns-2 : tie.Need-returns invariant-loop decreases-loop
 returns-2 c =
-    let e : tie.Else-not-accepts invariant-loop decreases-loop = search in
-    let r : tie.After-rule_i32-rule invariant-loop decreases-loop = search in
+    let e = c in
+    let r = c in
     let h = c in
     let a = start e.before in
-    ran _ _ _ _ h.loop-i.dst h.loop-i.i (passed e) (omega arith) (windows-by (pos 0) rule_i32 a.args.src.now _ _ a.args.s a.args.d r.rule-i32.ensures a.fits.s a.fits.d h.loop-i.i a.args.dst.now h.loop-i.dst a.args.extents.now a.args.ss.now a.args.ds.now a.args.rank h.loop-i.invariant.2)
+    ran _ _ _ _ h.loop-i.dst h.loop-i.i (passed e) (omega arith) (windows-by (pos 0) rule_i32 a.args.src.now _ _ a.args.s a.args.d r.rule_i32-rule.ensures a.fits.s a.fits.d h.loop-i.i a.args.dst.now h.loop-i.dst a.args.extents.now a.args.ss.now a.args.ds.now a.args.rank h.loop-i.invariant.2)
 
 pub bench_window_i32_spec : {M : Type 1} → statement M
 bench_window_i32_spec =

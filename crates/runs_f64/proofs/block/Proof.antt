@@ -32,8 +32,8 @@ part-each-start c = search rules
 
 part-each-end : tie.Need-slice_bounds-each-end
 part-each-end c =
-    let a : tie.Start = search in
-    room (replicate block_cells (of_bits binary64 0)) c.each.new.1.1.0 (length a.args.dst.now) (length a.args.dst.now - 0) c.each.auto.1.1.0 a.pre.1
+    let a = c in
+    room (replicate block_cells (of_bits binary64 0)) c.each.new.1.1.0 (length a.args.dst.now) (length a.args.dst.now - 0) c.each.auto.1.1.0 a.requires.1
 
 each-requires-2 : tie.Need-each-requires-2
 each-requires-2 c κs = search rules
@@ -43,11 +43,11 @@ same_length c = search rules
 
 returns : tie.Need-returns
 returns c =
-    let e2 : tie.After-each-2 = search in
-    let b : tie.After-each = search in
-    let a : tie.Start = search in
+    let e2 = c in
+    let b = c in
+    let a = c in
     let n = length a.args.dst.now in
-    by_way nan (rule_f64 R.Replace) (λ x u. refl) a.args.src.now a.args.dst.now (replicate block_cells (of_bits binary64 0)) b.each.last.1.1.0 _ (n - 0) (omega arith) a.pre.0 a.pre.1 b.each.ensures e2.each2.ensures
+    by_way nan (rule_f64 R.Replace) (λ x u. refl) a.args.src.now a.args.dst.now (replicate block_cells (of_bits binary64 0)) b.each.last.1.1.0 _ (n - 0) (omega arith) a.requires.0 a.requires.1 b.each.ensures e2.each-2.ensures
 
 pub block_spec : {M : Type 1} → statement M
 block_spec =

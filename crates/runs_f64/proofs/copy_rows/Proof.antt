@@ -54,24 +54,24 @@ add-copy-row-2 c = (to c.before).step.fits
 copy-row-requires : tie.Need-copy_row-requires invariant-loop decreases-loop
 copy-row-requires c κs =
     let d = c in
-    let a : tie.Start invariant-loop decreases-loop = search in
-    (a.pre.some, record { source = (from d.before).run; dest = subst (Line (machine a.args.d a.args.dt d.loop-j.j) (pos 1) a.args.n) (sym d.loop-j.invariant.1) (to d.before).run })
+    let a = c in
+    (a.requires.some, record { source = (from d.before).run; dest = subst (Line (machine a.args.d a.args.dt d.loop-j.j) (pos 1) a.args.n) (sym d.loop-j.invariant.1) (to d.before).run })
 
 add-j : tie.Need-overflow_add-j invariant-loop decreases-loop
-add-j c = let a : tie.Start invariant-loop decreases-loop = search in omega (arith, a.pre.few)
+add-j c = let a = c in omega (arith, a.requires.few)
 
 loop-less : tie.Need-loop-j-smaller invariant-loop decreases-loop
 loop-less c = omega arith
 
 loop-again : tie.Need-loop-j-preserved invariant-loop decreases-loop
 loop-again c =
-    let r : tie.After-copy_row invariant-loop decreases-loop = search in
-    let d : tie.In-loop-j invariant-loop decreases-loop = search in
+    let r = c in
+    let d = c in
     let h = d.before in
-    let a : tie.Start invariant-loop decreases-loop = search in (
+    let a = c in (
       omega arith,
-      r.copy-row.kept.1.0 ∙ h.loop.inv.1,
-      runs-more nan (rule_f64 R.Replace) a.args.src.now a.args.s a.args.d (pos 1) (pos 1) a.args.st a.args.dt a.args.n h.loop.j _ _ a.args.dst.now h.loop.dst _ h.loop.inv.2 (from d) (to d) r.copy-row.ensures,
+      r.copy_row.kept.1.0 ∙ h.loop.inv.1,
+      runs-more nan (rule_f64 R.Replace) a.args.src.now a.args.s a.args.d (pos 1) (pos 1) a.args.st a.args.dt a.args.n h.loop.j _ _ a.args.dst.now h.loop.dst _ h.loop.inv.2 (from d.before.before.before.before) (to d.before.before.before.before) r.copy_row.ensures,
     )
 
 same_length : tie.Need-shape_of-dst invariant-loop decreases-loop
@@ -80,8 +80,8 @@ same_length c = c.loop-j.invariant.1
 returns : tie.Need-returns invariant-loop decreases-loop
 returns c =
     let h = c in
-    let a : tie.Start invariant-loop decreases-loop = search in
-    runs-end nan (rule_f64 R.Replace) a.args.src.now a.args.s a.args.d (pos 1) (pos 1) a.args.st a.args.dt a.args.n h.loop-j.j a.args.m a.args.dst.now h.loop-j.dst a.fits.s a.fits.d (sfits_lit {z = pos 1} tt) (sfits_lit {z = pos 1} tt) a.fits.st a.fits.dt (omega arith) h.loop-j.invariant.2
+    let a = c in
+    runs-end nan (rule_f64 R.Replace) a.args.src.now a.args.s a.args.d (pos 1) (pos 1) a.args.st a.args.dt a.args.n h.loop-j.j a.args.m a.args.dst.now h.loop-j.dst a.ranges.s a.ranges.d (sfits_lit {z = pos 1} tt) (sfits_lit {z = pos 1} tt) a.ranges.st a.ranges.dt (omega arith) h.loop-j.invariant.2
 
 pub copy_rows_spec : {M : Type 1} → statement M
 copy_rows_spec =

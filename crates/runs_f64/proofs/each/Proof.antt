@@ -21,7 +21,7 @@ decreases-loop rule src dst₀ at₀ dst at = length dst₀ - at
 
 loop-holds : tie.Need-loop-at-init invariant-loop decreases-loop
 loop-holds c =
-    let a : tie.Start invariant-loop decreases-loop = search in
+    let a = c in
     (omega arith, refl, none _ 0 a.args.dst.now refl)
 
 mul-apply-f64 : tie.Need-offset_bounds-dst-at invariant-loop decreases-loop
@@ -54,7 +54,7 @@ loop-less c = omega arith
 loop-again : tie.Need-loop-at-preserved invariant-loop decreases-loop
 loop-again c =
     let h = c in
-    let a : tie.Start invariant-loop decreases-loop = search in
+    let a = c in
     let i = h.loop-at.at in (
       omega arith,
       length-set h.loop-at.dst _ _ ∙ h.loop-at.invariant.1,
@@ -68,7 +68,7 @@ same_length c = c.loop-at.invariant.1
 returns : tie.Need-returns invariant-loop decreases-loop
 returns c =
     let h = c in
-    let a : tie.Start invariant-loop decreases-loop = search in
+    let a = c in
     let e : h.loop-at.at ≡ length a.args.dst.now = omega arith in
     h.loop-at.invariant.2 ∙ ap (λ (m : ℕ). in_order (cell_at nan (rule_f64 a.args.rule) a.args.src.now pos pos) m a.args.dst.now) e
 

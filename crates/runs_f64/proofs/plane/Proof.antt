@@ -10,18 +10,18 @@ use Rattle.runs_f64.proofs.plane.Tie as tie
 rows-requires : tie.Need-rows-requires
 rows-requires c κs =
     let t = c in
-    let a : tie.Start = search in
-    rows-ask _ _ a.fits.ss a.fits.ds t.if-ss-eq1.true t.if-ds-eq1.true _ _ _ _ _ _ _ _ a.fits.s a.fits.d a.fits.st a.fits.dt a.pre
+    let a = c in
+    rows-ask _ _ a.ranges.ss a.ranges.ds t.if-ss-eq1.true t.if-ds-eq1.true _ _ _ _ _ _ _ _ a.ranges.s a.ranges.d a.ranges.st a.ranges.dt a.requires
 
 same_length : tie.Need-shape_of-dst-then-ds-eq1
 same_length c = search rules
 
 returns : tie.Need-returns-then-ds-eq1
 returns c =
-    let r : tie.After-rows = search in
-    let t : tie.Then-ds-eq1 = search in
-    let a : tie.Start = search in
-    rows_end a.args.ss a.args.ds a.fits.ss a.fits.ds t.before.if1.taken t.if2.taken nan (rule_f64 a.args.rule) a.args.src.now a.args.s a.args.d a.args.st a.args.dt a.args.n a.args.m a.args.dst.now _ a.fits.s a.fits.d a.fits.st a.fits.dt r.rows.ensures
+    let r = c in
+    let t = c in
+    let a = c in
+    rows_end a.args.ss a.args.ds a.ranges.ss a.ranges.ds t.if-ss-eq1.true t.if-ds-eq1.true nan (rule_f64 a.args.rule) a.args.src.now a.args.s a.args.d a.args.st a.args.dt a.args.n a.args.m a.args.dst.now _ a.ranges.s a.ranges.d a.ranges.st a.ranges.dt r.rows.ensures
 
 strided-rows-requires : tie.Need-strided_rows-requires
 strided-rows-requires c κs = search rules
@@ -31,9 +31,9 @@ same-length-2 c = search rules
 
 returns-2 : tie.Need-returns
 returns-2 c =
-    let s : tie.After-strided_rows = search in
-    let a : tie.Start = search in
-    runs-end nan (rule_f64 a.args.rule) a.args.src.now a.args.s a.args.d a.args.ss a.args.ds a.args.st a.args.dt a.args.n a.args.m a.args.m a.args.dst.now s.strided-rows.last.1.1.0 a.fits.s a.fits.d a.fits.ss a.fits.ds a.fits.st a.fits.dt refl s.strided-rows.ensures
+    let s = c in
+    let a = c in
+    runs-end nan (rule_f64 a.args.rule) a.args.src.now a.args.s a.args.d a.args.ss a.args.ds a.args.st a.args.dt a.args.n a.args.m a.args.m a.args.dst.now s.strided_rows.last.1.1.0 a.ranges.s a.ranges.d a.ranges.ss a.ranges.ds a.ranges.st a.ranges.dt refl s.strided_rows.ensures
 
 pub plane_spec : {M : Type 1} → statement M
 plane_spec =

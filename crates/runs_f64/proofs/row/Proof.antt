@@ -18,19 +18,19 @@ to : (a : tie.Start) → Part a.args.d a.args.n (length a.args.dst.now)
 to a = part_of _ _ _ a.requires.1.dest a.requires.0 (omega (arith, a.well_formed.1.1.0.1))
 
 cast-a : tie.Need-overflow_cast-a
-cast-a c = let a : tie.Start = search in (from a).cast
+cast-a c = let a = c in (from a.before.before).cast
 
 cast-b : tie.Need-overflow_cast-b
-cast-b c = let a : tie.Start = search in (to a).cast
+cast-b c = let a = c in (to a.before.before).cast
 
 add-e : tie.Need-overflow_add-e
-add-e c = let a : tie.Start = search in omega (arith, (from a).room, a.good.1.0.1)
+add-e c = let a = c in omega (arith, (from a.before.before).room, a.well_formed.1.0.1)
 
 add-f : tie.Need-overflow_add-f
-add-f c = let a : tie.Start = search in omega (arith, (to a).room, a.good.1.1.0.1)
+add-f c = let a = c in omega (arith, (to a.before.before).room, a.well_formed.1.1.0.1)
 
 mul-each : tie.Need-offset_bounds-src-a
-mul-each c = let a : tie.Start = search in omega (arith, (from a).room, a.good.1.0.1)
+mul-each c = let a = c in omega (arith, (from a.before.before).room, a.well_formed.1.0.1)
 
 sub_each : tie.Need-slice_bounds-each-count
 sub_each c = search rules
@@ -39,10 +39,10 @@ part-each-start : tie.Need-slice_bounds-each-start
 part-each-start c = search rules
 
 part-each-end : tie.Need-slice_bounds-each-end
-part-each-end c = let a : tie.Start = search in (from a).room
+part-each-end c = let a = c in (from a.before.before).room
 
 mul-each-2 : tie.Need-offset_bounds-dst-b
-mul-each-2 c = let a : tie.Start = search in omega (arith, (to a).room, a.good.1.1.0.1)
+mul-each-2 c = let a = c in omega (arith, (to a.before.before.before).room, a.well_formed.1.1.0.1)
 
 sub-each-2 : tie.Need-slice_bounds-each-count-2
 sub-each-2 c = search rules
@@ -51,7 +51,7 @@ part-each-start-2 : tie.Need-slice_bounds-each-start-2
 part-each-start-2 c = search rules
 
 part-each-end-2 : tie.Need-slice_bounds-each-end-2
-part-each-end-2 c = let a : tie.Start = search in (to a).room
+part-each-end-2 c = let a = c in (to a.before.before.before).room
 
 each-requires : tie.Need-each-requires
 each-requires c κs = search rules
@@ -60,11 +60,11 @@ same_length : tie.Need-shape_of-dst
 same_length c = search rules
 
 returns : tie.Need-returns
-returns c = let a : tie.Start = search in
-    let o : tie.After-each = search in
+returns c = let a = c in
+    let o = c in
     let x : ℕ = nat_abs (read a.args.s) in
     let y : ℕ = nat_abs (read a.args.d) in
-    part-run nan (rule_f64 a.args.rule) a.args.src.now a.args.dst.now _ a.args.s a.args.d x y a.args.n (x + a.args.n - x) (y + a.args.n - y) (omega arith) (omega arith) (from a).is (to a).is (to a).room o.each.ensures
+    part-run nan (rule_f64 a.args.rule) a.args.src.now a.args.dst.now _ a.args.s a.args.d x y a.args.n (x + a.args.n - x) (y + a.args.n - y) (omega arith) (omega arith) (from a.before.before.before.before.before.before.before).is (to a.before.before.before.before.before.before.before).is (to a.before.before.before.before.before.before.before).room o.each.ensures
 
 pub row_spec : {M : Type 1} → statement M
 row_spec =

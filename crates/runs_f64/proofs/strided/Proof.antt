@@ -32,7 +32,7 @@ to d = let a = start d in step _ _ a.args.n _ a.fits.d a.fits.ds a.pre.dest (ome
 
 loop-holds : tie.Need-loop-i-init invariant-loop decreases-loop
 loop-holds c =
-    let a : tie.Start invariant-loop decreases-loop = search in
+    let a = c in
     (omega arith, refl, none _ 0 a.args.dst.now refl)
 
 cast-k : tie.Need-overflow_cast-k invariant-loop decreases-loop
@@ -57,31 +57,31 @@ cast-b : tie.Need-overflow_cast-b invariant-loop decreases-loop
 cast-b c = (to c).cast
 
 mul-apply-f64 : tie.Need-offset_bounds-dst-b invariant-loop decreases-loop
-mul-apply-f64 c = let a : tie.Start invariant-loop decreases-loop = search in omega (arith, (to c).below, a.good.1.1.0.1)
+mul-apply-f64 c = let a = c in omega (arith, (to c).below, a.well_formed.1.1.0.1)
 
 slice-read-apply-f64 : tie.Need-bounds-dst-b invariant-loop decreases-loop
 slice-read-apply-f64 c =
-    let d : tie.In-loop-i invariant-loop decreases-loop = search in
-    let h : tie.At-loop-i invariant-loop decreases-loop = search in
-    omega (arith, (to d).below, h.loop.inv.1)
+    let d = c in
+    let h = c in
+    omega (arith, (to d.before).below, h.loop-i.invariant.1)
 
 mul-apply-f64-2 : tie.Need-offset_bounds-src-a invariant-loop decreases-loop
 mul-apply-f64-2 c =
-    let a : tie.Start invariant-loop decreases-loop = search in
+    let a = c in
     let d = c in
-    omega (arith, (from d.before).below, a.good.1.0.1)
+    omega (arith, (from d.before).below, a.well_formed.1.0.1)
 
 shared-slice-read-apply-f64 : tie.Need-bounds-src-a invariant-loop decreases-loop
-shared-slice-read-apply-f64 c = let d : tie.In-loop-i invariant-loop decreases-loop = search in (from d).below
+shared-slice-read-apply-f64 c = let d = c in (from d.before.before).below
 
 apply-f64-requires : tie.Need-apply_f64-v-requires invariant-loop decreases-loop
 apply-f64-requires c κs = tt
 
 mul-dst : tie.Need-offset_bounds-dst-b-in-loop-i invariant-loop decreases-loop
 mul-dst c =
-    let a : tie.Start invariant-loop decreases-loop = search in
+    let a = c in
     let d = c in
-    omega (arith, (to d.before.before.before).below, a.good.1.1.0.1)
+    omega (arith, (to d.before.before.before).below, a.well_formed.1.1.0.1)
 
 slice-write-dst : tie.Need-bounds-dst-b-in-loop-i invariant-loop decreases-loop
 slice-write-dst c = let d = c in omega (arith, (to d.before.before.before).below, d.loop-i.invariant.1)
@@ -96,7 +96,7 @@ loop-again : tie.Need-loop-i-preserved invariant-loop decreases-loop
 loop-again c =
     let d = c in
     let h = d in
-    let a : tie.Start invariant-loop decreases-loop = search in (
+    let a = c in (
       omega arith,
       length-set h.loop-i.dst _ _ ∙ h.loop-i.invariant.1,
       turn nan (rule_f64 a.args.rule) a.args.src.now a.args.s a.args.d a.args.ss a.args.ds a.args.dst.now h.loop-i.dst h.loop-i.i _ _ _ h.loop-i.invariant.2 (from d.before.before.before) (to d.before.before.before)
@@ -109,8 +109,8 @@ same_length c = c.loop-i.invariant.1
 returns : tie.Need-returns invariant-loop decreases-loop
 returns c =
     let h = c in
-    let a : tie.Start invariant-loop decreases-loop = search in
-    ends nan (rule_f64 a.args.rule) a.args.src.now a.args.s a.args.d a.args.ss a.args.ds h.loop-i.i a.args.n a.args.dst.now h.loop-i.dst a.fits.s a.fits.d a.fits.ss a.fits.ds (omega arith) h.loop-i.invariant.2
+    let a = c in
+    ends nan (rule_f64 a.args.rule) a.args.src.now a.args.s a.args.d a.args.ss a.args.ds h.loop-i.i a.args.n a.args.dst.now h.loop-i.dst a.ranges.s a.ranges.d a.ranges.ss a.ranges.ds (omega arith) h.loop-i.invariant.2
 
 pub strided_spec : {M : Type 1} → statement M
 strided_spec =

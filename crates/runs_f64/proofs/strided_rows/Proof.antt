@@ -43,55 +43,55 @@ same_length c = search rules
 
 returns : tie.Need-returns-in-Add
 returns c =
-    let e : tie.In-Add = search in
-    let o : tie.After-strided_rows_by = search in
-    let a : tie.Start = search in
-    rw e.enum_told.given.1
-    (runs-end nan (rule_f64 R.Add) a.args.src.now a.args.s a.args.d a.args.ss a.args.ds a.args.st a.args.dt a.args.n a.args.m a.args.m a.args.dst.now _ a.fits.s a.fits.d a.fits.ss a.fits.ds a.fits.st a.fits.dt refl o.strided-rows-by.ensures)
+    let e = c in
+    let o = c in
+    let a = c in
+    rw e.in-Add.is
+    (runs-end nan (rule_f64 R.Add) a.args.src.now a.args.s a.args.d a.args.ss a.args.ds a.args.st a.args.dt a.args.n a.args.m a.args.m a.args.dst.now _ a.ranges.s a.ranges.d a.ranges.ss a.ranges.ds a.ranges.st a.ranges.dt refl o.strided_rows_by.ensures)
 
 same-length-2 : tie.Need-shape_of-dst-in-Lowest
 same-length-2 c = search rules
 
 returns-2 : tie.Need-returns-in-Lowest
 returns-2 c =
-    let e : tie.In-Lowest = search in
-    let o : tie.After-strided_rows_by-in-Lowest = search in
-    let a : tie.Start = search in
-    rw e.enum-told2.given.1
-    (runs-end nan (rule_f64 R.Lowest) a.args.src.now a.args.s a.args.d a.args.ss a.args.ds a.args.st a.args.dt a.args.n a.args.m a.args.m a.args.dst.now _ a.fits.s a.fits.d a.fits.ss a.fits.ds a.fits.st a.fits.dt refl o.strided-rows-by2.ensures)
+    let e = c in
+    let o = c in
+    let a = c in
+    rw e.in-Lowest.is
+    (runs-end nan (rule_f64 R.Lowest) a.args.src.now a.args.s a.args.d a.args.ss a.args.ds a.args.st a.args.dt a.args.n a.args.m a.args.m a.args.dst.now _ a.ranges.s a.ranges.d a.ranges.ss a.ranges.ds a.ranges.st a.ranges.dt refl o.strided_rows_by-in-Lowest.ensures)
 
 same-length-3 : tie.Need-shape_of-dst-in-Highest
 same-length-3 c = search rules
 
 returns-3 : tie.Need-returns-in-Highest
 returns-3 c =
-    let e : tie.In-Highest = search in
-    let o : tie.After-strided_rows_by-in-Highest = search in
-    let a : tie.Start = search in
-    rw e.enum-told3.given.1
-    (runs-end nan (rule_f64 R.Highest) a.args.src.now a.args.s a.args.d a.args.ss a.args.ds a.args.st a.args.dt a.args.n a.args.m a.args.m a.args.dst.now _ a.fits.s a.fits.d a.fits.ss a.fits.ds a.fits.st a.fits.dt refl o.strided-rows-by3.ensures)
+    let e = c in
+    let o = c in
+    let a = c in
+    rw e.in-Highest.is
+    (runs-end nan (rule_f64 R.Highest) a.args.src.now a.args.s a.args.d a.args.ss a.args.ds a.args.st a.args.dt a.args.n a.args.m a.args.m a.args.dst.now _ a.ranges.s a.ranges.d a.ranges.ss a.ranges.ds a.ranges.st a.ranges.dt refl o.strided_rows_by-in-Highest.ensures)
 
 same-length-4 : tie.Need-shape_of-dst-in-Replace
 same-length-4 c = search rules
 
 returns-4 : tie.Need-returns-in-Replace
 returns-4 c =
-    let e : tie.In-Replace = search in
-    let o : tie.After-strided_rows_by-in-Replace = search in
-    let a : tie.Start = search in
-    rw e.enum-told4.given.1
-    (runs-end nan (rule_f64 R.Replace) a.args.src.now a.args.s a.args.d a.args.ss a.args.ds a.args.st a.args.dt a.args.n a.args.m a.args.m a.args.dst.now _ a.fits.s a.fits.d a.fits.ss a.fits.ds a.fits.st a.fits.dt refl o.strided-rows-by4.ensures)
+    let e = c in
+    let o = c in
+    let a = c in
+    rw e.in-Replace.is
+    (runs-end nan (rule_f64 R.Replace) a.args.src.now a.args.s a.args.d a.args.ss a.args.ds a.args.st a.args.dt a.args.n a.args.m a.args.m a.args.dst.now _ a.ranges.s a.ranges.d a.ranges.ss a.ranges.ds a.ranges.st a.ranges.dt refl o.strided_rows_by-in-Replace.ensures)
 
 same-length-5 : tie.Need-shape_of-dst-in-Ceiling
 same-length-5 c = search rules
 
 returns-5 : tie.Need-returns-in-Ceiling
 returns-5 c =
-    let e : tie.In-Ceiling-2 = search in
-    let o : tie.After-strided_rows_by-in-Ceiling = search in
-    let a : tie.Start = search in
-    rw e.rule.given.1
-    (runs-end nan (rule_f64 (R.Ceiling e.rule.given.0.0)) a.args.src.now a.args.s a.args.d a.args.ss a.args.ds a.args.st a.args.dt a.args.n a.args.m a.args.m a.args.dst.now _ a.fits.s a.fits.d a.fits.ss a.fits.ds a.fits.st a.fits.dt refl o.strided-rows-by5.ensures)
+    let e = c in
+    let o = c in
+    let a = c in
+    rw e.in-Ceiling.is
+    (runs-end nan (rule_f64 (R.Ceiling e.in-Ceiling.ceiling)) a.args.src.now a.args.s a.args.d a.args.ss a.args.ds a.args.st a.args.dt a.args.n a.args.m a.args.m a.args.dst.now _ a.ranges.s a.ranges.d a.ranges.ss a.ranges.ds a.ranges.st a.ranges.dt refl o.strided_rows_by-in-Ceiling.ensures)
 
 pub strided_rows_spec : {M : Type 1} → statement M
 strided_rows_spec =

@@ -12,19 +12,19 @@ returns c =
     let s = c in
     let a = answer-is s.args.plan s.args.batch-rows s.args.window-rows (scatter_of s.args.plan s.args.index s.args.updates s.args.dest) s.args.starts-len s.args.updates-len s.args.dest-len c.plan_fits-fits.ensures c.check_plan-eight.ensures c.view_reach-x.ensures c.view_reach-y.ensures c.view_reach-z.ensures c.check_bounds-nine.ensures c.or_else-answer.ensures in
     let e = c.refused.ensures in
-    record { answered = e ∙ a; ready = λ d. never (sym d ∙ ap is_done (sym a) ∙ sym c.is_done.ensures ∙ not-true _ c.if-not-is_done.true) }
+    record { answered = e ∙ a; ready = λ d. never (sym d ∙ ap is_done (sym a) ∙ sym c.is_done.ensures ∙ c.if-not-is_done.true) }
 
 prepared-by-requires : tie.Need-prepared_by-requires
 prepared-by-requires c κs =
     let s = c in
     let a = answer-is s.args.plan s.args.batch-rows s.args.window-rows (scatter_of s.args.plan s.args.index s.args.updates s.args.dest) s.args.starts-len s.args.updates-len s.args.dest-len c.plan_fits-fits.ensures c.check_plan-eight.ensures c.view_reach-x.ensures c.view_reach-y.ensures c.view_reach-z.ensures c.check_bounds-nine.ensures c.or_else-answer.ensures in
-    compiled s.args.plan s.args.batch-rows s.args.window-rows s.args.index s.args.updates s.args.dest s.args.starts-len s.args.updates-len s.args.dest-len (ap is_done (sym a) ∙ sym c.is_done.ensures ∙ not-false _ c.if-not-is_done.false)
+    compiled s.args.plan s.args.batch-rows s.args.window-rows s.args.index s.args.updates s.args.dest s.args.starts-len s.args.updates-len s.args.dest-len (ap is_done (sym a) ∙ sym c.is_done.ensures ∙ c.if-not-is_done.false)
 
 returns-2 : tie.Need-returns
 returns-2 c =
     let s = c in
     let a = answer-is s.args.plan s.args.batch-rows s.args.window-rows (scatter_of s.args.plan s.args.index s.args.updates s.args.dest) s.args.starts-len s.args.updates-len s.args.dest-len c.plan_fits-fits.ensures c.check_plan-eight.ensures c.view_reach-x.ensures c.view_reach-y.ensures c.view_reach-z.ensures c.check_bounds-nine.ensures c.or_else-answer.ensures in
-    prepared s.args.plan s.args.batch-rows s.args.window-rows s.args.index s.args.updates s.args.dest s.args.starts-len s.args.updates-len s.args.dest-len (ap is_done (sym a) ∙ sym c.is_done.ensures ∙ not-false _ c.if-not-is_done.false) _ _ _ c.prepared_by.ensures a c.view_reach-z.ensures
+    prepared s.args.plan s.args.batch-rows s.args.window-rows s.args.index s.args.updates s.args.dest s.args.starts-len s.args.updates-len s.args.dest-len (ap is_done (sym a) ∙ sym c.is_done.ensures ∙ c.if-not-is_done.false) _ _ _ c.prepared_by.ensures a c.view_reach-z.ensures
 
 pub prepare_spec : {M : Type 1} → statement M
 prepare_spec =

@@ -17,20 +17,20 @@ offsets : (s : tie.Start) → SFits w64 s.args.index.offset × SFits w64 s.args.
 offsets s = (search (rules, s.well_formed.1.1.1.0), search (rules, s.well_formed.1.1.1.1.0), search (rules, s.well_formed.1.1.1.1.1.0))
 
 numbers-of-requires : tie.Need-numbers_of-numbers-requires
-numbers-of-requires c κs = let s : tie.Start = search in s.pre
+numbers-of-requires c κs = let s = c in s.requires
 
 returns : tie.Need-returns
 unfolding scatter_numbers
 returns c =
-    let s : tie.Start = search in
-    let n : tie.After-numbers_of-numbers = search in
-    let b : tie.After-start_base-base = search in
-    let x : tie.After-axes_from-batch_axes = search in
-    let (f, fu, fd) = offsets s in
-    let fb : SFits w64 b.start-base.result = search rules in
-    let e = n.Numbers-of.ensures in
-    let i = back fb ∙ b.start-base.ensures ∙ ap₂ (λ (m : ℕ) (z : ℤ). unless_none m (pos 0) z) (ap (λ (w : ScatterNumbers). w.count) e) (back f) in
-    λ j. record { answer = A.Done; reach = s.args.reach; numbers = e j; batch_axes = x.axes-from.ensures j; index = i j; updates = back fu j; dest = back fd j }
+    let s = c in
+    let n = c in
+    let b = c in
+    let x = c in
+    let (f, fu, fd) = offsets s.before.before.before.before.before.before.before.before in
+    let fb : SFits w64 b.start_base-base.result = search rules in
+    let e = n.numbers_of-numbers.ensures in
+    let i = back fb ∙ b.start_base-base.ensures ∙ ap₂ (λ (m : ℕ) (z : ℤ). unless_none m (pos 0) z) (ap (λ (w : ScatterNumbers). w.count) e) (back f) in
+    λ j. record { answer = A.Done; reach = s.args.reach; numbers = e j; batch_axes = x.axes_from-batch_axes.ensures j; index = i j; updates = back fu j; dest = back fd j }
 
 pub prepared_by_spec : {M : Type 1} → statement M
 prepared_by_spec = tie.close (tie.spec numbers-of-requires (λ c κs. tt) (λ c κs. tt) returns)

@@ -11,14 +11,14 @@ returns : tie.Need-returns-then-not-is_done
 returns c =
     let e = c.unexamined.ensures in
     let f = c.is_done.ensures in
-    let g = not-true _ c.if-not-is_done.true in
+    let g = c.if-not-is_done.true in
     record { answered = e ∙ stops _ c.check_sizes-sizes.ensures f g; found = λ d. never (sym d ∙ ap is_done e ∙ sym f ∙ g) }
 
 check-nested-requires : tie.Need-check_nested-four-requires
-check-nested-requires c κs = (sizes-pass _ _ _ _ _ _ (ap is_done (sym c.check_sizes-sizes.ensures) ∙ sym c.is_done.ensures ∙ not-false _ c.if-not-is_done.false)).dest
+check-nested-requires c κs = (sizes-pass _ _ _ _ _ _ (ap is_done (sym c.check_sizes-sizes.ensures) ∙ sym c.is_done.ensures ∙ c.if-not-is_done.false)).dest
 
 examine-from-requires : tie.Need-examine_from-requires
-examine-from-requires c κs = ap is_done (sym c.check_sizes-sizes.ensures) ∙ sym c.is_done.ensures ∙ not-false _ c.if-not-is_done.false
+examine-from-requires c κs = ap is_done (sym c.check_sizes-sizes.ensures) ∙ sym c.is_done.ensures ∙ c.if-not-is_done.false
 
 returns-2 : tie.Need-returns
 returns-2 c = examines-by c.check_nested-four.ensures c.examine_from.ensures

@@ -27,20 +27,20 @@ returns c =
     let d = c in
     let s = d in
     let e = before-walks d.before.before.before in
-    turned_down s.args.four (asked s) c.unexamined.result s.requires.sizes (ap is_done (sym e) ∙ sym d.is_done.ensures ∙ not-true _ c.if-not-is_done.true) (c.unexamined.ensures ∙ e)
+    turned_down s.args.four (asked s) c.unexamined.result s.requires.sizes (ap is_done (sym e) ∙ sym d.is_done.ensures ∙ c.if-not-is_done.true) (c.unexamined.ensures ∙ e)
 
 examine-walks-requires : tie.Need-examine_walks-requires
 examine-walks-requires c κs =
     let d = c in
     let s = d in
-    let f = ap is_done (sym (before-walks d.before.before)) ∙ sym d.is_done.ensures ∙ not-false _ c.if-not-is_done.false in
+    let f = ap is_done (sym (before-walks d.before.before)) ∙ sym d.is_done.ensures ∙ c.if-not-is_done.false in
     record { listed = s.requires; counted = counted (asked s) (fits (asked s) _ _ _ s.requires).index (or-done s.args.four (axes_refusal (asked s)) f).1 }
 
 returns-2 : tie.Need-returns
 returns-2 c =
     let d = c in
     let s = d in
-    found s.args.four (asked s) c.examine_walks.result s.requires.sizes (ap is_done (sym (before-walks d.before.before.before)) ∙ sym d.is_done.ensures ∙ not-false _ c.if-not-is_done.false) c.examine_walks.ensures
+    found s.args.four (asked s) c.examine_walks.result s.requires.sizes (ap is_done (sym (before-walks d.before.before.before)) ∙ sym d.is_done.ensures ∙ c.if-not-is_done.false) c.examine_walks.ensures
 
 pub examine_axes_spec : {M : Type 1} → statement M
 examine_axes_spec =

@@ -11,30 +11,30 @@ use Rattle.scatter_lists.proofs.prepare.Tie as tie
 returns : tie.Need-returns-then-not-is_done
 returns c =
     let s = c in
-    first-refusal (scatter_from s.args.index-extents.now s.args.index-strides.now s.args.updates-extents.now s.args.updates-strides.now s.args.dest-extents.now s.args.dest-strides.now s.args.update-window-dims.now s.args.inserted-window-dims.now s.args.scatter-dims-to-operand-dims.now s.args.index-vector-dim) s.args.index-offset s.args.updates-offset s.args.dest-offset s.args.starts-len s.args.updates-len s.args.dest-len _ _ c.refused.ensures c.examine-found.ensures.answered (sym c.is_done.ensures ∙ not-true _ c.if-not-is_done.true)
+    first-refusal (scatter_from s.args.index-extents.now s.args.index-strides.now s.args.updates-extents.now s.args.updates-strides.now s.args.dest-extents.now s.args.dest-strides.now s.args.update-window-dims.now s.args.inserted-window-dims.now s.args.scatter-dims-to-operand-dims.now s.args.index-vector-dim) s.args.index-offset s.args.updates-offset s.args.dest-offset s.args.starts-len s.args.updates-len s.args.dest-len _ _ c.refused.ensures c.examine-found.ensures.answered (sym c.is_done.ensures ∙ c.if-not-is_done.true)
 
 reach-of-requires : tie.Need-reach_of-x-requires
-reach-of-requires c κs = let s = c in (fits (scatter_from s.args.index-extents.now s.args.index-strides.now s.args.updates-extents.now s.args.updates-strides.now s.args.dest-extents.now s.args.dest-strides.now s.args.update-window-dims.now s.args.inserted-window-dims.now s.args.scatter-dims-to-operand-dims.now s.args.index-vector-dim) _ _ (c.examine-found.ensures.found (sym c.is_done.ensures ∙ not-false _ c.if-not-is_done.false))).index-strides
+reach-of-requires c κs = let s = c in (fits (scatter_from s.args.index-extents.now s.args.index-strides.now s.args.updates-extents.now s.args.updates-strides.now s.args.dest-extents.now s.args.dest-strides.now s.args.update-window-dims.now s.args.inserted-window-dims.now s.args.scatter-dims-to-operand-dims.now s.args.index-vector-dim) _ _ (c.examine-found.ensures.found (sym c.is_done.ensures ∙ c.if-not-is_done.false))).index-strides
 
 reach-of-requires-2 : tie.Need-reach_of-y-requires
-reach-of-requires-2 c κs = let s = c in (fits (scatter_from s.args.index-extents.now s.args.index-strides.now s.args.updates-extents.now s.args.updates-strides.now s.args.dest-extents.now s.args.dest-strides.now s.args.update-window-dims.now s.args.inserted-window-dims.now s.args.scatter-dims-to-operand-dims.now s.args.index-vector-dim) _ _ (c.examine-found.ensures.found (sym c.is_done.ensures ∙ not-false _ c.if-not-is_done.false))).updates-strides
+reach-of-requires-2 c κs = let s = c in (fits (scatter_from s.args.index-extents.now s.args.index-strides.now s.args.updates-extents.now s.args.updates-strides.now s.args.dest-extents.now s.args.dest-strides.now s.args.update-window-dims.now s.args.inserted-window-dims.now s.args.scatter-dims-to-operand-dims.now s.args.index-vector-dim) _ _ (c.examine-found.ensures.found (sym c.is_done.ensures ∙ c.if-not-is_done.false))).updates-strides
 
 reach-of-requires-3 : tie.Need-reach_of-z-requires
-reach-of-requires-3 c κs = let s = c in (fits (scatter_from s.args.index-extents.now s.args.index-strides.now s.args.updates-extents.now s.args.updates-strides.now s.args.dest-extents.now s.args.dest-strides.now s.args.update-window-dims.now s.args.inserted-window-dims.now s.args.scatter-dims-to-operand-dims.now s.args.index-vector-dim) _ _ (c.examine-found.ensures.found (sym c.is_done.ensures ∙ not-false _ c.if-not-is_done.false))).dest-strides
+reach-of-requires-3 c κs = let s = c in (fits (scatter_from s.args.index-extents.now s.args.index-strides.now s.args.updates-extents.now s.args.updates-strides.now s.args.dest-extents.now s.args.dest-strides.now s.args.update-window-dims.now s.args.inserted-window-dims.now s.args.scatter-dims-to-operand-dims.now s.args.index-vector-dim) _ _ (c.examine-found.ensures.found (sym c.is_done.ensures ∙ c.if-not-is_done.false))).dest-strides
 
 returns-2 : tie.Need-returns-then-not-is_done-2
 returns-2 c =
     let s = c in
-    second-refusal (scatter_from s.args.index-extents.now s.args.index-strides.now s.args.updates-extents.now s.args.updates-strides.now s.args.dest-extents.now s.args.dest-strides.now s.args.update-window-dims.now s.args.inserted-window-dims.now s.args.scatter-dims-to-operand-dims.now s.args.index-vector-dim) s.args.index-offset s.args.updates-offset s.args.dest-offset s.args.starts-len s.args.updates-len s.args.dest-len {x = c.reach_of-x.result} {y = c.reach_of-y.result} {z = c.reach_of-z.result} c.examine-found.ensures.answered (sym c.is_done.ensures ∙ not-false _ c.if-not-is_done.false) (c.reach_of-x.ensures ∙ ap (λ (z : ℤ). view_reach s.args.index-extents.now s.args.index-strides.now z s.args.starts-len) (back s.ranges.index-offset)) (c.reach_of-y.ensures ∙ ap (λ (z : ℤ). view_reach s.args.updates-extents.now s.args.updates-strides.now z s.args.updates-len) (back s.ranges.updates-offset)) (c.reach_of-z.ensures ∙ ap (λ (z : ℤ). view_reach s.args.dest-extents.now s.args.dest-strides.now z s.args.dest-len) (back s.ranges.dest-offset)) c.check_bounds-answer.ensures _ c.refused-then-not-is_done-2.ensures (sym c.is_done-2.ensures ∙ not-true _ c.if-not-is_done-2.true)
+    second-refusal (scatter_from s.args.index-extents.now s.args.index-strides.now s.args.updates-extents.now s.args.updates-strides.now s.args.dest-extents.now s.args.dest-strides.now s.args.update-window-dims.now s.args.inserted-window-dims.now s.args.scatter-dims-to-operand-dims.now s.args.index-vector-dim) s.args.index-offset s.args.updates-offset s.args.dest-offset s.args.starts-len s.args.updates-len s.args.dest-len {x = c.reach_of-x.result} {y = c.reach_of-y.result} {z = c.reach_of-z.result} c.examine-found.ensures.answered (sym c.is_done.ensures ∙ c.if-not-is_done.false) (c.reach_of-x.ensures ∙ ap (λ (z : ℤ). view_reach s.args.index-extents.now s.args.index-strides.now z s.args.starts-len) (back s.ranges.index-offset)) (c.reach_of-y.ensures ∙ ap (λ (z : ℤ). view_reach s.args.updates-extents.now s.args.updates-strides.now z s.args.updates-len) (back s.ranges.updates-offset)) (c.reach_of-z.ensures ∙ ap (λ (z : ℤ). view_reach s.args.dest-extents.now s.args.dest-strides.now z s.args.dest-len) (back s.ranges.dest-offset)) c.check_bounds-answer.ensures _ c.refused-then-not-is_done-2.ensures (sym c.is_done-2.ensures ∙ c.if-not-is_done-2.true)
 
 prepared-from-requires : tie.Need-prepared_from-requires
-prepared-from-requires c κs = c.examine-found.ensures.found (sym c.is_done.ensures ∙ not-false _ c.if-not-is_done.false)
+prepared-from-requires c κs = c.examine-found.ensures.found (sym c.is_done.ensures ∙ c.if-not-is_done.false)
 
 returns-3 : tie.Need-returns
 returns-3 c =
     let s = c in
-    let t = sym c.is_done.ensures ∙ not-false _ c.if-not-is_done.false in
-    prepared (scatter_from s.args.index-extents.now s.args.index-strides.now s.args.updates-extents.now s.args.updates-strides.now s.args.dest-extents.now s.args.dest-strides.now s.args.update-window-dims.now s.args.inserted-window-dims.now s.args.scatter-dims-to-operand-dims.now s.args.index-vector-dim) s.args.index-offset s.args.updates-offset s.args.dest-offset s.args.starts-len s.args.updates-len s.args.dest-len {x = c.reach_of-x.result} {y = c.reach_of-y.result} {z = c.reach_of-z.result} c.examine-found.ensures.answered t (c.reach_of-x.ensures ∙ ap (λ (z : ℤ). view_reach s.args.index-extents.now s.args.index-strides.now z s.args.starts-len) (back s.ranges.index-offset)) (c.reach_of-y.ensures ∙ ap (λ (z : ℤ). view_reach s.args.updates-extents.now s.args.updates-strides.now z s.args.updates-len) (back s.ranges.updates-offset)) (c.reach_of-z.ensures ∙ ap (λ (z : ℤ). view_reach s.args.dest-extents.now s.args.dest-strides.now z s.args.dest-len) (back s.ranges.dest-offset)) c.check_bounds-answer.ensures _ _ (c.examine-found.ensures.found t) (sym c.is_done-2.ensures ∙ not-false _ c.if-not-is_done-2.false) _ (simp (back s.ranges.index-offset, back s.ranges.updates-offset, back s.ranges.dest-offset) at c.prepared_from.ensures)
+    let t = sym c.is_done.ensures ∙ c.if-not-is_done.false in
+    prepared (scatter_from s.args.index-extents.now s.args.index-strides.now s.args.updates-extents.now s.args.updates-strides.now s.args.dest-extents.now s.args.dest-strides.now s.args.update-window-dims.now s.args.inserted-window-dims.now s.args.scatter-dims-to-operand-dims.now s.args.index-vector-dim) s.args.index-offset s.args.updates-offset s.args.dest-offset s.args.starts-len s.args.updates-len s.args.dest-len {x = c.reach_of-x.result} {y = c.reach_of-y.result} {z = c.reach_of-z.result} c.examine-found.ensures.answered t (c.reach_of-x.ensures ∙ ap (λ (z : ℤ). view_reach s.args.index-extents.now s.args.index-strides.now z s.args.starts-len) (back s.ranges.index-offset)) (c.reach_of-y.ensures ∙ ap (λ (z : ℤ). view_reach s.args.updates-extents.now s.args.updates-strides.now z s.args.updates-len) (back s.ranges.updates-offset)) (c.reach_of-z.ensures ∙ ap (λ (z : ℤ). view_reach s.args.dest-extents.now s.args.dest-strides.now z s.args.dest-len) (back s.ranges.dest-offset)) c.check_bounds-answer.ensures _ _ (c.examine-found.ensures.found t) (sym c.is_done-2.ensures ∙ c.if-not-is_done-2.false) _ (simp (back s.ranges.index-offset, back s.ranges.updates-offset, back s.ranges.dest-offset) at c.prepared_from.ensures)
 
 pub prepare_spec : {M : Type 1} → statement M
 prepare_spec =

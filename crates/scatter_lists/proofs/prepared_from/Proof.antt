@@ -12,17 +12,17 @@ use Rattle.scatter_lists.proofs.prepared_from.Statement.{statement}
 use Rattle.scatter_lists.proofs.prepared_from.Tie as tie
 
 numbers-on-requires : tie.Need-numbers_on-numbers-requires
-numbers-on-requires c κs = let s : tie.Start = search in s.pre
+numbers-on-requires c κs = let s = c in s.requires
 
 returns : tie.Need-returns
 returns c =
-    let s : tie.Start = search in
-    let n : tie.After-numbers_on-numbers = search in
-    let b : tie.After-start_base-base = search in
-    let fb : SFits w64 b.start-base.result = search rules in
-    prepared-is _ _ _ _ s.pre n.Numbers-on.ensures
-    (back fb ∙ b.start-base.ensures ∙ ap (λ (z : ℤ). unless_none (length s.args.scatter-dims-to-operand-dims.now) (pos 0) z) (back s.fits.index-offset))
-    (back s.fits.updates-offset) (back s.fits.dest-offset)
+    let s = c in
+    let n = c in
+    let b = c in
+    let fb : SFits w64 b.start_base-base.result = search rules in
+    prepared-is _ _ _ _ s.requires n.numbers_on-numbers.ensures
+    (back fb ∙ b.start_base-base.ensures ∙ ap (λ (z : ℤ). unless_none (length s.args.scatter-dims-to-operand-dims.now) (pos 0) z) (back s.ranges.index-offset))
+    (back s.ranges.updates-offset) (back s.ranges.dest-offset)
 
 pub prepared_from_spec : {M : Type 1} → statement M
 prepared_from_spec = tie.close (tie.spec numbers-on-requires (λ c κs. tt) returns)

@@ -31,35 +31,35 @@ part_length : (s : tie.Start) → length (take (s.args.high + 1 - s.args.low) (d
 part_length s = length-take-le (s.args.high + 1 - s.args.low) (drop s.args.low s.args.into.now) (omega (arith, length-drop s.args.low s.args.into.now, high-in s.args.p s.args.low s.args.high s.args.starts.now (length s.args.source.now) (length s.args.into.now) s.requires, low-high s.args.p s.args.low s.args.high s.args.starts.now (length s.args.source.now) (length s.args.into.now) s.requires))
 
 add-end : tie.Need-overflow_add-end
-add-end c = let s : tie.Start = search in omega (arith, high-in s.args.p s.args.low s.args.high s.args.starts.now (length s.args.source.now) (length s.args.into.now) s.pre, dest-room s)
+add-end c = let s = c in omega (arith, high-in s.args.p s.args.low s.args.high s.args.starts.now (length s.args.source.now) (length s.args.into.now) s.requires, dest-room s)
 
 cast-from : tie.Need-overflow_cast-from
-cast-from c = let s : tie.Start = search in low_fits s.args.p s.args.low s.args.high s.args.starts.now (length s.args.source.now) (length s.args.into.now) s.pre (dest-room s)
+cast-from c = let s = c in low_fits s.args.p s.args.low s.args.high s.args.starts.now (length s.args.source.now) (length s.args.into.now) s.requires (dest-room s)
 
 sub_at : tie.Need-overflow_sub-at
-sub_at c = let s : tie.Start = search in sub-fits s.args.p s.args.low s.args.high s.args.starts.now (length s.args.source.now) (length s.args.into.now) s.pre (dest-fits s) (dest-room s)
+sub_at c = let s = c in sub-fits s.args.p s.args.low s.args.high s.args.starts.now (length s.args.source.now) (length s.args.into.now) s.requires (dest-fits s.before.before) (dest-room s.before.before)
 
 mul-run-i32 : tie.Need-offset_bounds-into-low
-mul-run-i32 c = let s : tie.Start = search in omega (arith, low-high s.args.p s.args.low s.args.high s.args.starts.now (length s.args.source.now) (length s.args.into.now) s.pre, high-in s.args.p s.args.low s.args.high s.args.starts.now (length s.args.source.now) (length s.args.into.now) s.pre, s.good.1.1.1.1.0.1)
+mul-run-i32 c = let s = c in omega (arith, low-high s.args.p s.args.low s.args.high s.args.starts.now (length s.args.source.now) (length s.args.into.now) s.requires, high-in s.args.p s.args.low s.args.high s.args.starts.now (length s.args.source.now) (length s.args.into.now) s.requires, s.well_formed.1.1.1.1.0.1)
 
 sub-run-i32 : tie.Need-slice_bounds-run_i32-count
-sub-run-i32 c = let s : tie.Start = search in omega (arith, low-high s.args.p s.args.low s.args.high s.args.starts.now (length s.args.source.now) (length s.args.into.now) s.pre)
+sub-run-i32 c = let s = c in omega (arith, low-high s.args.p s.args.low s.args.high s.args.starts.now (length s.args.source.now) (length s.args.into.now) s.requires)
 
 part-run-i32-start : tie.Need-slice_bounds-run_i32-start
-part-run-i32-start c = let s : tie.Start = search in omega (arith, low-high s.args.p s.args.low s.args.high s.args.starts.now (length s.args.source.now) (length s.args.into.now) s.pre)
+part-run-i32-start c = let s = c in omega (arith, low-high s.args.p s.args.low s.args.high s.args.starts.now (length s.args.source.now) (length s.args.into.now) s.requires)
 
 part-run-i32-end : tie.Need-slice_bounds-run_i32-end
-part-run-i32-end c = let s : tie.Start = search in omega (arith, high-in s.args.p s.args.low s.args.high s.args.starts.now (length s.args.source.now) (length s.args.into.now) s.pre)
+part-run-i32-end c = let s = c in omega (arith, high-in s.args.p s.args.low s.args.high s.args.starts.now (length s.args.source.now) (length s.args.into.now) s.requires)
 
 run-i32-requires : tie.Need-run_i32-requires
 run-i32-requires c κs =
-    let o : tie.After-rows_of-rows = search in
-    let s : tie.Start = search in
+    let o = c in
+    let s = c in
     let w = s.args.p.numbers in (
       subst (Scattering s.args.starts.now w.offsets w.strides w.limits w.count s.args.p.index s.args.p.updates (read (read s.args.p.dest -ℤ to_z w64 s.args.low)) w.batch_extents w.index_steps w.update_steps w.batch_rank w.window_extents w.window_steps w.dest_steps w.window_rank (length s.args.source.now))
-          (sym (part_length s))
-          (part-asks s.args.p s.args.low s.args.high s.args.starts.now (length s.args.source.now) (length s.args.into.now) s.pre _ refl _ (place_is s.args.p s.args.low s.args.high s.args.starts.now (length s.args.source.now) (length s.args.into.now) s.pre (dest-fits s) (dest-room s)) (starts-room s)),
-      part-rowed s.args.p s.args.low s.args.high s.args.starts.now (length s.args.source.now) (length s.args.into.now) s.pre (s.args.high + 1 - s.args.low) refl (read (read s.args.p.dest -ℤ to_z w64 s.args.low)) (place_is s.args.p s.args.low s.args.high s.args.starts.now (length s.args.source.now) (length s.args.into.now) s.pre (dest-fits s) (dest-room s)) _ o.rows_of_lem.ensures (source-room s) (starts-room s),
+          (sym (part_length s.before.before.before.before.before))
+          (part-asks s.args.p s.args.low s.args.high s.args.starts.now (length s.args.source.now) (length s.args.into.now) s.requires _ refl _ (place_is s.args.p s.args.low s.args.high s.args.starts.now (length s.args.source.now) (length s.args.into.now) s.requires (dest-fits s.before.before.before.before.before) (dest-room s.before.before.before.before.before)) (starts-room s.before.before.before.before.before)),
+      part-rowed s.args.p s.args.low s.args.high s.args.starts.now (length s.args.source.now) (length s.args.into.now) s.requires (s.args.high + 1 - s.args.low) refl (read (read s.args.p.dest -ℤ to_z w64 s.args.low)) (place_is s.args.p s.args.low s.args.high s.args.starts.now (length s.args.source.now) (length s.args.into.now) s.requires (dest-fits s.before.before.before.before.before) (dest-room s.before.before.before.before.before)) _ o.rows_of-rows.ensures (source-room s.before.before.before.before.before) (starts-room s.before.before.before.before.before),
     )
 
 same_length : tie.Need-shape_of-into
@@ -67,11 +67,11 @@ same_length c = search rules
 
 returns : tie.Need-returns
 returns c =
-    let r : tie.After-run_i32 = search in
-    let s : tie.Start = search in
+    let r = c in
+    let s = c in
     λ k. (
-      part-leaves s.args.p s.args.low s.args.high s.args.starts.now (length s.args.source.now) (length s.args.into.now) k _ refl _ (place_is s.args.p s.args.low s.args.high s.args.starts.now (length s.args.source.now) (length s.args.into.now) k (dest-fits s) (dest-room s)) (pos 0) (rule_i32 s.args.rule) s.args.source.now s.args.into.now refl _ r.run-i32.ensures.0,
-      r.run-i32.ensures.1 ∙ number_is k.scatter k.ready.accepted s.args.starts.now s.args.p _ _ _ k.ready,
+      part-leaves s.args.p s.args.low s.args.high s.args.starts.now (length s.args.source.now) (length s.args.into.now) k _ refl _ (place_is s.args.p s.args.low s.args.high s.args.starts.now (length s.args.source.now) (length s.args.into.now) k (dest-fits s.before.before.before.before.before.before.before) (dest-room s.before.before.before.before.before.before.before)) (pos 0) (rule_i32 s.args.rule) s.args.source.now s.args.into.now refl _ r.run_i32.ensures.0,
+      r.run_i32.ensures.1 ∙ number_is k.scatter k.ready.accepted s.args.starts.now s.args.p _ _ _ k.ready,
     )
 
 pub cells_i32_spec : {M : Type 1} → statement M

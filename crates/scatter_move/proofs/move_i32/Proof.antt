@@ -22,19 +22,19 @@ module _ (e : tie.Else-not-is_done) where
 
 returns : tie.Need-returns-then-not-is_done
 returns c =
-    let d : tie.After-is_done = search in
-    let t : tie.Then-not-is_done = search in
-    λ k. refused (sym d.is-done.ensures ∙ not-true _ t.if1.taken) c.refused_call.ensures
+    let d = c in
+    let t = c in
+    λ k. refused (sym d.is_done.ensures ∙ t.if-not-is_done.true) c.refused_call.ensures
 
 enum-known-reach : tie.Need-enum_known-reach
 enum-known-reach c = search rules
 
 cells-i32-requires : tie.Need-cells_i32-reported-requires
 cells-i32-requires c κs =
-    let e : tie.Else-not-is_done = search in
-    let r : tie.In-Cells-2 = search in
-    let s : tie.Start = search in
-    record { scatter = s.pre.scatter; ready = s.pre.ready (ready e); cells = r.reach.given.1 }
+    let e = c in
+    let r = c in
+    let s = c in
+    record { scatter = s.requires.scatter; ready = s.requires.ready (ready e); cells = r.in-Cells.is }
 
 enum_told : tie.Need-enum_told-1
 enum_told c = search rules
@@ -47,28 +47,28 @@ same_length c = search rules
 
 returns-2 : tie.Need-returns-in-Cells
 returns-2 c =
-    let e : tie.Else-not-is_done = search in
-    let r : tie.In-Cells-2 = search in
-    let o : tie.After-cells_i32-reported = search in
+    let e = c in
+    let r = c in
+    let o = c in
     λ k.
-    let l = o.cells-i32.ensures (record { scatter = k.scatter; ready = k.ready (ready e); cells = r.reach.given.1 }) in
+    let l = o.cells_i32-reported.ensures (record { scatter = k.scatter; ready = k.ready (ready e); cells = r.in-Cells.is }) in
     done (ready e) l.0 l.1
 
 returns-3 : tie.Need-returns-in-NoCells
 returns-3 c =
-    let e : tie.Else-not-is_done = search in
-    let o : tie.In-NoCells = search in
-    let s : tie.Start = search in
+    let e = c in
+    let o = c in
+    let s = c in
     λ k.
-    done (ready e) (without-cells s.args.p k.scatter _ _ _ (k.ready (ready e)) (rule_i32 s.args.rule) (pos 0) s.args.starts.now s.args.source.now s.args.into.now o.enum_told.given.1)
-    (without-number s.args.p k.scatter _ _ _ (k.ready (ready e)) s.args.starts.now o.enum_told.given.1)
+    done (ready e) (without-cells s.args.p k.scatter _ _ _ (k.ready (ready e)) (rule_i32 s.args.rule) (pos 0) s.args.starts.now s.args.source.now s.args.into.now o.in-NoCells.is)
+    (without-number s.args.p k.scatter _ _ _ (k.ready (ready e)) s.args.starts.now o.in-NoCells.is)
 
 returns-4 : tie.Need-returns-in-Outside
 returns-4 c =
-    let e : tie.Else-not-is_done = search in
-    let o : tie.In-Outside = search in
-    let s : tie.Start = search in
-    λ k. never s.args.p k.scatter _ _ _ (k.ready (ready e)) o.enum-told2.given.1
+    let e = c in
+    let o = c in
+    let s = c in
+    λ k. never s.args.p k.scatter _ _ _ (k.ready (ready e)) o.in-Outside.is
 
 pub move_i32_spec : {M : Type 1} → statement M
 move_i32_spec =

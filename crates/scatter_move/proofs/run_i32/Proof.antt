@@ -20,11 +20,11 @@ same_length c = search rules
 
 returns : tie.Need-returns
 returns c =
-    let r : tie.After-scatter_rows = search in
+    let r = c in
     let s = r.before.before.before.before.before.before.before.before.before.before.before.before.before.before.before.before.before.before.before.before.before.before.before in
     let w = s.args.p.numbers in (
-      back_end (pos 0) (rule_i32 s.args.rule) s.args.source.now s.args.starts.now w.offsets w.strides w.limits w.count s.args.p.index s.args.p.updates s.args.at w.batch_extents w.index_steps w.update_steps w.batch_rank w.window_extents w.window_steps w.dest_steps w.window_rank s.args.into.now _ (bases s).0 (bases s).1 s.fits.at r.scatter-rows.ensures.0,
-      number-back s.args.p s.args.starts.now _ (bases s).0 r.scatter-rows.ensures.1,
+      back_end (pos 0) (rule_i32 s.args.rule) s.args.source.now s.args.starts.now w.offsets w.strides w.limits w.count s.args.p.index s.args.p.updates s.args.at w.batch_extents w.index_steps w.update_steps w.batch_rank w.window_extents w.window_steps w.dest_steps w.window_rank s.args.into.now _ (bases s).0 (bases s).1 s.fits.at r.scatter_rows.ensures.0,
+      number-back s.args.p s.args.starts.now _ (bases s).0 r.scatter_rows.ensures.1,
     )
 
 pub run_i32_spec : {M : Type 1} → statement M

@@ -4,7 +4,7 @@ use Rattle.scatter_same.proofs.has_rows.Tie as tie
 
 returns : tie.Need-returns
 unfolding has_rows
-returns c = rw (c.both.ensures, c.same_rows-second.ensures, c.same_rows-first.ensures, c.rows_of-wanted.ensures, c.rows_of_lem.ensures)
+returns c = rw (c.both.ensures, c.same_rows-second.ensures, c.same_rows-first.ensures, c.rows_of-wanted.ensures, c.rows_of-expected.ensures)
 
 pub has_rows_spec : {M : Type 1} → statement M
 has_rows_spec =

@@ -42,7 +42,7 @@ returns c =
     let s = l in
     let e : length s.args.t1 ≡ rank_limit = search rules in
     let f : length s.args.t2 ≡ rank_limit = search rules in
-    same_differs (same_by eq_z) [] s.args.t1 s.args.t2 l.loop-i.i (omega arith) (omega arith) (sym c.same_row.ensures ∙ not-true _ c.if-not-same_row.true) ∙ l.loop-i.invariant.1
+    same_differs (same_by eq_z) [] s.args.t1 s.args.t2 l.loop-i.i (omega arith) (omega arith) (sym c.same_row.ensures ∙ c.if-not-same_row.true) ∙ l.loop-i.invariant.1
 
 add-i : tie.Need-overflow_add-i invariant-loop decreases-loop
 add-i c = search rules
@@ -56,7 +56,7 @@ loop-again c =
     let s = l in
     let e : length s.args.t1 ≡ rank_limit = search rules in
     let f : length s.args.t2 ≡ rank_limit = search rules in
-    (omega arith, same_next (same_by eq_z) [] s.args.t1 s.args.t2 l.loop-i.i (omega arith) (omega arith) (sym c.same_row.ensures ∙ not-false _ c.if-not-same_row.false) ∙ l.loop-i.invariant.1)
+    (omega arith, same_next (same_by eq_z) [] s.args.t1 s.args.t2 l.loop-i.i (omega arith) (omega arith) (sym c.same_row.ensures ∙ c.if-not-same_row.false) ∙ l.loop-i.invariant.1)
 
 returns-2 : tie.Need-returns invariant-loop decreases-loop
 returns-2 c =

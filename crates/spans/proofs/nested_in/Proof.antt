@@ -33,7 +33,7 @@ axis-exceeds-requires c κs = (c.loop-i-test.true, c.requires)
 returns-2 : tie.Need-returns-then-not-axis_exceeds invariant-loop decreases-loop
 returns-2 c =
     let l = c in
-    from-no _ l.loop-i.i _ _ c.loop-i-test.true (sym c.axis_exceeds.ensures ∙ not-true _ c.if-not-axis_exceeds.true) ∙ l.loop-i.invariant.1
+    from-no _ l.loop-i.i _ _ c.loop-i-test.true (sym c.axis_exceeds.ensures ∙ c.if-not-axis_exceeds.true) ∙ l.loop-i.invariant.1
 
 add-i : tie.Need-overflow_add-i invariant-loop decreases-loop
 add-i c = search rules
@@ -44,7 +44,7 @@ loop-less c = search rules
 loop-again : tie.Need-loop-i-preserved invariant-loop decreases-loop
 loop-again c =
     let l = c in
-    (omega (arith, c.loop-i-test.true), from-yes _ l.loop-i.i _ _ c.loop-i-test.true (sym c.axis_exceeds.ensures ∙ not-false _ c.if-not-axis_exceeds.false) ∙ l.loop-i.invariant.1)
+    (omega (arith, c.loop-i-test.true), from-yes _ l.loop-i.i _ _ c.loop-i-test.true (sym c.axis_exceeds.ensures ∙ c.if-not-axis_exceeds.false) ∙ l.loop-i.invariant.1)
 
 returns-3 : tie.Need-returns invariant-loop decreases-loop
 returns-3 c = from_end _ c.loop-i.i _ _ c.loop-i-test.false ∙ c.loop-i.invariant.1

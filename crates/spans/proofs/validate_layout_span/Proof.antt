@@ -71,8 +71,8 @@ loop-again c =
     let s = l in
     let a = c.in-Fits.l in
     let b = c.in-Fits.h in
-    let fa : SFits w64 a = sfits_of c.known_told-1.given.0.1 in
-    let fb : SFits w64 b = sfits_of c.known_told-1.given.1.0.1 in (
+    let fa : SFits w64 a = sfits_of c.in-Fits.known_told-1-own.given.0.1 in
+    let fb : SFits w64 b = sfits_of c.in-Fits.known_told-1-own.given.1.0.1 in (
       omega (arith, w.loop-i-test.true),
       Fits-of_z fa,
       Fits-of_z fb,

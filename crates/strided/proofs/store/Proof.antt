@@ -6,13 +6,13 @@ use Rattle.strided.proofs.store.Statement.{statement}
 use Rattle.strided.proofs.store.Tie as tie
 
 returns : tie.Need-returns-then-not-is_done
-returns c = let s = c in not_made s.args.made s.args.out.now (sym c.is_done.ensures ∙ not-true _ c.if-not-is_done.true)
+returns c = let s = c in not_made s.args.made s.args.out.now (sym c.is_done.ensures ∙ c.if-not-is_done.true)
 
 same_length : tie.Need-shape_of-out
 same_length c = search rules
 
 returns-2 : tie.Need-returns
-returns-2 c = let s = c in was-made s.args.made s.args.out.now _ c.write_job.result (sym c.is_done.ensures ∙ not-false _ c.if-not-is_done.false) c.write_job.ensures
+returns-2 c = let s = c in was-made s.args.made s.args.out.now _ c.write_job.result (sym c.is_done.ensures ∙ c.if-not-is_done.false) c.write_job.ensures
 
 pub store_spec : {M : Type 1} → statement M
 store_spec = tie.close (tie.spec (λ c κs. tt) returns (λ c κs. tt) same_length returns-2)

@@ -34,7 +34,7 @@ returns : tie.Need-returns-then-not-is_done
 returns c =
     let k = c in
     let s = start k in
-    named-refused rules_i32 s.args.rule ((call s).answer (length s.args.dest.now)) _ _ s.args.dest.now _ _ (asked k ∙ not-true _ c.if-not-is_done.true) refl (c.bare_words.ensures ∙ ap (λ (x : Answer). words (bare x)) k.check_rule-listed.ensures)
+    named-refused rules_i32 s.args.rule ((call s).answer (length s.args.dest.now)) _ _ s.args.dest.now _ _ (asked k ∙ c.if-not-is_done.true) refl (c.bare_words.ensures ∙ ap (λ (x : Answer). words (bare x)) k.check_rule-listed.ensures)
 
 move-i32-requires : tie.Need-move_i32-r-requires
 move-i32-requires c κs =
@@ -52,7 +52,7 @@ returns-2 c =
     let p = o in
     let i = p in
     let s = start i.before in
-    named-listed rules_i32 s.args.rule ((call s).answer (length s.args.dest.now)) _ _ s.args.dest.now _ _ (asked i.before ∙ not-false _ i.if-not-is_done.false)
+    named-listed rules_i32 s.args.rule ((call s).answer (length s.args.dest.now)) _ _ s.args.dest.now _ _ (asked i.before ∙ i.if-not-is_done.false)
     (rw (← o.rule_of-by.ensures) (scatter-handed (pos 0) (rule_i32 o.rule_of-by.result) (call s) _ s.args.dest.now _ _ _ (simp (back s.fits.index-offset, back s.fits.updates-offset, back s.fits.dest-offset) at p.prepare_views-p.ensures) m.move_i32-r.ensures c.words_of.ensures))
 
 pub strided_raw_scatter_i32_spec : {M : Type 1} → statement M

@@ -39,7 +39,7 @@ returns : tie.Need-returns-then-not-is_done
 returns c =
     let k = c in
     let s = start k in
-    named-refused rules_f64 s.args.rule ((call s).answer (length s.args.dest.now)) _ _ s.args.dest.now _ _ (asked k ∙ not-true _ c.if-not-is_done.true) refl (c.bare_words.ensures ∙ ap (λ (x : Answer). words (bare x)) k.check_rule-listed.ensures)
+    named-refused rules_f64 s.args.rule ((call s).answer (length s.args.dest.now)) _ _ s.args.dest.now _ _ (asked k ∙ c.if-not-is_done.true) refl (c.bare_words.ensures ∙ ap (λ (x : Answer). words (bare x)) k.check_rule-listed.ensures)
 
 move-f64-requires : tie.Need-move_f64-r-requires
 move-f64-requires c κs =
@@ -59,7 +59,7 @@ returns-2 c =
     let p = o in
     let i = p in
     let s = start i.before in
-    named-listed rules_f64 s.args.rule ((call s).answer (length s.args.dest.now)) _ _ s.args.dest.now _ _ (asked i.before ∙ not-false _ i.if-not-is_done.false)
+    named-listed rules_f64 s.args.rule ((call s).answer (length s.args.dest.now)) _ _ s.args.dest.now _ _ (asked i.before ∙ i.if-not-is_done.false)
     (rw (← o.rule_f64_of-by.ensures) (operand-handed nan (rule_f64 o.rule_f64_of-by.result) (operand s) (call s) _ _ s.args.dest.now _ _ _ (simp (back s.fits.operand-offset, back s.fits.index-offset, back s.fits.updates-offset, back s.fits.dest-offset) at p.prepare_views-p.ensures) (simp (back s.fits.operand-offset) at k.copy_from-c.ensures) m.move_f64-r.ensures c.words_of.ensures))
 
 pub strided_raw_scatter_operand_f64_spec : {M : Type 1} → statement M

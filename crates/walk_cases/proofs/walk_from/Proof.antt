@@ -78,7 +78,7 @@ dest-spans : (h : tie.After-struct_told-3-1) → SFits w64 h.compile_window_repl
 dest-spans h = (search rules, search rules)
 
 -- what the tests have shown by the time that the shape and the rows are made
-known : (d : tie.After-rows_of-rows) → Walking (ds (start d)) (ss (start d)) (ts (start d)) (sb (start d)) (db (start d)) (compiled d).replay.extents d.rows_of_lem.result (compiled d).replay.rank
+known : (d : tie.After-rows_of-rows) → Walking (ds (start d)) (ss (start d)) (ts (start d)) (sb (start d)) (db (start d)) (compiled d).replay.extents d.rows_of-rows.result (compiled d).replay.rank
 known d =
     let m = d in
     let s = start d in
@@ -88,13 +88,13 @@ known d =
     let f2 : SFits w64 r.replay.spans.source_high = search rules in
     let f3 = (dest-spans d.before.before.before.before).0 in
     let f4 = (dest-spans d.before.before.before.before).1 in
-    let e1 : covers_of r.replay.spans.source_low r.replay.spans.source_high (sb s) ≡ true = sym (d.covers.ensures ∙ ap₂ (λ (x y : ℤ). covers_of x y (sb s)) (back f1) (back f2)) ∙ not-false _ d.if-not-covers.false in
-    let e2 : covers_of r.replay.spans.dest_low r.replay.spans.dest_high (db s) ≡ true = sym (d.covers-2.ensures ∙ ap₂ (λ (x y : ℤ). covers_of x y (db s)) (back f3) (back f4)) ∙ not-false _ d.if-not-covers-2.false in
-    let n : r.answer ≡ N.Done = done-is r.answer (sym d.is_done.ensures ∙ not-false _ d.if-not-is_done.false) in
+    let e1 : covers_of r.replay.spans.source_low r.replay.spans.source_high (sb s) ≡ true = sym (d.covers.ensures ∙ ap₂ (λ (x y : ℤ). covers_of x y (sb s)) (back f1) (back f2)) ∙ d.if-not-covers.false in
+    let e2 : covers_of r.replay.spans.dest_low r.replay.spans.dest_high (db s) ≡ true = sym (d.covers-2.ensures ∙ ap₂ (λ (x y : ℤ). covers_of x y (db s)) (back f3) (back f4)) ∙ d.if-not-covers-2.false in
+    let n : r.answer ≡ N.Done = done-is r.answer (sym d.is_done.ensures ∙ d.if-not-is_done.false) in
     let z = sym d.has_zero.ensures ∙ d.if-has_zero.false in
     let t = spans-cover (ds s) (ss s) (ts s) l.0 l.1 l.2 r m.compile_window_replay-made.ensures n (sb s) (db s) e1 e2 in
     let q : Ready (ds s) (ss s) (ts s) (sb s) (db s) = record { done = ap (λ (x : CompiledReplay). x.answer) (sym m.compile_window_replay-made.ensures) ∙ n; positive = some-cells (ds s) z; source-reach = t.0; dest-reach = t.1 } in
-    walking (ds s) (ss s) (ts s) l.0 l.1 l.2 r m.compile_window_replay-made.ensures (sb s) (db s) q r.replay.extents d.rows_of_lem.result refl d.rows_of_lem.ensures
+    walking (ds s) (ss s) (ts s) l.0 l.1 l.2 r m.compile_window_replay-made.ensures (sb s) (db s) q r.replay.extents d.rows_of-rows.result refl d.rows_of-rows.ensures
 
 places-requires : tie.Need-places-requires
 places-requires c κs = (known c).walk
