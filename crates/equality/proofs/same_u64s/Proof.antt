@@ -36,9 +36,9 @@ returns : tie.Need-returns-then-a-i invariant-loop decreases-loop
 returns c =
     let l = c in
     let s = l in
-    let e : length s.args.t1 ≡ rank_limit = search rules in
-    let f : length s.args.t2 ≡ rank_limit = search rules in
-    same_differs eqb 0 s.args.t1 s.args.t2 l.loop-i.i (omega arith) (omega arith) (ne_eqb _ _ c.if-a-i.true) ∙ l.loop-i.invariant.1
+    let e : length s.args.a ≡ rank_limit = search rules in
+    let f : length s.args.b ≡ rank_limit = search rules in
+    same_differs eqb 0 s.args.a s.args.b l.loop-i.i (omega arith) (omega arith) (ne_eqb _ _ c.if-a-i.true) ∙ l.loop-i.invariant.1
 
 add-i : tie.Need-overflow_add-i invariant-loop decreases-loop
 add-i c = search rules
@@ -50,17 +50,17 @@ loop-again : tie.Need-loop-i-preserved invariant-loop decreases-loop
 loop-again c =
     let l = c in
     let s = l in
-    let e : length s.args.t1 ≡ rank_limit = search rules in
-    let f : length s.args.t2 ≡ rank_limit = search rules in
-    (omega arith, same_next eqb 0 s.args.t1 s.args.t2 l.loop-i.i (omega arith) (omega arith) (eq-eqb _ _ c.if-a-i.false) ∙ l.loop-i.invariant.1)
+    let e : length s.args.a ≡ rank_limit = search rules in
+    let f : length s.args.b ≡ rank_limit = search rules in
+    (omega arith, same_next eqb 0 s.args.a s.args.b l.loop-i.i (omega arith) (omega arith) (eq-eqb _ _ c.if-a-i.false) ∙ l.loop-i.invariant.1)
 
 returns-2 : tie.Need-returns invariant-loop decreases-loop
 returns-2 c =
     let l = c in
     let s = l in
-    let e : length s.args.t1 ≡ rank_limit = search rules in
-    let f : length s.args.t2 ≡ rank_limit = search rules in
-    same_ends eqb 0 s.args.t1 s.args.t2 l.loop-i.i (omega arith) (omega arith) ∙ l.loop-i.invariant.1
+    let e : length s.args.a ≡ rank_limit = search rules in
+    let f : length s.args.b ≡ rank_limit = search rules in
+    same_ends eqb 0 s.args.a s.args.b l.loop-i.i (omega arith) (omega arith) ∙ l.loop-i.invariant.1
 
 pub same_u64s_spec : {M : Type 1} → statement M
 same_u64s_spec =

@@ -54,7 +54,7 @@ loop-again : tie.Need-loop-i-preserved invariant-loop decreases-loop
 unfolding moves_of
 loop-again c =
     let l = c in
-    let axes = l.args.t1 in
+    let axes = l.args.axes in
     let h = c.loop-i-test.true in
     let e = c.axis_move-moved.ensures in
     let f : SFits w64 c.axis_move-moved.result.window = search rules in
@@ -65,7 +65,7 @@ returns : tie.Need-returns invariant-loop decreases-loop
 unfolding moves_of
 returns c =
     let l = c in
-    let axes = l.args.t1 in
+    let axes = l.args.axes in
     let n : l.loop-i.i ≡ rank_limit = omega (arith, c.loop-i-test.false, l.loop-i.invariant.0) in
     let w = axes-written axes (λ a. (move_of a).window) l.loop-i.window l.loop-i.i n l.loop-i.invariant.1 in
     let b = axes-written axes (λ a. (move_of a).batch) l.loop-i.batch l.loop-i.i n l.loop-i.invariant.2 in

@@ -50,19 +50,19 @@ loop-again c =
     let d = c in
     let l = c in
     let s = c in
-    let f : ℕ → ℕ = entry s.args.offset-dims.now s.args.t1 in
+    let f : ℕ → ℕ = entry s.args.offset-dims.now s.args.extents in
     let h = d.loop-a-test.true in
     let n = length-tabulate rank_limit f in (
       omega (arith, h),
       one_written 1 (tabulate rank_limit f) l.loop-a.out l.loop-a.a _ (omega (arith, n, h)) (omega (arith, n)) l.loop-a.invariant.1
-          (b.batch_extent-extent.ensures ∙ ap (λ (t : Bool). cond t 1 (get_or s.args.t1 l.loop-a.a 0)) k.contains-shown.ensures ∙ sym (get_d_tabulate rank_limit f l.loop-a.a 1 (omega (arith, h)))),
+          (b.batch_extent-extent.ensures ∙ ap (λ (t : Bool). cond t 1 (get_or s.args.extents l.loop-a.a 0)) k.contains-shown.ensures ∙ sym (get_d_tabulate rank_limit f l.loop-a.a 1 (omega (arith, h)))),
     )
 
 returns : tie.Need-returns invariant-loop decreases-loop
 returns c =
     let l = c in
     let s = c in
-    let f : ℕ → ℕ = entry s.args.offset-dims.now s.args.t1 in
+    let f : ℕ → ℕ = entry s.args.offset-dims.now s.args.extents in
     let n = length-tabulate rank_limit f in
     l.loop-a.invariant.1 ∙ all-written 1 (tabulate rank_limit f) l.loop-a.a (omega (arith, n, c.loop-a-test.false)) (omega (arith, n)) ∙ full 1 (tabulate rank_limit f) n
 

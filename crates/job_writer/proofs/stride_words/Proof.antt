@@ -47,7 +47,7 @@ loop-less c = search rules
 loop-again : tie.Need-loop-i-preserved invariant-loop decreases-loop
 loop-again c =
     let l = c in
-    let ss = l.args.t1 in
+    let ss = l.args.strides in
     let s : length ss ≡ rank_limit = search rules in
     let f : SFits w64 (get_or ss l.loop-i.i (pos 0)) = search rules in
     (omega arith, fill_one rank_limit 0 (word_of (pos 0)) (map word_of ss) l.loop-i.out l.loop-i.i _ (omega arith) (omega (arith, length-map ss word_of)) l.loop-i.invariant.1 (c.word_of.ensures ∙ ap (of_z w64) (back f) ∙ sym (get_or-map word_of ss l.loop-i.i (pos 0))))
@@ -55,7 +55,7 @@ loop-again c =
 returns : tie.Need-returns invariant-loop decreases-loop
 returns c =
     let l = c in
-    let ss = l.args.t1 in
+    let ss = l.args.strides in
     let s : length ss ≡ rank_limit = search rules in
     fill-all rank_limit 0 (map word_of ss) l.loop-i.out l.loop-i.i (length-map ss word_of ∙ s) (omega arith) l.loop-i.invariant.1
 

@@ -22,12 +22,12 @@ abbrev decreases-loop : tie.decreases-loop-i
 decreases-loop base rank strides index n offset₀ i₀ offset i = n - i
 
 -- what the call returned, of the numbers themselves
-axis : (w : tie.After-checked_offset_add-s invariant-loop decreases-loop) → w.checked_offset_add-s.result ≡ offset_add (to_z w64 w.loop-i.offset) (get_or w.args.t2 w.loop-i.i (pos 0)) (get_or w.args.t3 w.loop-i.i 0)
+axis : (w : tie.After-checked_offset_add-s invariant-loop decreases-loop) → w.checked_offset_add-s.result ≡ offset_add (to_z w64 w.loop-i.offset-bits) (get_or w.args.strides w.loop-i.i (pos 0)) (get_or w.args.index w.loop-i.i 0)
 axis w =
     let l = w in
     let s = l in
-    let f : SFits w64 (get_or s.args.t2 l.loop-i.i (pos 0)) = search rules in
-    w.checked_offset_add-s.ensures ∙ ap (λ (z : ℤ). offset_add (to_z w64 l.loop-i.offset) z (get_or s.args.t3 l.loop-i.i 0)) (back f)
+    let f : SFits w64 (get_or s.args.strides l.loop-i.i (pos 0)) = search rules in
+    w.checked_offset_add-s.ensures ∙ ap (λ (z : ℤ). offset_add (to_z w64 l.loop-i.offset-bits) z (get_or s.args.index l.loop-i.i 0)) (back f)
 
 axis-count-requires : tie.Need-axis_count-n-requires invariant-loop decreases-loop
 axis-count-requires c κs = tt
@@ -61,9 +61,9 @@ returns c =
     let w = c in
     let l = w in
     let s = l in
-    let m : length s.args.t2 ≡ rank_limit = search rules in
-    let k : length s.args.t3 ≡ rank_limit = search rules in
-    offset-over (to_z w64 l.loop-i.offset) s.args.t2 s.args.t3 s.args.rank l.loop-i.i (omega (arith, l.axis_count-n.ensures, w.loop-i-test.true)) (omega (arith, l.axis_count-n.ensures, w.loop-i-test.true)) w.checked_offset_add-s.result (axis w.before.before) c.in-Overflow.is ∙ l.loop-i.invariant.2 ∙ ap (λ (z : ℤ). strided_offset z (take s.args.rank s.args.t2) (take s.args.rank s.args.t3)) (back s.ranges.base)
+    let m : length s.args.strides ≡ rank_limit = search rules in
+    let k : length s.args.index ≡ rank_limit = search rules in
+    offset-over (to_z w64 l.loop-i.offset-bits) s.args.strides s.args.index s.args.rank l.loop-i.i (omega (arith, l.axis_count-n.ensures, w.loop-i-test.true)) (omega (arith, l.axis_count-n.ensures, w.loop-i-test.true)) w.checked_offset_add-s.result (axis search) c.in-Overflow.is ∙ l.loop-i.invariant.2 ∙ ap (λ (z : ℤ). strided_offset z (take s.args.rank s.args.strides) (take s.args.rank s.args.index)) (back s.ranges.base)
 
 add-i : tie.Need-overflow_add-i invariant-loop decreases-loop
 add-i c = search rules
@@ -78,20 +78,20 @@ loop-again c =
     let s = l in
     let a = c.in-Fits.o in
     let fa : SFits w64 a = sfits_of c.in-Fits.known_told-1-own.given.0.1 in
-    let m : length s.args.t2 ≡ rank_limit = search rules in
-    let k : length s.args.t3 ≡ rank_limit = search rules in (
+    let m : length s.args.strides ≡ rank_limit = search rules in
+    let k : length s.args.index ≡ rank_limit = search rules in (
       omega (arith, w.loop-i-test.true),
       Fits-of_z fa,
-      ap (λ (z : ℤ). strided_offset z (drop (l.loop-i.i + 1) (take s.args.rank s.args.t2)) (drop (l.loop-i.i + 1) (take s.args.rank s.args.t3))) (back fa)
-          ∙ offset-next (to_z w64 l.loop-i.offset) s.args.t2 s.args.t3 s.args.rank l.loop-i.i (omega (arith, l.axis_count-n.ensures, w.loop-i-test.true)) (omega (arith, l.axis_count-n.ensures, w.loop-i-test.true)) w.checked_offset_add-s.result (axis w.before.before.before) a c.in-Fits.is ∙ l.loop-i.invariant.2,
+      ap (λ (z : ℤ). strided_offset z (drop (l.loop-i.i + 1) (take s.args.rank s.args.strides)) (drop (l.loop-i.i + 1) (take s.args.rank s.args.index))) (back fa)
+          ∙ offset-next (to_z w64 l.loop-i.offset-bits) s.args.strides s.args.index s.args.rank l.loop-i.i (omega (arith, l.axis_count-n.ensures, w.loop-i-test.true)) (omega (arith, l.axis_count-n.ensures, w.loop-i-test.true)) w.checked_offset_add-s.result (axis search) a c.in-Fits.is ∙ l.loop-i.invariant.2,
     )
 
 returns-2 : tie.Need-returns invariant-loop decreases-loop
 returns-2 c =
     let l = c in
     let s = l in
-    let m : length s.args.t2 ≡ rank_limit = search rules in
-    offset-done (to_z w64 l.loop-i.offset) s.args.t2 s.args.t3 s.args.rank l.loop-i.i (omega (arith, l.axis_count-n.ensures, c.loop-i-test.false)) ∙ l.loop-i.invariant.2 ∙ ap (λ (z : ℤ). strided_offset z (take s.args.rank s.args.t2) (take s.args.rank s.args.t3)) (back s.ranges.base)
+    let m : length s.args.strides ≡ rank_limit = search rules in
+    offset-done (to_z w64 l.loop-i.offset-bits) s.args.strides s.args.index s.args.rank l.loop-i.i (omega (arith, l.axis_count-n.ensures, c.loop-i-test.false)) ∙ l.loop-i.invariant.2 ∙ ap (λ (z : ℤ). strided_offset z (take s.args.rank s.args.strides) (take s.args.rank s.args.index)) (back s.ranges.base)
 
 pub checked_strided_offset_spec : {M : Type 1} → statement M
 checked_strided_offset_spec =

@@ -23,7 +23,7 @@ returns : tie.Need-returns
 returns c =
     let a = c in
     let x = c in
-    left_by _ _ a.args.t3 a.args.t4 a.args.t5 a.args.rank a.ranges.s a.ranges.d _ _ _ refl refl refl (pos 0) (rule_i32 R.Replace) a.args.src.now a.args.dst.now _ x.axes.ensures
+    left_by _ _ a.args.extents a.args.ss a.args.ds a.args.rank a.ranges.s a.ranges.d _ _ _ refl refl refl (pos 0) (rule_i32 R.Replace) a.args.src.now a.args.dst.now _ x.axes.ensures
 
 pub over_axes_spec : {M : Type 1} → statement M
 over_axes_spec = tie.close (tie.spec run-axis-requires axes-requires same_length returns)

@@ -69,8 +69,8 @@ loop-again c =
     let l = c in
     let s = l in
     let i = l.loop-i.i in
-    let es = s.args.t1 in
-    let rows = s.args.t2 in
+    let es = s.args.extents in
+    let rows = s.args.rows in
     let row = get_or rows i [] in
     let h = c.loop-i-test.true in
     let k = length-tabulate rank_limit (axis_at es rows) in
@@ -84,7 +84,7 @@ returns : tie.Need-returns invariant-loop decreases-loop
 returns c =
     let l = c in
     let s = l in
-    fill-all rank_limit no_axis (axes_from s.args.t1 s.args.t2) l.loop-i.out l.loop-i.i (length-tabulate rank_limit (axis_at s.args.t1 s.args.t2)) (omega arith) l.loop-i.invariant.1
+    fill-all rank_limit no_axis (axes_from s.args.extents s.args.rows) l.loop-i.out l.loop-i.i (length-tabulate rank_limit (axis_at s.args.extents s.args.rows)) (omega arith) l.loop-i.invariant.1
 
 pub axes_from_spec : {M : Type 1} → statement M
 axes_from_spec =

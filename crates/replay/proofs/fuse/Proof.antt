@@ -15,30 +15,30 @@ use borrow.Author.Rules.{rules}
 use Rattle.replay.proofs.fuse.Statement.{statement}
 use Rattle.replay.proofs.fuse.Tie as tie
 
-full : (s : tie.Start) → (length s.args.t1 ≡ rank_limit) × (length s.args.t2 ≡ rank_limit) × (length s.args.t3 ≡ rank_limit)
+full : (s : tie.Start) → (length s.args.shape ≡ rank_limit) × (length s.args.source_strides ≡ rank_limit) × (length s.args.dest_strides ≡ rank_limit)
 full s =
-    let a : length s.args.t1 ≡ rank_limit = search rules in
-    let b : length s.args.t2 ≡ rank_limit = search rules in
-    let d : length s.args.t3 ≡ rank_limit = search rules in
+    let a : length s.args.shape ≡ rank_limit = search rules in
+    let b : length s.args.source_strides ≡ rank_limit = search rules in
+    let d : length s.args.dest_strides ≡ rank_limit = search rules in
     (a, b, d)
 
 some : (m : tie.After-make_axis-first) → 0 < m.args.rank
 some m = omega (arith, m.if-rank-eq0.false)
 
 -- what the call of `make_axis` returned, of the numbers themselves
-first-axis : (m : tie.After-make_axis-first) → m.make_axis-first.result ≡ checked_axis (axis_of (get_or m.args.t1 0 0) (get_or m.args.t2 0 (pos 0)) (get_or m.args.t3 0 (pos 0)))
+first-axis : (m : tie.After-make_axis-first) → m.make_axis-first.result ≡ checked_axis (axis_of (get_or m.args.shape 0 0) (get_or m.args.source_strides 0 (pos 0)) (get_or m.args.dest_strides 0 (pos 0)))
 first-axis m =
     let s = m in
-    let f : SFits w64 (get_or s.args.t2 0 (pos 0)) = search rules in
-    let g : SFits w64 (get_or s.args.t3 0 (pos 0)) = search rules in
-    m.make_axis-first.ensures ∙ ap₂ (λ (x y : ℤ). checked_axis (axis_of (get_or s.args.t1 0 0) x y)) (back f) (back g)
+    let f : SFits w64 (get_or s.args.source_strides 0 (pos 0)) = search rules in
+    let g : SFits w64 (get_or s.args.dest_strides 0 (pos 0)) = search rules in
+    m.make_axis-first.ensures ∙ ap₂ (λ (x y : ℤ). checked_axis (axis_of (get_or s.args.shape 0 0) x y)) (back f) (back g)
 
 returns : tie.Need-returns-then-rank-eq0
 returns c =
     let s = c in
     c.done_replay.ensures
     ∙ ap (λ (x : WindowReplayAxis). done_replay 0 (replicate rank_limit x) s.args.spans) c.no_axis-empty.ensures
-    ∙ fuse-none s.args.t1 s.args.t2 s.args.t3 s.args.rank c.if-rank-eq0.true s.args.spans
+    ∙ fuse-none s.args.shape s.args.source_strides s.args.dest_strides s.args.rank c.if-rank-eq0.true s.args.spans
 
 array-read-make-axis : tie.Need-bounds-shape-0
 array-read-make-axis c = search rules
@@ -60,13 +60,13 @@ returns-2 c =
     let k = c in
     let m = k in
     let s = m in
-    c.fuse_rest.ensures ∙ first_fits s.args.t1 s.args.t2 s.args.t3 s.args.rank (full s.before.before.before.before.before.before.before.before).0 (full s.before.before.before.before.before.before.before.before).1 (full s.before.before.before.before.before.before.before.before).2 (some m.before.before.before.before) m.make_axis-first.result (first-axis m.before.before.before.before) s.args.spans k.in-Fits.axis k.in-Fits.is
+    c.fuse_rest.ensures ∙ first_fits s.args.shape s.args.source_strides s.args.dest_strides s.args.rank (full s.before.before.before.before.before.before.before.before).0 (full s.before.before.before.before.before.before.before.before).1 (full s.before.before.before.before.before.before.before.before).2 (some m.before.before.before.before) m.make_axis-first.result (first-axis m.before.before.before.before) s.args.spans k.in-Fits.axis k.in-Fits.is
 
 returns-3 : tie.Need-returns-in-Overflow
 returns-3 c =
     let m = c in
     let s = m in
-    c.refused_replay.ensures ∙ first-over s.args.t1 s.args.t2 s.args.t3 s.args.rank (full s.before.before.before.before.before.before.before).0 (full s.before.before.before.before.before.before.before).1 (full s.before.before.before.before.before.before.before).2 (some m.before.before.before) m.make_axis-first.result (first-axis m.before.before.before) s.args.spans c.in-Overflow.is
+    c.refused_replay.ensures ∙ first-over s.args.shape s.args.source_strides s.args.dest_strides s.args.rank (full s.before.before.before.before.before.before.before).0 (full s.before.before.before.before.before.before.before).1 (full s.before.before.before.before.before.before.before).2 (some m.before.before.before) m.make_axis-first.result (first-axis m.before.before.before) s.args.spans c.in-Overflow.is
 
 pub fuse_spec : {M : Type 1} → statement M
 fuse_spec =

@@ -28,22 +28,22 @@ start l = l.before.before.before
 counted : (l : tie.At-loop-i invariant-loop decreases-loop) → l.axis_count-count.result ≡ min (start l).args.rank rank_limit
 counted l = l.axis_count-count.ensures
 
-full : (s : tie.Start invariant-loop decreases-loop) → (length s.args.t2 ≡ rank_limit) × (length s.args.t3 ≡ rank_limit) × (length s.args.t4 ≡ rank_limit)
+full : (s : tie.Start invariant-loop decreases-loop) → (length s.args.shape ≡ rank_limit) × (length s.args.source_strides ≡ rank_limit) × (length s.args.dest_strides ≡ rank_limit)
 full s =
-    let a : length s.args.t2 ≡ rank_limit = search rules in
-    let b : length s.args.t3 ≡ rank_limit = search rules in
-    let d : length s.args.t4 ≡ rank_limit = search rules in
+    let a : length s.args.shape ≡ rank_limit = search rules in
+    let b : length s.args.source_strides ≡ rank_limit = search rules in
+    let d : length s.args.dest_strides ≡ rank_limit = search rules in
     (a, b, d)
 
 -- what the call of `join` returned, of the numbers themselves
-joined : (j : tie.After-join-joined invariant-loop decreases-loop) → j.join-joined.result ≡ joined_axis j.loop-i.last (axis_of (get_or (start j.before.before.before.before).args.t2 j.loop-i.i 0) (get_or (start j.before.before.before.before).args.t3 j.loop-i.i (pos 0)) (get_or (start j.before.before.before.before).args.t4 j.loop-i.i (pos 0)))
+joined : (j : tie.After-join-joined invariant-loop decreases-loop) → j.join-joined.result ≡ joined_axis j.loop-i.last (axis_of (get_or (start j.before.before.before.before).args.shape j.loop-i.i 0) (get_or (start j.before.before.before.before).args.source_strides j.loop-i.i (pos 0)) (get_or (start j.before.before.before.before).args.dest_strides j.loop-i.i (pos 0)))
 joined j =
     let l = j in
     let s = start l.before.before.before.before in
     let i = l.loop-i.i in
-    let f : SFits w64 (get_or s.args.t3 i (pos 0)) = search rules in
-    let g : SFits w64 (get_or s.args.t4 i (pos 0)) = search rules in
-    j.join-joined.ensures ∙ ap₂ (λ (x y : ℤ). joined_axis l.loop-i.last (axis_of (get_or s.args.t2 i 0) x y)) (back f) (back g)
+    let f : SFits w64 (get_or s.args.source_strides i (pos 0)) = search rules in
+    let g : SFits w64 (get_or s.args.dest_strides i (pos 0)) = search rules in
+    j.join-joined.ensures ∙ ap₂ (λ (x y : ℤ). joined_axis l.loop-i.last (axis_of (get_or s.args.shape i 0) x y)) (back f) (back g)
 
 here : (j : tie.After-join-joined invariant-loop decreases-loop) → j.loop-i.i < min (start j.before.before.before.before).args.rank rank_limit
 here j = omega (arith, counted j.before.before.before.before, j.loop-i-test.true)
@@ -57,8 +57,8 @@ no-axis-requires c κs = tt
 loop-holds : tie.Need-loop-i-init invariant-loop decreases-loop
 loop-holds c =
     let s = c in
-    subst (λ (z : WindowReplayAxis). Fusing s.args.t2 s.args.t3 s.args.t4 s.args.rank s.args.first (replicate rank_limit z) s.args.first 0 1) (sym c.no_axis-empty.ensures)
-    (fusing-first s.args.t2 s.args.t3 s.args.t4 s.args.rank s.args.first)
+    subst (λ (z : WindowReplayAxis). Fusing s.args.shape s.args.source_strides s.args.dest_strides s.args.rank s.args.first (replicate rank_limit z) s.args.first 0 1) (sym c.no_axis-empty.ensures)
+    (fusing-first s.args.shape s.args.source_strides s.args.dest_strides s.args.rank s.args.first)
 
 mul-join : tie.Need-offset_bounds-shape-i invariant-loop decreases-loop
 mul-join c = search rules
@@ -95,7 +95,7 @@ loop-again c =
     let j = c in
     let l = j in
     let s = start l.before.before.before.before.before.before.before in
-    fusing-merged s.args.t2 s.args.t3 s.args.t4 s.args.rank (full s).0 (full s).1 (full s).2 s.args.first l.loop-i.axes l.loop-i.last l.loop-i.n l.loop-i.i l.loop-i.invariant s.args.spans (here j.before.before.before) j.join-joined.result (joined j.before.before.before) c.in-Merged.axis c.in-Merged.is
+    fusing-merged s.args.shape s.args.source_strides s.args.dest_strides s.args.rank (full s).0 (full s).1 (full s).2 s.args.first l.loop-i.axes l.loop-i.last l.loop-i.n l.loop-i.i l.loop-i.invariant s.args.spans (here j.before.before.before) j.join-joined.result (joined j.before.before.before) c.in-Merged.axis c.in-Merged.is
 
 enum-known-joined-2 : tie.Need-enum_known-joined-in-Apart-1 invariant-loop decreases-loop
 enum-known-joined-2 c = search rules
@@ -117,7 +117,7 @@ loop-again-2 c =
     let j = c in
     let l = j in
     let s = start l.before.before.before.before.before.before.before in
-    fusing-apart s.args.t2 s.args.t3 s.args.t4 s.args.rank (full s).0 (full s).1 (full s).2 s.args.first l.loop-i.axes l.loop-i.last l.loop-i.n l.loop-i.i l.loop-i.invariant s.args.spans (here j.before.before.before) j.join-joined.result (joined j.before.before.before) c.in-Apart.axis c.in-Apart.is
+    fusing-apart s.args.shape s.args.source_strides s.args.dest_strides s.args.rank (full s).0 (full s).1 (full s).2 s.args.first l.loop-i.axes l.loop-i.last l.loop-i.n l.loop-i.i l.loop-i.invariant s.args.spans (here j.before.before.before) j.join-joined.result (joined j.before.before.before) c.in-Apart.axis c.in-Apart.is
 
 enum_told : tie.Need-enum_told-1 invariant-loop decreases-loop
 enum_told c = search rules
@@ -130,7 +130,7 @@ returns c =
     let j = c in
     let l = j in
     let s = start l.before.before.before.before.before.before.before in
-    c.refused_replay.ensures ∙ fusing-over s.args.t2 s.args.t3 s.args.t4 s.args.rank (full s).0 (full s).1 (full s).2 s.args.first l.loop-i.axes l.loop-i.last l.loop-i.n l.loop-i.i l.loop-i.invariant s.args.spans (here j.before.before.before) j.join-joined.result (joined j.before.before.before) c.in-Overflow.is
+    c.refused_replay.ensures ∙ fusing-over s.args.shape s.args.source_strides s.args.dest_strides s.args.rank (full s).0 (full s).1 (full s).2 s.args.first l.loop-i.axes l.loop-i.last l.loop-i.n l.loop-i.i l.loop-i.invariant s.args.spans (here j.before.before.before) j.join-joined.result (joined j.before.before.before) c.in-Overflow.is
 
 mul-axes-2 : tie.Need-offset_bounds-axes-n-2 invariant-loop decreases-loop
 mul-axes-2 c = search rules
@@ -148,7 +148,7 @@ returns-2 : tie.Need-returns invariant-loop decreases-loop
 returns-2 c =
     let l = c in
     let s = start l.before.before in
-    c.done_replay.ensures ∙ fusing-done s.args.t2 s.args.t3 s.args.t4 s.args.rank (full s).0 (full s).1 (full s).2 s.args.first l.loop-i.axes l.loop-i.last l.loop-i.n l.loop-i.i l.loop-i.invariant s.args.spans (omega (arith, counted l.before.before, c.loop-i-test.false))
+    c.done_replay.ensures ∙ fusing-done s.args.shape s.args.source_strides s.args.dest_strides s.args.rank (full s).0 (full s).1 (full s).2 s.args.first l.loop-i.axes l.loop-i.last l.loop-i.n l.loop-i.i l.loop-i.invariant s.args.spans (omega (arith, counted l.before.before, c.loop-i-test.false))
 
 pub fuse_rest_spec : {M : Type 1} → statement M
 fuse_rest_spec =

@@ -45,8 +45,8 @@ loop-again : tie.Need-loop-i-preserved invariant-loop decreases-loop
 loop-again c =
     let l = c in
     let s = l in
-    let a = get_or s.args.t1 l.loop-i.i (the_axis 0 (pos 0) (pos 0) (pos 0) (pos 0)) in
-    let h : length s.args.t1 ≡ rank_limit = search rules in
+    let a = get_or s.args.axes l.loop-i.i (the_axis 0 (pos 0) (pos 0) (pos 0) (pos 0)) in
+    let h : length s.args.axes ≡ rank_limit = search rules in
     let f1 : SFits w64 a.source_step = search rules in
     let f2 : SFits w64 a.source_reset = search rules in
     let f3 : SFits w64 a.dest_step = search rules in
@@ -56,14 +56,14 @@ loop-again c =
     let e3 = back f3 in
     let e4 = back f4 in (
       search rules,
-      fill_one rank_limit (replicate 4 (pos 0)) (replicate 4 (pos 0)) (rows_of s.args.t1) l.loop-i.out l.loop-i.i _ (omega arith) (rw length-map (omega arith)) l.loop-i.invariant.1
-          ((λ ι. e1 ι ∷ e2 ι ∷ e3 ι ∷ e4 ι ∷ []) ∙ sym (get_or-map row_of s.args.t1 l.loop-i.i (the_axis 0 (pos 0) (pos 0) (pos 0) (pos 0)))),
+      fill_one rank_limit (replicate 4 (pos 0)) (replicate 4 (pos 0)) (rows_of s.args.axes) l.loop-i.out l.loop-i.i _ (omega arith) (rw length-map (omega arith)) l.loop-i.invariant.1
+          ((λ ι. e1 ι ∷ e2 ι ∷ e3 ι ∷ e4 ι ∷ []) ∙ sym (get_or-map row_of s.args.axes l.loop-i.i (the_axis 0 (pos 0) (pos 0) (pos 0) (pos 0)))),
     )
 
 returns : tie.Need-returns invariant-loop decreases-loop
 returns c =
-    let h : length c.args.t1 ≡ rank_limit = search rules in
-    fill-all rank_limit (replicate 4 (pos 0)) (rows_of c.args.t1) c.loop-i.out c.loop-i.i (rw length-map h) (omega arith) c.loop-i.invariant.1
+    let h : length c.args.axes ≡ rank_limit = search rules in
+    fill-all rank_limit (replicate 4 (pos 0)) (rows_of c.args.axes) c.loop-i.out c.loop-i.i (rw length-map h) (omega arith) c.loop-i.invariant.1
 
 pub rows_of_spec : {M : Type 1} → statement M
 rows_of_spec =

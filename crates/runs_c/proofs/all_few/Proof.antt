@@ -27,8 +27,8 @@ array-read-if1 c = search rules
 returns : tie.Need-returns-then-extents-i-gt9223372036854775808 invariant-loop decreases-loop
 returns c = let l = c in
     let s = l in
-    let e : length s.args.t1 ≡ rank_limit = search rules in
-    few-stops s.args.t1 s.args.rank l.loop-i.i (omega arith) (omega arith) (omega arith) ∙ l.loop-i.invariant.1
+    let e : length s.args.extents ≡ rank_limit = search rules in
+    few-stops s.args.extents s.args.rank l.loop-i.i (omega arith) (omega arith) (omega arith) ∙ l.loop-i.invariant.1
 
 add-i : tie.Need-overflow_add-i invariant-loop decreases-loop
 add-i c = omega arith
@@ -39,14 +39,14 @@ loop-less c = omega arith
 loop-again : tie.Need-loop-i-preserved invariant-loop decreases-loop
 loop-again c = let l = c in
     let s = l in
-    let e : length s.args.t1 ≡ rank_limit = search rules in
-    (omega arith, few-goes s.args.t1 s.args.rank l.loop-i.i (omega arith) (omega arith) (omega arith) ∙ l.loop-i.invariant.1)
+    let e : length s.args.extents ≡ rank_limit = search rules in
+    (omega arith, few-goes s.args.extents s.args.rank l.loop-i.i (omega arith) (omega arith) (omega arith) ∙ l.loop-i.invariant.1)
 
 returns-2 : tie.Need-returns invariant-loop decreases-loop
 returns-2 c = let l = c in
     let s = l in
-    let e : length s.args.t1 ≡ rank_limit = search rules in
-    few-ends s.args.t1 s.args.rank l.loop-i.i (omega arith) (omega arith) ∙ l.loop-i.invariant.1
+    let e : length s.args.extents ≡ rank_limit = search rules in
+    few-ends s.args.extents s.args.rank l.loop-i.i (omega arith) (omega arith) ∙ l.loop-i.invariant.1
 
 pub all_few_spec : {M : Type 1} → statement M
 all_few_spec =

@@ -52,7 +52,7 @@ loop-less c = search rules
 loop-again : tie.Need-loop-i-preserved invariant-loop decreases-loop
 loop-again c =
     let l = c in
-    let a = l.args.t1 in
+    let a = l.args.rows in
     let j = l.args.side in
     let h = c.loop-i-test.true in
     let k = length-tabulate rank_limit (λ k. get_or (get_or a k []) j (pos 0)) in
@@ -60,7 +60,7 @@ loop-again c =
     (omega (arith, h), one_written (pos 0) (steps_at j a) l.loop-i.out l.loop-i.i _ (omega (arith, k, h)) (omega (arith, k)) l.loop-i.invariant.1 (back f ∙ sym (get_d_tabulate rank_limit (λ k. get_or (get_or a k []) j (pos 0)) l.loop-i.i (pos 0) (omega (arith, h)))))
 
 returns : tie.Need-returns invariant-loop decreases-loop
-returns c = let l = c in let a = l.args.t1 in let j = l.args.side in let k = length-tabulate rank_limit (λ k. get_or (get_or a k []) j (pos 0)) in l.loop-i.invariant.1 ∙ all-written (pos 0) (steps_at j a) l.loop-i.i (omega (arith, k, c.loop-i-test.false)) (omega (arith, k)) ∙ full (pos 0) (steps_at j a) k
+returns c = let l = c in let a = l.args.rows in let j = l.args.side in let k = length-tabulate rank_limit (λ k. get_or (get_or a k []) j (pos 0)) in l.loop-i.invariant.1 ∙ all-written (pos 0) (steps_at j a) l.loop-i.i (omega (arith, k, c.loop-i-test.false)) (omega (arith, k)) ∙ full (pos 0) (steps_at j a) k
 
 pub steps_at_spec : {M : Type 1} → statement M
 steps_at_spec =

@@ -21,10 +21,10 @@ abbrev decreases-loop : tie.decreases-loop-i
 decreases-loop a b i₀ i = 4 - i
 
 -- what the entries' test answered
-at : (w : tie.After-same_i64 invariant-loop decreases-loop) → w.same_i64.result ≡ eq_z (get_or w.args.t1 w.loop-i.i (pos 0)) (get_or w.args.t2 w.loop-i.i (pos 0))
+at : (w : tie.After-same_i64 invariant-loop decreases-loop) → w.same_i64.result ≡ eq_z (get_or w.args.a w.loop-i.i (pos 0)) (get_or w.args.b w.loop-i.i (pos 0))
 at w =
-    let fx : SFits w64 (get_or w.args.t1 w.loop-i.i (pos 0)) = record { sfits = w.x-1.given } in
-    let fy : SFits w64 (get_or w.args.t2 w.loop-i.i (pos 0)) = record { sfits = w.y-1.given } in
+    let fx : SFits w64 (get_or w.args.a w.loop-i.i (pos 0)) = record { sfits = w.x-1.given } in
+    let fy : SFits w64 (get_or w.args.b w.loop-i.i (pos 0)) = record { sfits = w.y-1.given } in
     w.same_i64.ensures ∙ rw (back fx, back fy)
 
 loop-holds : tie.Need-loop-i-init invariant-loop decreases-loop
@@ -49,9 +49,9 @@ returns : tie.Need-returns-then-not-same_i64 invariant-loop decreases-loop
 returns c =
     let l = c in
     let s = l in
-    let e : length s.args.t1 ≡ 4 = search rules in
-    let f : length s.args.t2 ≡ 4 = search rules in
-    same_differs eq_z (pos 0) s.args.t1 s.args.t2 l.loop-i.i (omega arith) (omega arith) (sym (at c.before) ∙ c.if-not-same_i64.true) ∙ l.loop-i.invariant.1
+    let e : length s.args.a ≡ 4 = search rules in
+    let f : length s.args.b ≡ 4 = search rules in
+    same_differs eq_z (pos 0) s.args.a s.args.b l.loop-i.i (omega arith) (omega arith) (sym (at c.before) ∙ c.if-not-same_i64.true) ∙ l.loop-i.invariant.1
 
 add-i : tie.Need-overflow_add-i invariant-loop decreases-loop
 add-i c = search rules
@@ -63,17 +63,17 @@ loop-again : tie.Need-loop-i-preserved invariant-loop decreases-loop
 loop-again c =
     let l = c in
     let s = l in
-    let e : length s.args.t1 ≡ 4 = search rules in
-    let f : length s.args.t2 ≡ 4 = search rules in
-    (omega arith, same_next eq_z (pos 0) s.args.t1 s.args.t2 l.loop-i.i (omega arith) (omega arith) (sym (at c.before) ∙ c.if-not-same_i64.false) ∙ l.loop-i.invariant.1)
+    let e : length s.args.a ≡ 4 = search rules in
+    let f : length s.args.b ≡ 4 = search rules in
+    (omega arith, same_next eq_z (pos 0) s.args.a s.args.b l.loop-i.i (omega arith) (omega arith) (sym (at c.before) ∙ c.if-not-same_i64.false) ∙ l.loop-i.invariant.1)
 
 returns-2 : tie.Need-returns invariant-loop decreases-loop
 returns-2 c =
     let l = c in
     let s = l in
-    let e : length s.args.t1 ≡ 4 = search rules in
-    let f : length s.args.t2 ≡ 4 = search rules in
-    same_ends eq_z (pos 0) s.args.t1 s.args.t2 l.loop-i.i (omega arith) (omega arith) ∙ l.loop-i.invariant.1
+    let e : length s.args.a ≡ 4 = search rules in
+    let f : length s.args.b ≡ 4 = search rules in
+    same_ends eq_z (pos 0) s.args.a s.args.b l.loop-i.i (omega arith) (omega arith) ∙ l.loop-i.invariant.1
 
 pub same_row_spec : {M : Type 1} → statement M
 same_row_spec =

@@ -40,9 +40,9 @@ returns : tie.Need-returns-then-not-same_row invariant-loop decreases-loop
 returns c =
     let l = c in
     let s = l in
-    let e : length s.args.t1 ≡ rank_limit = search rules in
-    let f : length s.args.t2 ≡ rank_limit = search rules in
-    same_differs (same_by eq_z) [] s.args.t1 s.args.t2 l.loop-i.i (omega arith) (omega arith) (sym c.same_row.ensures ∙ c.if-not-same_row.true) ∙ l.loop-i.invariant.1
+    let e : length s.args.a ≡ rank_limit = search rules in
+    let f : length s.args.b ≡ rank_limit = search rules in
+    same_differs (same_by eq_z) [] s.args.a s.args.b l.loop-i.i (omega arith) (omega arith) (sym c.same_row.ensures ∙ c.if-not-same_row.true) ∙ l.loop-i.invariant.1
 
 add-i : tie.Need-overflow_add-i invariant-loop decreases-loop
 add-i c = search rules
@@ -54,17 +54,17 @@ loop-again : tie.Need-loop-i-preserved invariant-loop decreases-loop
 loop-again c =
     let l = c in
     let s = l in
-    let e : length s.args.t1 ≡ rank_limit = search rules in
-    let f : length s.args.t2 ≡ rank_limit = search rules in
-    (omega arith, same_next (same_by eq_z) [] s.args.t1 s.args.t2 l.loop-i.i (omega arith) (omega arith) (sym c.same_row.ensures ∙ c.if-not-same_row.false) ∙ l.loop-i.invariant.1)
+    let e : length s.args.a ≡ rank_limit = search rules in
+    let f : length s.args.b ≡ rank_limit = search rules in
+    (omega arith, same_next (same_by eq_z) [] s.args.a s.args.b l.loop-i.i (omega arith) (omega arith) (sym c.same_row.ensures ∙ c.if-not-same_row.false) ∙ l.loop-i.invariant.1)
 
 returns-2 : tie.Need-returns invariant-loop decreases-loop
 returns-2 c =
     let l = c in
     let s = l in
-    let e : length s.args.t1 ≡ rank_limit = search rules in
-    let f : length s.args.t2 ≡ rank_limit = search rules in
-    same_ends (same_by eq_z) [] s.args.t1 s.args.t2 l.loop-i.i (omega arith) (omega arith) ∙ l.loop-i.invariant.1
+    let e : length s.args.a ≡ rank_limit = search rules in
+    let f : length s.args.b ≡ rank_limit = search rules in
+    same_ends (same_by eq_z) [] s.args.a s.args.b l.loop-i.i (omega arith) (omega arith) ∙ l.loop-i.invariant.1
 
 pub same_rows_spec : {M : Type 1} → statement M
 same_rows_spec =

@@ -21,11 +21,11 @@ abbrev decreases-loop : tie.decreases-loop-i
 decreases-loop extents strides low₀ high₀ i₀ low high i = length extents - i
 
 -- what the call returned, of the numbers themselves
-axis : (w : tie.After-widen-s invariant-loop decreases-loop) → w.widen-s.result ≡ widened (to_z w64 w.loop-i.low) (to_z w64 w.loop-i.high) (get_or w.args.extents.now w.loop-i.i 0) (get_or w.args.strides.now w.loop-i.i (pos 0))
+axis : (w : tie.After-widen-s invariant-loop decreases-loop) → w.widen-s.result ≡ widened (to_z w64 w.loop-i.low-bits) (to_z w64 w.loop-i.high-bits) (get_or w.args.extents.now w.loop-i.i 0) (get_or w.args.strides.now w.loop-i.i (pos 0))
 axis w =
     let l = w in
     let f : SFits w64 (get_or l.args.strides.now l.loop-i.i (pos 0)) = search rules in
-    w.widen-s.ensures ∙ ap (widened (to_z w64 l.loop-i.low) (to_z w64 l.loop-i.high) (get_or l.args.extents.now l.loop-i.i 0)) (back f)
+    w.widen-s.ensures ∙ ap (widened (to_z w64 l.loop-i.low-bits) (to_z w64 l.loop-i.high-bits) (get_or l.args.extents.now l.loop-i.i 0)) (back f)
 
 loop-holds : tie.Need-loop-i-init invariant-loop decreases-loop
 loop-holds c = (zero-le, Fits-of_z (sfits_lit {z = pos 0} tt), Fits-of_z (sfits_lit {z = pos 0} tt), refl)
@@ -56,7 +56,7 @@ returns c =
     let w = c in
     let l = w in
     let s = l in
-    span-over (to_z w64 l.loop-i.low) (to_z w64 l.loop-i.high) s.args.extents.now s.args.strides.now l.loop-i.i (omega (arith, w.loop-i-test.true)) (omega (arith, w.loop-i-test.true)) w.widen-s.result (axis w.before.before) c.in-Overflow.is ∙ l.loop-i.invariant.3
+    span-over (to_z w64 l.loop-i.low-bits) (to_z w64 l.loop-i.high-bits) s.args.extents.now s.args.strides.now l.loop-i.i (omega (arith, w.loop-i-test.true)) (omega (arith, w.loop-i-test.true)) w.widen-s.result (axis w.before.before) c.in-Overflow.is ∙ l.loop-i.invariant.3
 
 add-i : tie.Need-overflow_add-i invariant-loop decreases-loop
 add-i c = search rules
@@ -77,14 +77,14 @@ loop-again c =
       Fits-of_z fa,
       Fits-of_z fb,
       ap₂ (λ (x y : ℤ). span_from x y (drop (l.loop-i.i + 1) s.args.extents.now) (drop (l.loop-i.i + 1) s.args.strides.now)) (back fa) (back fb)
-          ∙ span-next (to_z w64 l.loop-i.low) (to_z w64 l.loop-i.high) s.args.extents.now s.args.strides.now l.loop-i.i (omega (arith, w.loop-i-test.true)) (omega (arith, w.loop-i-test.true)) w.widen-s.result (axis w.before.before.before) a b c.in-Fits.is ∙ l.loop-i.invariant.3,
+          ∙ span-next (to_z w64 l.loop-i.low-bits) (to_z w64 l.loop-i.high-bits) s.args.extents.now s.args.strides.now l.loop-i.i (omega (arith, w.loop-i-test.true)) (omega (arith, w.loop-i-test.true)) w.widen-s.result (axis w.before.before.before) a b c.in-Fits.is ∙ l.loop-i.invariant.3,
     )
 
 returns-2 : tie.Need-returns invariant-loop decreases-loop
 returns-2 c =
     let l = c in
     let s = l in
-    span-done (to_z w64 l.loop-i.low) (to_z w64 l.loop-i.high) s.args.extents.now s.args.strides.now l.loop-i.i (omega (arith, c.loop-i-test.false)) ∙ l.loop-i.invariant.3
+    span-done (to_z w64 l.loop-i.low-bits) (to_z w64 l.loop-i.high-bits) s.args.extents.now s.args.strides.now l.loop-i.i (omega (arith, c.loop-i-test.false)) ∙ l.loop-i.invariant.3
 
 pub validate_layout_span_spec : {M : Type 1} → statement M
 validate_layout_span_spec =
