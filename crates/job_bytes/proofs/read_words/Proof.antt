@@ -28,7 +28,7 @@ returns c =
     let p4 = p3 in
     let p5 = p4 in
     let p7 = p5 in
-    c.no_words.ensures ∙ sym (ap held_words (word-stops _ _ _ _ _ _ p7.requires p4.loop-i-test.true p5.loop-i.invariant _ (number-fault _ _ p3.read_number-word.ensures c.if-not-word.true)))
+    c.no_words.ensures ∙ sym (ap held_words (word-stops _ _ _ _ _ _ p7.requires p4.loop-i-test.true p5.loop-i.invariant _ (number-fault _ _ p3.read_number-word.ensures (not-true _ c.if-not-word.true))))
 
 mul-entries : tie.Need-offset_bounds-entries-i invariant-loop decreases-loop
 mul-entries c = search rules
@@ -43,7 +43,7 @@ loop-less : tie.Need-loop-i-smaller invariant-loop decreases-loop
 loop-less c = search rules
 
 loop-again : tie.Need-loop-i-preserved invariant-loop decreases-loop
-loop-again c = word_more _ _ _ _ _ _ c.requires c.loop-i-test.true c.loop-i.invariant _ _ (number_read _ _ c.read_number-word.ensures c.if-not-word.false)
+loop-again c = word_more _ _ _ _ _ _ c.requires c.loop-i-test.true c.loop-i.invariant _ _ (number_read _ _ c.read_number-word.ensures (not-false _ c.if-not-word.false))
 
 returns-2 : tie.Need-returns invariant-loop decreases-loop
 returns-2 c = all_words _ _ _ _ _ _ c.requires c.loop-i-test.false c.loop-i.invariant

@@ -62,7 +62,7 @@ returns c =
     let w = c in
     let l = w in
     let s = l in
-    sum_over (side_at s.args.below) l.loop-i.sum s.args.extents.now s.args.strides.now l.loop-i.i (omega (arith, w.loop-i-test.true)) (omega (arith, w.loop-i-test.true)) (sym (added w.before.before) ∙ c.in-Overflow.is) ∙ ap checked_u l.loop-i.invariant.2
+    sum_over (side_at s.args.below) l.loop-i.sum s.args.extents.now s.args.strides.now l.loop-i.i (omega (arith, w.loop-i-test.true)) (omega (arith, w.loop-i-test.true)) (sym (added search) ∙ c.in-Overflow.is) ∙ ap checked_u l.loop-i.invariant.2
 
 add-i : tie.Need-overflow_add-i invariant-loop decreases-loop
 add-i c = search rules
@@ -75,7 +75,7 @@ loop-again c =
     let w = c in
     let l = w in
     let s = l in
-    (omega (arith, w.loop-i-test.true), omega (arith, checked_u-below _ _ (sym (added w.before.before.before) ∙ c.in-Fits.is), checked_u-fits _ _ (sym (added w.before.before.before) ∙ c.in-Fits.is)), sum-next (side_at s.args.below) l.loop-i.sum s.args.extents.now s.args.strides.now l.loop-i.i (omega (arith, w.loop-i-test.true)) (omega (arith, w.loop-i-test.true)) c.in-Fits.t (sym (added w.before.before.before) ∙ c.in-Fits.is) ∙ l.loop-i.invariant.2)
+    (omega (arith, w.loop-i-test.true), omega (arith, checked_u-below _ _ (sym (added search) ∙ c.in-Fits.is), checked_u-fits _ _ (sym (added search) ∙ c.in-Fits.is)), sum-next (side_at s.args.below) l.loop-i.sum s.args.extents.now s.args.strides.now l.loop-i.i (omega (arith, w.loop-i-test.true)) (omega (arith, w.loop-i-test.true)) c.in-Fits.t (sym (added search) ∙ c.in-Fits.is) ∙ l.loop-i.invariant.2)
 
 returns-2 : tie.Need-returns invariant-loop decreases-loop
 returns-2 c =

@@ -56,7 +56,7 @@ returns c =
     let w = c in
     let l = w in
     let s = l in
-    span-over (to_z w64 l.loop-i.low-bits) (to_z w64 l.loop-i.high-bits) s.args.extents.now s.args.strides.now l.loop-i.i (omega (arith, w.loop-i-test.true)) (omega (arith, w.loop-i-test.true)) w.widen-s.result (axis w.before.before) c.in-Overflow.is ∙ l.loop-i.invariant.3
+    span-over (to_z w64 l.loop-i.low-bits) (to_z w64 l.loop-i.high-bits) s.args.extents.now s.args.strides.now l.loop-i.i (omega (arith, w.loop-i-test.true)) (omega (arith, w.loop-i-test.true)) w.widen-s.result (axis search) c.in-Overflow.is ∙ l.loop-i.invariant.3
 
 add-i : tie.Need-overflow_add-i invariant-loop decreases-loop
 add-i c = search rules
@@ -77,7 +77,7 @@ loop-again c =
       Fits-of_z fa,
       Fits-of_z fb,
       ap₂ (λ (x y : ℤ). span_from x y (drop (l.loop-i.i + 1) s.args.extents.now) (drop (l.loop-i.i + 1) s.args.strides.now)) (back fa) (back fb)
-          ∙ span-next (to_z w64 l.loop-i.low-bits) (to_z w64 l.loop-i.high-bits) s.args.extents.now s.args.strides.now l.loop-i.i (omega (arith, w.loop-i-test.true)) (omega (arith, w.loop-i-test.true)) w.widen-s.result (axis w.before.before.before) a b c.in-Fits.is ∙ l.loop-i.invariant.3,
+          ∙ span-next (to_z w64 l.loop-i.low-bits) (to_z w64 l.loop-i.high-bits) s.args.extents.now s.args.strides.now l.loop-i.i (omega (arith, w.loop-i-test.true)) (omega (arith, w.loop-i-test.true)) w.widen-s.result (axis search) a b c.in-Fits.is ∙ l.loop-i.invariant.3,
     )
 
 returns-2 : tie.Need-returns invariant-loop decreases-loop
