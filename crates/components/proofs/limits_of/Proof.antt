@@ -18,7 +18,7 @@ part-limits-on-start : tie.Need-slice_bounds-limits_on-start
 part-limits-on-start c = search rules
 
 part-limits-on-end : tie.Need-slice_bounds-limits_on-end
-part-limits-on-end c = let s = c in part-fits c.axis_count-k.result s.args.map.count s.args.map.entries c.axis_count-k.ensures (lengths s.before.before.before.before.before.before).2
+part-limits-on-end c = let s = c in part-fits c.axis_count-k.result s.args.map.count s.args.map.entries c.axis_count-k.ensures (lengths search).2
 
 sub-limits-on-2 : tie.Need-slice_bounds-limits_on-count-2
 sub-limits-on-2 c = search rules
@@ -27,7 +27,7 @@ part-limits-on-start-2 : tie.Need-slice_bounds-limits_on-start-2
 part-limits-on-start-2 c = search rules
 
 part-limits-on-end-2 : tie.Need-slice_bounds-limits_on-end-2
-part-limits-on-end-2 c = let s = c in part-fits c.axis_count-n.result s.args.layout.rank s.args.layout.extents c.axis_count-n.ensures (lengths s.before.before.before.before.before.before.before).0
+part-limits-on-end-2 c = let s = c in part-fits c.axis_count-n.result s.args.layout.rank s.args.layout.extents c.axis_count-n.ensures (lengths search).0
 
 sub-limits-on-3 : tie.Need-slice_bounds-limits_on-count-3
 sub-limits-on-3 c = search rules
@@ -36,14 +36,14 @@ part-limits-on-start-3 : tie.Need-slice_bounds-limits_on-start-3
 part-limits-on-start-3 c = search rules
 
 part-limits-on-end-3 : tie.Need-slice_bounds-limits_on-end-3
-part-limits-on-end-3 c = let s = c in part-fits c.axis_count-m.result s.args.sizes.count s.args.sizes.entries c.axis_count-m.ensures (lengths s.before.before.before.before.before.before.before.before).1
+part-limits-on-end-3 c = let s = c in part-fits c.axis_count-m.result s.args.sizes.count s.args.sizes.entries c.axis_count-m.ensures (lengths search).1
 
 returns : tie.Need-returns
 returns c =
     let s = c in
-    let m = part-read c.axis_count-k.result s.args.map.count s.args.map.entries c.axis_count-k.ensures (lengths s.before.before.before.before.before.before.before.before.before.before).2 in
-    let e = part-read c.axis_count-n.result s.args.layout.rank s.args.layout.extents c.axis_count-n.ensures (lengths s.before.before.before.before.before.before.before.before.before.before).0 in
-    let w = part-read c.axis_count-m.result s.args.sizes.count s.args.sizes.entries c.axis_count-m.ensures (lengths s.before.before.before.before.before.before.before.before.before.before).1 in
+    let m = part-read c.axis_count-k.result s.args.map.count s.args.map.entries c.axis_count-k.ensures (lengths search).2 in
+    let e = part-read c.axis_count-n.result s.args.layout.rank s.args.layout.extents c.axis_count-n.ensures (lengths search).0 in
+    let w = part-read c.axis_count-m.result s.args.sizes.count s.args.sizes.entries c.axis_count-m.ensures (lengths search).1 in
     c.limits_on.ensures ∙ λ i. tabulate rank_limit (limit_at (e i) (w i) (m i))
 
 pub limits_of_spec : {M : Type 1} → statement M
