@@ -20,7 +20,7 @@ part-same-view-start : tie.Need-slice_bounds-same_view-start
 part-same-view-start c = search rules
 
 part-same-view-end : tie.Need-slice_bounds-same_view-end
-part-same-view-end c = let s = c in part-fits c.axis_count-n.result s.args.a.rank s.args.a.extents c.axis_count-n.ensures (lengths s.before.before.before.before.before.before).0
+part-same-view-end c = let s = c in part-fits c.axis_count-n.result s.args.a.rank s.args.a.extents c.axis_count-n.ensures (lengths search).0
 
 sub-same-view-2 : tie.Need-slice_bounds-same_view-count-2
 sub-same-view-2 c = search rules
@@ -29,7 +29,7 @@ part-same-view-start-2 : tie.Need-slice_bounds-same_view-start-2
 part-same-view-start-2 c = search rules
 
 part-same-view-end-2 : tie.Need-slice_bounds-same_view-end-2
-part-same-view-end-2 c = let s = c in part-fits c.axis_count-n.result s.args.a.rank s.args.a.strides c.axis_count-n.ensures (lengths s.before.before.before.before.before.before.before).1
+part-same-view-end-2 c = let s = c in part-fits c.axis_count-n.result s.args.a.rank s.args.a.strides c.axis_count-n.ensures (lengths search).1
 
 sub-same-view-3 : tie.Need-slice_bounds-same_view-count-3
 sub-same-view-3 c = search rules
@@ -38,7 +38,7 @@ part-same-view-start-3 : tie.Need-slice_bounds-same_view-start-3
 part-same-view-start-3 c = search rules
 
 part-same-view-end-3 : tie.Need-slice_bounds-same_view-end-3
-part-same-view-end-3 c = let s = c in part-fits c.axis_count-m.result s.args.b.rank s.args.b.extents c.axis_count-m.ensures (lengths s.before.before.before.before.before.before.before.before).2
+part-same-view-end-3 c = let s = c in part-fits c.axis_count-m.result s.args.b.rank s.args.b.extents c.axis_count-m.ensures (lengths search).2
 
 sub-same-view-4 : tie.Need-slice_bounds-same_view-count-4
 sub-same-view-4 c = search rules
@@ -47,15 +47,15 @@ part-same-view-start-4 : tie.Need-slice_bounds-same_view-start-4
 part-same-view-start-4 c = search rules
 
 part-same-view-end-4 : tie.Need-slice_bounds-same_view-end-4
-part-same-view-end-4 c = let s = c in part-fits c.axis_count-m.result s.args.b.rank s.args.b.strides c.axis_count-m.ensures (lengths s.before.before.before.before.before.before.before.before.before).3
+part-same-view-end-4 c = let s = c in part-fits c.axis_count-m.result s.args.b.rank s.args.b.strides c.axis_count-m.ensures (lengths search).3
 
 returns : tie.Need-returns
 returns c =
     let s = c in
-    let ae = part-read c.axis_count-n.result s.args.a.rank s.args.a.extents c.axis_count-n.ensures (lengths s.before.before.before.before.before.before.before.before.before.before.before).0 in
-    let ax = part-read c.axis_count-n.result s.args.a.rank s.args.a.strides c.axis_count-n.ensures (lengths s.before.before.before.before.before.before.before.before.before.before.before).1 in
-    let be = part-read c.axis_count-m.result s.args.b.rank s.args.b.extents c.axis_count-m.ensures (lengths s.before.before.before.before.before.before.before.before.before.before.before).2 in
-    let bs = part-read c.axis_count-m.result s.args.b.rank s.args.b.strides c.axis_count-m.ensures (lengths s.before.before.before.before.before.before.before.before.before.before.before).3 in
+    let ae = part-read c.axis_count-n.result s.args.a.rank s.args.a.extents c.axis_count-n.ensures (lengths search).0 in
+    let ax = part-read c.axis_count-n.result s.args.a.rank s.args.a.strides c.axis_count-n.ensures (lengths search).1 in
+    let be = part-read c.axis_count-m.result s.args.b.rank s.args.b.extents c.axis_count-m.ensures (lengths search).2 in
+    let bs = part-read c.axis_count-m.result s.args.b.rank s.args.b.strides c.axis_count-m.ensures (lengths search).3 in
     c.same_view.ensures ∙ λ i. same_by eqb (ae i) (be i) && same_by eq_z (ax i) (bs i)
 
 pub same_layout_spec : {M : Type 1} → statement M
