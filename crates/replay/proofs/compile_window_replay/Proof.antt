@@ -45,28 +45,26 @@ returns c =
     let k = u in
     let v = k in
     let s = v in
-    let x = k.source_span-1.given.0 in
-    let y = u.dest_span-1.given.0 in
-    let fa : SFits w64 x.0 = sfits_of k.in-Fits.known_told-1-own.given.0.1 in
-    let fb : SFits w64 x.1.0 = sfits_of k.in-Fits.known_told-1-own.given.1.0.1 in
-    let fc : SFits w64 y.0 = sfits_of u.in-Fits-dest_span.known_told-in-Fits-1-own.given.0.1 in
-    let fd : SFits w64 y.1.0 = sfits_of u.in-Fits-dest_span.known_told-in-Fits-1-own.given.1.0.1 in
+    let fa : SFits w64 k.in-Fits.source_low = sfits_of k.in-Fits.known_told-1-own.given.0.1 in
+    let fb : SFits w64 k.in-Fits.source_high = sfits_of k.in-Fits.known_told-1-own.given.1.0.1 in
+    let fc : SFits w64 u.in-Fits-dest_span.dest_low = sfits_of u.in-Fits-dest_span.known_told-in-Fits-1-own.given.0.1 in
+    let fd : SFits w64 u.in-Fits-dest_span.dest_high = sfits_of u.in-Fits-dest_span.known_told-in-Fits-1-own.given.1.0.1 in
     c.fuse.ensures
-    ∙ (λ ι. walk_of (given_axes (take s.args.rank s.args.shape) (take s.args.rank s.args.source-strides) (take s.args.rank s.args.dest-strides)) (the_spans (back fa ι) (back fb ι) (back fc ι) (back fd ι)))
-    ∙ passes (take s.args.rank s.args.shape) (take s.args.rank s.args.source-strides) (take s.args.rank s.args.dest-strides) v.held_span-source_span.result v.held_span-dest_span.result v.held_span-source_span.ensures v.held_span-dest_span.ensures x.0 x.1.0 y.0 y.1.0 k.in-Fits.is u.in-Fits-dest_span.is
+    ∙ (λ ι. walk_of (given_axes (take s.args.rank s.args.shape) (take s.args.rank s.args.source_strides) (take s.args.rank s.args.dest_strides)) (the_spans (back fa ι) (back fb ι) (back fc ι) (back fd ι)))
+    ∙ passes (take s.args.rank s.args.shape) (take s.args.rank s.args.source_strides) (take s.args.rank s.args.dest_strides) v.held_span-source_span.result v.held_span-dest_span.result v.held_span-source_span.ensures v.held_span-dest_span.ensures k.in-Fits.source_low k.in-Fits.source_high u.in-Fits-dest_span.dest_low u.in-Fits-dest_span.dest_high k.in-Fits.is u.in-Fits-dest_span.is
 
 returns-2 : tie.Need-returns-in-Overflow-dest_span
 returns-2 c =
     let k = c in
     let v = k in
     let s = v in
-    c.refused_replay.ensures ∙ stops2 (take s.args.rank s.args.shape) (take s.args.rank s.args.source-strides) (take s.args.rank s.args.dest-strides) v.held_span-source_span.result v.held_span-dest_span.result v.held_span-source_span.ensures v.held_span-dest_span.ensures k.in-Fits.source_low k.in-Fits.source_high k.in-Fits.is c.in-Overflow-dest_span.is
+    c.refused_replay.ensures ∙ stops2 (take s.args.rank s.args.shape) (take s.args.rank s.args.source_strides) (take s.args.rank s.args.dest_strides) v.held_span-source_span.result v.held_span-dest_span.result v.held_span-source_span.ensures v.held_span-dest_span.ensures k.in-Fits.source_low k.in-Fits.source_high k.in-Fits.is c.in-Overflow-dest_span.is
 
 returns-3 : tie.Need-returns-in-Overflow
 returns-3 c =
     let v = c in
     let s = v in
-    c.refused_replay-in-Overflow.ensures ∙ stops (take s.args.rank s.args.shape) (take s.args.rank s.args.source-strides) (take s.args.rank s.args.dest-strides) v.held_span-source_span.result v.held_span-dest_span.result v.held_span-source_span.ensures v.held_span-dest_span.ensures c.in-Overflow.is
+    c.refused_replay-in-Overflow.ensures ∙ stops (take s.args.rank s.args.shape) (take s.args.rank s.args.source_strides) (take s.args.rank s.args.dest_strides) v.held_span-source_span.result v.held_span-dest_span.result v.held_span-source_span.ensures v.held_span-dest_span.ensures c.in-Overflow.is
 
 pub compile_window_replay_spec : {M : Type 1} → statement M
 compile_window_replay_spec =

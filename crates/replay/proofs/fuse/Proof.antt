@@ -60,13 +60,13 @@ returns-2 c =
     let k = c in
     let m = k in
     let s = m in
-    c.fuse_rest.ensures ∙ first_fits s.args.shape s.args.source_strides s.args.dest_strides s.args.rank (full s.before.before.before.before.before.before.before.before).0 (full s.before.before.before.before.before.before.before.before).1 (full s.before.before.before.before.before.before.before.before).2 (some m.before.before.before.before) m.make_axis-first.result (first-axis m.before.before.before.before) s.args.spans k.in-Fits.axis k.in-Fits.is
+    c.fuse_rest.ensures ∙ first_fits s.args.shape s.args.source_strides s.args.dest_strides s.args.rank (full search).0 (full search).1 (full search).2 (some search) m.make_axis-first.result (first-axis search) s.args.spans k.in-Fits.axis k.in-Fits.is
 
 returns-3 : tie.Need-returns-in-Overflow
 returns-3 c =
     let m = c in
     let s = m in
-    c.refused_replay.ensures ∙ first-over s.args.shape s.args.source_strides s.args.dest_strides s.args.rank (full s.before.before.before.before.before.before.before).0 (full s.before.before.before.before.before.before.before).1 (full s.before.before.before.before.before.before.before).2 (some m.before.before.before) m.make_axis-first.result (first-axis m.before.before.before) s.args.spans c.in-Overflow.is
+    c.refused_replay.ensures ∙ first-over s.args.shape s.args.source_strides s.args.dest_strides s.args.rank (full search).0 (full search).1 (full search).2 (some search) m.make_axis-first.result (first-axis search) s.args.spans c.in-Overflow.is
 
 pub fuse_spec : {M : Type 1} → statement M
 fuse_spec =

@@ -21,11 +21,8 @@ invariant-loop rank spans shape source-strides dest-strides count axes₀ last�
 abbrev decreases-loop : tie.decreases-loop-i
 decreases-loop rank spans shape source-strides dest-strides count axes₀ last₀ n₀ i₀ axes last n i = count - i
 
-abbrev start : (l : tie.At-loop-i invariant-loop decreases-loop) → tie.Start invariant-loop decreases-loop
-start l = l.before.before.before
-
 -- how many axes count
-counted : (l : tie.At-loop-i invariant-loop decreases-loop) → l.axis_count-count.result ≡ min (start l).args.rank rank_limit
+counted : (l : tie.At-loop-i invariant-loop decreases-loop) → l.axis_count-count.result ≡ min l.args.rank rank_limit
 counted l = l.axis_count-count.ensures
 
 full : (s : tie.Start invariant-loop decreases-loop) → (length s.args.shape ≡ rank_limit) × (length s.args.source_strides ≡ rank_limit) × (length s.args.dest_strides ≡ rank_limit)
@@ -36,17 +33,17 @@ full s =
     (a, b, d)
 
 -- what the call of `join` returned, of the numbers themselves
-joined : (j : tie.After-join-joined invariant-loop decreases-loop) → j.join-joined.result ≡ joined_axis j.loop-i.last (axis_of (get_or (start j.before.before.before.before).args.shape j.loop-i.i 0) (get_or (start j.before.before.before.before).args.source_strides j.loop-i.i (pos 0)) (get_or (start j.before.before.before.before).args.dest_strides j.loop-i.i (pos 0)))
+joined : (j : tie.After-join-joined invariant-loop decreases-loop) → j.join-joined.result ≡ joined_axis j.loop-i.last (axis_of (get_or j.args.shape j.loop-i.i 0) (get_or j.args.source_strides j.loop-i.i (pos 0)) (get_or j.args.dest_strides j.loop-i.i (pos 0)))
 joined j =
     let l = j in
-    let s = start l.before.before.before.before in
+    let s = j in
     let i = l.loop-i.i in
     let f : SFits w64 (get_or s.args.source_strides i (pos 0)) = search rules in
     let g : SFits w64 (get_or s.args.dest_strides i (pos 0)) = search rules in
     j.join-joined.ensures ∙ ap₂ (λ (x y : ℤ). joined_axis l.loop-i.last (axis_of (get_or s.args.shape i 0) x y)) (back f) (back g)
 
-here : (j : tie.After-join-joined invariant-loop decreases-loop) → j.loop-i.i < min (start j.before.before.before.before).args.rank rank_limit
-here j = omega (arith, counted j.before.before.before.before, j.loop-i-test.true)
+here : (j : tie.After-join-joined invariant-loop decreases-loop) → j.loop-i.i < min j.args.rank rank_limit
+here j = omega (arith, counted search, j.loop-i-test.true)
 
 axis-count-requires : tie.Need-axis_count-count-requires invariant-loop decreases-loop
 axis-count-requires c κs = tt
@@ -94,8 +91,8 @@ loop-again : tie.Need-loop-i-preserved-in-Merged invariant-loop decreases-loop
 loop-again c =
     let j = c in
     let l = j in
-    let s = start l.before.before.before.before.before.before.before in
-    fusing-merged s.args.shape s.args.source_strides s.args.dest_strides s.args.rank (full s).0 (full s).1 (full s).2 s.args.first l.loop-i.axes l.loop-i.last l.loop-i.n l.loop-i.i l.loop-i.invariant s.args.spans (here j.before.before.before) j.join-joined.result (joined j.before.before.before) c.in-Merged.axis c.in-Merged.is
+    let s = c in
+    fusing-merged s.args.shape s.args.source_strides s.args.dest_strides s.args.rank (full search).0 (full search).1 (full search).2 s.args.first l.loop-i.axes l.loop-i.last l.loop-i.n l.loop-i.i l.loop-i.invariant s.args.spans (here search) j.join-joined.result (joined search) c.in-Merged.axis c.in-Merged.is
 
 enum-known-joined-2 : tie.Need-enum_known-joined-in-Apart-1 invariant-loop decreases-loop
 enum-known-joined-2 c = search rules
@@ -116,8 +113,8 @@ loop-again-2 : tie.Need-loop-i-preserved invariant-loop decreases-loop
 loop-again-2 c =
     let j = c in
     let l = j in
-    let s = start l.before.before.before.before.before.before.before in
-    fusing-apart s.args.shape s.args.source_strides s.args.dest_strides s.args.rank (full s).0 (full s).1 (full s).2 s.args.first l.loop-i.axes l.loop-i.last l.loop-i.n l.loop-i.i l.loop-i.invariant s.args.spans (here j.before.before.before) j.join-joined.result (joined j.before.before.before) c.in-Apart.axis c.in-Apart.is
+    let s = c in
+    fusing-apart s.args.shape s.args.source_strides s.args.dest_strides s.args.rank (full search).0 (full search).1 (full search).2 s.args.first l.loop-i.axes l.loop-i.last l.loop-i.n l.loop-i.i l.loop-i.invariant s.args.spans (here search) j.join-joined.result (joined search) c.in-Apart.axis c.in-Apart.is
 
 enum_told : tie.Need-enum_told-1 invariant-loop decreases-loop
 enum_told c = search rules
@@ -129,8 +126,8 @@ returns : tie.Need-returns-in-Overflow invariant-loop decreases-loop
 returns c =
     let j = c in
     let l = j in
-    let s = start l.before.before.before.before.before.before.before in
-    c.refused_replay.ensures ∙ fusing-over s.args.shape s.args.source_strides s.args.dest_strides s.args.rank (full s).0 (full s).1 (full s).2 s.args.first l.loop-i.axes l.loop-i.last l.loop-i.n l.loop-i.i l.loop-i.invariant s.args.spans (here j.before.before.before) j.join-joined.result (joined j.before.before.before) c.in-Overflow.is
+    let s = c in
+    c.refused_replay.ensures ∙ fusing-over s.args.shape s.args.source_strides s.args.dest_strides s.args.rank (full search).0 (full search).1 (full search).2 s.args.first l.loop-i.axes l.loop-i.last l.loop-i.n l.loop-i.i l.loop-i.invariant s.args.spans (here search) j.join-joined.result (joined search) c.in-Overflow.is
 
 mul-axes-2 : tie.Need-offset_bounds-axes-n-2 invariant-loop decreases-loop
 mul-axes-2 c = search rules
@@ -147,8 +144,8 @@ done-replay-requires c κs = tt
 returns-2 : tie.Need-returns invariant-loop decreases-loop
 returns-2 c =
     let l = c in
-    let s = start l.before.before in
-    c.done_replay.ensures ∙ fusing-done s.args.shape s.args.source_strides s.args.dest_strides s.args.rank (full s).0 (full s).1 (full s).2 s.args.first l.loop-i.axes l.loop-i.last l.loop-i.n l.loop-i.i l.loop-i.invariant s.args.spans (omega (arith, counted l.before.before, c.loop-i-test.false))
+    let s = c in
+    c.done_replay.ensures ∙ fusing-done s.args.shape s.args.source_strides s.args.dest_strides s.args.rank (full search).0 (full search).1 (full search).2 s.args.first l.loop-i.axes l.loop-i.last l.loop-i.n l.loop-i.i l.loop-i.invariant s.args.spans (omega (arith, counted search, c.loop-i-test.false))
 
 pub fuse_rest_spec : {M : Type 1} → statement M
 fuse_rest_spec =

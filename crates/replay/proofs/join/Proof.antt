@@ -21,10 +21,10 @@ dest-fits c = search rules
 
 -- what the two calls returned
 expected : (h : tie.After-past_last-expected_dest) → h.past_last-expected_source.result ≡ past h.args.before.extent h.args.before.source_step
-expected h = h.past_last-expected_source.ensures ∙ ap (past h.args.before.extent) (back (source_fits h.before.before.before.before))
+expected h = h.past_last-expected_source.ensures ∙ ap (past h.args.before.extent) (back (source_fits search))
 
 expected2 : (h : tie.After-past_last-expected_dest) → h.past_last-expected_dest.result ≡ past h.args.before.extent h.args.before.dest_step
-expected2 h = h.past_last-expected_dest.ensures ∙ ap (past h.args.before.extent) (back (dest-fits h.before.before.before.before))
+expected2 h = h.past_last-expected_dest.ensures ∙ ap (past h.args.before.extent) (back (dest-fits search))
 
 enum-known-expected-source : tie.Need-enum_known-expected_source
 enum-known-expected-source c = search rules
@@ -44,7 +44,7 @@ returns c =
     let fb : SFits w64 b = sfits_of z.in-Fits-expected_dest.known_told-in-Fits-1-own.given.0.1 in
     c.apart.ensures
     ∙ ap₂ (λ (x y : ℤ). as_apart (checked_axis (axis_of s.args.extent x y))) (back s.ranges.source) (back s.ranges.dest)
-    ∙ join_apart s.args.before s.args.extent s.args.source s.args.dest h.past_last-expected_source.result h.past_last-expected_dest.result (expected h.before.before.before.before.before.before.before.before.before) (expected2 h.before.before.before.before.before.before.before.before.before) a b k.in-Fits.is z.in-Fits-expected_dest.is (sym (c.same_i64.ensures ∙ ap₂ eq_z (back s.ranges.source) (back fa)) ∙ c.if-not-same_i64.true)
+    ∙ join_apart s.args.before s.args.extent s.args.source s.args.dest h.past_last-expected_source.result h.past_last-expected_dest.result (expected search) (expected2 search) a b k.in-Fits.is z.in-Fits-expected_dest.is (sym (c.same_i64.ensures ∙ ap₂ eq_z (back s.ranges.source) (back fa)) ∙ c.if-not-same_i64.true)
 
 returns-2 : tie.Need-returns-then-not-same_i64-2
 returns-2 c =
@@ -58,7 +58,7 @@ returns-2 c =
     let fb : SFits w64 b = sfits_of z.in-Fits-expected_dest.known_told-in-Fits-1-own.given.0.1 in
     c.apart-then-not-same_i64-2.ensures
     ∙ ap₂ (λ (x y : ℤ). as_apart (checked_axis (axis_of s.args.extent x y))) (back s.ranges.source) (back s.ranges.dest)
-    ∙ join-apart2 s.args.before s.args.extent s.args.source s.args.dest h.past_last-expected_source.result h.past_last-expected_dest.result (expected h.before.before.before.before.before.before.before.before.before.before.before) (expected2 h.before.before.before.before.before.before.before.before.before.before.before) a b k.in-Fits.is z.in-Fits-expected_dest.is (sym (c.same_i64.ensures ∙ ap₂ eq_z (back s.ranges.source) (back fa)) ∙ c.if-not-same_i64.false) (sym (c.same_i64-in-Fits-expected_dest.ensures ∙ ap₂ eq_z (back s.ranges.dest) (back fb)) ∙ c.if-not-same_i64-2.true)
+    ∙ join-apart2 s.args.before s.args.extent s.args.source s.args.dest h.past_last-expected_source.result h.past_last-expected_dest.result (expected search) (expected2 search) a b k.in-Fits.is z.in-Fits-expected_dest.is (sym (c.same_i64.ensures ∙ ap₂ eq_z (back s.ranges.source) (back fa)) ∙ c.if-not-same_i64.false) (sym (c.same_i64-in-Fits-expected_dest.ensures ∙ ap₂ eq_z (back s.ranges.dest) (back fb)) ∙ c.if-not-same_i64-2.true)
 
 enum_told : tie.Need-enum_told-1
 enum_told c = search rules
@@ -77,21 +77,21 @@ returns-3 c =
     let fa : SFits w64 a = sfits_of k.in-Fits.known_told-1-own.given.0.1 in
     let fb : SFits w64 b = sfits_of z.in-Fits-expected_dest.known_told-in-Fits-1-own.given.0.1 in
     c.merge.ensures
-    ∙ ap₂ (λ (x y : ℤ). as_merged (checked_axis (axis_of (s.args.before.extent * s.args.extent) x y))) (back (source_fits s.before.before.before.before.before.before.before.before.before.before.before.before.before.before.before)) (back (dest-fits s.before.before.before.before.before.before.before.before.before.before.before.before.before.before.before))
-    ∙ join-merge s.args.before s.args.extent s.args.source s.args.dest h.past_last-expected_source.result h.past_last-expected_dest.result (expected h.before.before.before.before.before.before.before.before.before.before.before) (expected2 h.before.before.before.before.before.before.before.before.before.before.before) a b k.in-Fits.is z.in-Fits-expected_dest.is (sym (c.same_i64.ensures ∙ ap₂ eq_z (back s.ranges.source) (back fa)) ∙ c.if-not-same_i64.false) (sym (c.same_i64-in-Fits-expected_dest.ensures ∙ ap₂ eq_z (back s.ranges.dest) (back fb)) ∙ c.if-not-same_i64-2.false)
+    ∙ ap₂ (λ (x y : ℤ). as_merged (checked_axis (axis_of (s.args.before.extent * s.args.extent) x y))) (back (source_fits search)) (back (dest-fits search))
+    ∙ join-merge s.args.before s.args.extent s.args.source s.args.dest h.past_last-expected_source.result h.past_last-expected_dest.result (expected search) (expected2 search) a b k.in-Fits.is z.in-Fits-expected_dest.is (sym (c.same_i64.ensures ∙ ap₂ eq_z (back s.ranges.source) (back fa)) ∙ c.if-not-same_i64.false) (sym (c.same_i64-in-Fits-expected_dest.ensures ∙ ap₂ eq_z (back s.ranges.dest) (back fb)) ∙ c.if-not-same_i64-2.false)
 
 returns-4 : tie.Need-returns-in-Overflow-expected_dest
 returns-4 c =
     let k = c in
     let h = k in
     let s = h in
-    join-over2 s.args.before s.args.extent s.args.source s.args.dest h.past_last-expected_source.result h.past_last-expected_dest.result (expected h.before.before.before.before.before) (expected2 h.before.before.before.before.before) c.in-Overflow-expected_dest.is
+    join-over2 s.args.before s.args.extent s.args.source s.args.dest h.past_last-expected_source.result h.past_last-expected_dest.result (expected search) (expected2 search) c.in-Overflow-expected_dest.is
 
 returns-5 : tie.Need-returns-in-Overflow
 returns-5 c =
     let h = c in
     let s = h in
-    join-over s.args.before s.args.extent s.args.source s.args.dest h.past_last-expected_source.result h.past_last-expected_dest.result (expected h.before.before) (expected2 h.before.before) c.in-Overflow.is
+    join-over s.args.before s.args.extent s.args.source s.args.dest h.past_last-expected_source.result h.past_last-expected_dest.result (expected search) (expected2 search) c.in-Overflow.is
 
 pub join_spec : {M : Type 1} → statement M
 join_spec =
