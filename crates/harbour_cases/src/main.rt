@@ -2,97 +2,98 @@
 #![tactic(auto)]
 
 use integer::{Checked, CheckedU};
+use std::io;
 
-fn put_i32(n: i32) {
-    printing::put_i64(n as i64);
+fn put_i32(rt: &impl Print, n: i32) -> io::Result<()> {
+    printing::put_i64(rt, n as i64)
 }
 
 // 3 is the number of OffsetOverflow.
-fn put_refused() {
-    printing::put(b"refused by ");
-    printing::put_u64(layout::number(layout::Answer::OffsetOverflow));
-    printing::end_line();
+fn put_refused(rt: &impl Print) -> io::Result<()> {
+    printing::put(rt, b"refused by ")?;
+    printing::put_u64(rt, layout::number(layout::Answer::OffsetOverflow))?;
+    printing::end_line(rt)
 }
 
-fn product(extents: &[u64]) {
-    printing::put(b"product of ");
-    printing::put_extents(extents);
-    printing::put(b": ");
+fn product(rt: &impl Print, extents: &[u64]) -> io::Result<()> {
+    printing::put(rt, b"product of ")?;
+    printing::put_extents(rt, extents)?;
+    printing::put(rt, b": ")?;
     match spans::checked_total_len(extents) {
         CheckedU::Fits(n) => {
-            printing::put_u64(n);
-            printing::end_line();
+            printing::put_u64(rt, n)?;
+            printing::end_line(rt)
         }
-        CheckedU::Overflow => put_refused(),
+        CheckedU::Overflow => put_refused(rt),
     }
 }
 
-fn clamp(start: i64, extent: u64, window: u64) {
-    printing::put(b"start ");
-    printing::put_i64(start);
-    printing::put(b" in extent ");
-    printing::put_u64(extent);
-    printing::put(b", window ");
-    printing::put_u64(window);
-    printing::put(b": ");
+fn clamp(rt: &impl Print, start: i64, extent: u64, window: u64) -> io::Result<()> {
+    printing::put(rt, b"start ")?;
+    printing::put_i64(rt, start)?;
+    printing::put(rt, b" in extent ")?;
+    printing::put_u64(rt, extent)?;
+    printing::put(rt, b", window ")?;
+    printing::put_u64(rt, window)?;
+    printing::put(rt, b": ")?;
     let clamped = layout::clamp_window_start(start, extent, window);
-    printing::put_u64(clamped.start);
+    printing::put_u64(rt, clamped.start)?;
     if clamped.moved {
-        printing::put(b", moved");
+        printing::put(rt, b", moved")?;
     }
-    printing::end_line();
+    printing::end_line(rt)
 }
 
-fn reset(extent: u64, stride: i64) {
-    printing::put(b"reset of extent ");
-    printing::put_u64(extent);
-    printing::put(b", stride ");
-    printing::put_i64(stride);
-    printing::put(b": ");
+fn reset(rt: &impl Print, extent: u64, stride: i64) -> io::Result<()> {
+    printing::put(rt, b"reset of extent ")?;
+    printing::put_u64(rt, extent)?;
+    printing::put(rt, b", stride ")?;
+    printing::put_i64(rt, stride)?;
+    printing::put(rt, b": ")?;
     match layout::checked_replay_reset(extent, stride) {
         Checked::Fits(r) => {
-            printing::put_i64(r);
-            printing::end_line();
+            printing::put_i64(rt, r)?;
+            printing::end_line(rt)
         }
-        Checked::Overflow => put_refused(),
+        Checked::Overflow => put_refused(rt),
     }
 }
 
-fn nested(extents: &[u64], strides: &[i64]) {
-    printing::put(b"extents ");
-    printing::put_extents(extents);
-    printing::put(b" strides ");
-    printing::put_strides(strides);
-    printing::put(b": ");
+fn nested(rt: &impl Print, extents: &[u64], strides: &[i64]) -> io::Result<()> {
+    printing::put(rt, b"extents ")?;
+    printing::put_extents(rt, extents)?;
+    printing::put(rt, b" strides ")?;
+    printing::put_strides(rt, strides)?;
+    printing::put(rt, b": ")?;
     let e = layout::padded_extents(extents);
     let s = layout::padded_strides(strides);
     if spans::is_nested(e, s, extents.len()) {
-        printing::put(b"nested\n");
+        printing::put(rt, b"nested\n")
     } else {
-        printing::put(b"not nested\n");
+        printing::put(rt, b"not nested\n")
     }
 }
 
-fn wrapped(a: i32, b: i32) {
-    put_i32(a);
-    printing::put(b" plus ");
-    put_i32(b);
-    printing::put(b": ");
-    put_i32(integer::wrapping_add_i32(a, b));
-    printing::end_line();
+fn wrapped(rt: &impl Print, a: i32, b: i32) -> io::Result<()> {
+    put_i32(rt, a)?;
+    printing::put(rt, b" plus ")?;
+    put_i32(rt, b)?;
+    printing::put(rt, b": ")?;
+    put_i32(rt, integer::wrapping_add_i32(a, b))?;
+    printing::end_line(rt)
 }
 
-fn main() {
-    product(&[]);
-    product(&[18446744073709551615, 2, 0]);
-    product(&[0, 18446744073709551615, 2]);
-    clamp(-5, 10, 3);
-    clamp(7, 10, 3);
-    clamp(8, 10, 3);
-    reset(2, -9223372036854775808);
-    reset(1, -9223372036854775808);
-    nested(&[2, 2], &[2, 3]);
-    nested(&[3, 2], &[2, 3]);
-    nested(&[1, 4], &[0, 1]);
-    wrapped(2147483647, 1);
+fn main(rt: HostRuntime) -> io::Result<()> {
+    product(&rt, &[])?;
+    product(&rt, &[18446744073709551615, 2, 0])?;
+    product(&rt, &[0, 18446744073709551615, 2])?;
+    clamp(&rt, -5, 10, 3)?;
+    clamp(&rt, 7, 10, 3)?;
+    clamp(&rt, 8, 10, 3)?;
+    reset(&rt, 2, -9223372036854775808)?;
+    reset(&rt, 1, -9223372036854775808)?;
+    nested(&rt, &[2, 2], &[2, 3])?;
+    nested(&rt, &[3, 2], &[2, 3])?;
+    nested(&rt, &[1, 4], &[0, 1])?;
+    wrapped(&rt, 2147483647, 1)
 }

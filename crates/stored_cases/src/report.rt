@@ -1,20 +1,21 @@
 // What the program prints, and the counts that it prints: for each outcome thirteen, one for each number of an answer, one
 // for the gathers and one for the scatters.
 use crate::outcomes::{DIFFERENT, EQUAL, TOO_LARGE};
+use std::io;
 use stored_reader::packed;
 
-pub fn put(text: &[u8]) {
-    io::write_all(1, text);
+pub fn put(rt: &impl Print, text: &[u8]) -> io::Result<()> {
+    rt.write_all(text)
 }
 
-fn put_with(text: &[u8], n: u64) {
-    put(text);
-    io::print_decimal(1, n);
+fn put_with(rt: &impl Print, text: &[u8], n: u64) -> io::Result<()> {
+    put(rt, text)?;
+    rt.print(n)
 }
 
-pub fn line(text: &[u8], n: u64) {
-    put_with(text, n);
-    put(b"\n");
+pub fn line(rt: &impl Print, text: &[u8], n: u64) -> io::Result<()> {
+    put_with(rt, text, n)?;
+    put(rt, b"\n")
 }
 
 // The columns of the gathers and of the scatters, past those of the numbers.
@@ -38,9 +39,15 @@ fn count_at(counts: &mut [u64], i: usize) {
 }
 
 // Counts the case of this head and index under its outcome.
-pub fn count(counts: &mut [u64], outcome: usize, head: &[u8], index: u64) {
+pub fn count(
+    rt: &impl Print,
+    counts: &mut [u64],
+    outcome: usize,
+    head: &[u8],
+    index: u64,
+) -> io::Result<()> {
     if outcome == DIFFERENT {
-        line(b"different: case ", index);
+        line(rt, b"different: case ", index)?;
     }
     let kind = if packed::is_gather(head) {
         GATHERS
@@ -49,6 +56,7 @@ pub fn count(counts: &mut [u64], outcome: usize, head: &[u8], index: u64) {
     };
     count_at(counts, place(outcome, packed::number(head)));
     count_at(counts, place(outcome, kind));
+    Ok(())
 }
 
 fn at(counts: &[u64], outcome: usize, column: u64) -> u64 {
@@ -67,49 +75,52 @@ fn total(counts: &[u64], outcome: usize) -> u64 {
     sum
 }
 
-fn put_column(counts: &[u64], column: u64) {
-    put_with(b": equal ", at(counts, EQUAL, column));
-    put_with(b", different ", at(counts, DIFFERENT, column));
-    line(b", too large ", at(counts, TOO_LARGE, column));
+fn put_column(rt: &impl Print, counts: &[u64], column: u64) -> io::Result<()> {
+    put_with(rt, b": equal ", at(counts, EQUAL, column))?;
+    put_with(rt, b", different ", at(counts, DIFFERENT, column))?;
+    line(rt, b", too large ", at(counts, TOO_LARGE, column))
 }
 
-fn put_kinds(counts: &[u64]) {
-    put(b"gathers");
-    put_column(counts, GATHERS);
-    put(b"scatters");
-    put_column(counts, SCATTERS);
+fn put_kinds(rt: &impl Print, counts: &[u64]) -> io::Result<()> {
+    put(rt, b"gathers")?;
+    put_column(rt, counts, GATHERS)?;
+    put(rt, b"scatters")?;
+    put_column(rt, counts, SCATTERS)
 }
 
-fn put_row(counts: &[u64], number: u64) {
-    put_with(b"answer ", number);
-    put_column(counts, number);
+fn put_row(rt: &impl Print, counts: &[u64], number: u64) -> io::Result<()> {
+    put_with(rt, b"answer ", number)?;
+    put_column(rt, counts, number)
 }
 
-fn put_rows(counts: &[u64]) {
+fn put_rows(rt: &impl Print, counts: &[u64]) -> io::Result<()> {
     let mut number: u64 = 0;
     while number < 11 {
-        put_row(counts, number);
+        put_row(rt, counts, number)?;
         number += 1;
     }
+    Ok(())
 }
 
-fn put_totals(equal: u64, different: u64, too_large: u64) {
+fn put_totals(rt: &impl Print, equal: u64, different: u64, too_large: u64) -> io::Result<()> {
     let answered = std::num::wrapping_add_u64(equal, different);
     line(
+        rt,
         b"stored cases: ",
         std::num::wrapping_add_u64(answered, too_large),
-    );
-    line(b"equal: ", equal);
-    line(b"different: ", different);
-    line(b"too large: ", too_large);
+    )?;
+    line(rt, b"equal: ", equal)?;
+    line(rt, b"different: ", different)?;
+    line(rt, b"too large: ", too_large)
 }
 
-pub fn summary(counts: &[u64]) {
+pub fn summary(rt: &impl Print, counts: &[u64]) -> io::Result<()> {
     put_totals(
+        rt,
         total(counts, EQUAL),
         total(counts, DIFFERENT),
         total(counts, TOO_LARGE),
-    );
-    put_kinds(counts);
-    put_rows(counts);
+    )?;
+    put_kinds(rt, counts)?;
+    put_rows(rt, counts)
 }

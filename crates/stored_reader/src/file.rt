@@ -1,31 +1,52 @@
 // The file: its header, and whether the bytes after it are those that were stored.
-use crate::packed::word;
+ghost use Rattle.std.specs.Io.{ReadsAtMost};
 
-pub fn open() -> i32 {
-    os::open_read(b"cases.bin")
+use crate::packed::word;
+use std::io::Read;
+use std::rt::Files;
+use std::{fs, io};
+
+pub fn open<R: Files>(rt: &R) -> io::Result<R::File> {
+    fs::open(rt, "cases.bin")
+}
+
+// Reads until the bytes are full or the file ends, and says how many it read.
+fn read_full(file: &mut impl Read, bytes: &mut [u8]) -> io::Result<usize>
+    ensures { ReadsAtMost result bytes.new }
+{
+    let mut done: usize = 0;
+    while done < bytes.len() {
+        let got = file.read(&mut bytes[done..])?;
+        if got == 0 {
+            break;
+        }
+        done += got;
+    }
+    Ok(done)
 }
 
 // Whether the file had bytes enough to fill the first n.
-pub fn fill_part(fd: i32, bytes: &mut [u8], n: usize) -> bool {
+pub fn fill_part(file: &mut impl Read, bytes: &mut [u8], n: usize) -> io::Result<bool> {
     if n > bytes.len() {
-        return false;
+        return Ok(false);
     }
-    let got = io::read_full(fd, &mut bytes[..n]);
-    got == n
+    let got = read_full(file, &mut bytes[..n])?;
+    Ok(got == n)
 }
 
 // Opens the file once more, past its header.
-pub fn open_at_cases() -> i32 {
+pub fn open_at_cases<R: Files>(rt: &R) -> io::Result<R::File> {
     let mut header = [0u8; 40];
-    let fd = open();
-    fill_part(fd, &mut header, 40);
-    fd
+    let mut file = open(rt)?;
+    fill_part(&mut file, &mut header, 40)?;
+    Ok(file)
 }
 
 // Whether no byte is left.
-pub fn is_ended(fd: i32) -> bool {
+pub fn is_ended(file: &mut impl Read) -> io::Result<bool> {
     let mut one = [0u8; 1];
-    io::read_full(fd, &mut one) == 0
+    let got = read_full(file, &mut one)?;
+    Ok(got == 0)
 }
 
 // Bytes that were read: how many, their sum, the sum of the sums after each, and whether they end here.
@@ -58,16 +79,16 @@ fn with_bytes(s: Sums, bytes: &[u8]) -> Sums {
 }
 
 // The next part of the file, which ends with a part that is not full.
-fn with_part(fd: i32, s: Sums) -> Sums {
-    let mut part = io::buffer();
-    let got = io::read_full(fd, &mut part);
+fn with_part(file: &mut impl Read, s: Sums) -> io::Result<Sums> {
+    let mut part = [0u8; 4096];
+    let got = read_full(file, &mut part)?;
     let mut all = with_bytes(s, &part[..got]);
     all.ended = got < 4096;
-    all
+    Ok(all)
 }
 
 // A loop that is proved has to end, so it takes at most so many parts.
-fn rest_of(fd: i32) -> Sums {
+fn rest_of(file: &mut impl Read) -> io::Result<Sums> {
     let mut all = Sums {
         bytes: 0,
         sum: 0,
@@ -76,18 +97,20 @@ fn rest_of(fd: i32) -> Sums {
     };
     let mut parts: u64 = 0;
     while parts < 1048576 && !all.ended {
-        all = with_part(fd, all);
+        all = with_part(file, all)?;
         parts += 1;
     }
-    all
+    Ok(all)
 }
 
 // Whether this is such a file, and the bytes after the header are as many as it says, with its sums.
-pub fn is_undamaged(fd: i32, header: &[u8]) -> bool {
-    let rest = rest_of(fd);
-    word(header, 0) == 3631138681507705971
-        && rest.ended
-        && rest.bytes == word(header, 16)
-        && rest.sum == word(header, 24)
-        && rest.sums == word(header, 32)
+pub fn is_undamaged(file: &mut impl Read, header: &[u8]) -> io::Result<bool> {
+    let rest = rest_of(file)?;
+    Ok(
+        word(header, 0) == 3631138681507705971
+            && rest.ended
+            && rest.bytes == word(header, 16)
+            && rest.sum == word(header, 24)
+            && rest.sums == word(header, 32),
+    )
 }
