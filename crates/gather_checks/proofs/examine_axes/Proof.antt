@@ -60,12 +60,12 @@ returns c =
     let s = c in
     let n = length s.args.de.now in
     let q : min n rank_limit ≡ n = omega (arith, s.requires.few) in
-    let w = c.spread_picked-window.ensures ∙ ap (λ (k : ℕ). padded rank_limit (pos 0) (steps_by k s.args.offset-dims.now s.args.shown.now s.args.os.now)) q in
+    let w = c.spread_picked-window.ensures ∙ ap (λ (k : ℕ). padded rank_limit (pos 0) (steps_by k s.args.offset_dims.now s.args.shown.now s.args.os.now)) q in
     let v = c.spread_picked-batch.ensures ∙ ap (λ (k : ℕ). padded rank_limit (pos 0) (steps_by k s.args.others.now s.args.starts.now s.args.is.now)) q in
-    let x = steps-part n c.spread_picked-window.result (steps_by (length s.args.de.now) s.args.offset-dims.now s.args.shown.now s.args.os.now) w (length-spread (pos 0) n s.args.offset-dims.now (pick (pos 0) s.args.shown.now s.args.os.now)) s.requires.few in
+    let x = steps-part n c.spread_picked-window.result (steps_by (length s.args.de.now) s.args.offset_dims.now s.args.shown.now s.args.os.now) w (length-spread (pos 0) n s.args.offset_dims.now (pick (pos 0) s.args.shown.now s.args.os.now)) s.requires.few in
     let y = steps-part n c.spread_picked-batch.result (steps_by (length s.args.de.now) s.args.others.now s.args.starts.now s.args.is.now) v (length-spread (pos 0) n s.args.others.now (pick (pos 0) s.args.starts.now s.args.is.now)) s.requires.few in
     let r = c.check_resets-e.ensures ∙ ap₂ (λ (xs ys : List ℤ). resets_refusal s.args.de.now s.args.ds.now xs ys) x y in
-    let t : Answer = answer_by s.args.oe.now s.args.os.now s.args.ie.now s.args.is.now s.args.de.now s.args.ds.now s.args.offset-dims.now s.args.collapsed.now s.args.map.now s.args.vector s.args.sizes.now s.args.four s.args.shown.now s.args.starts.now s.args.others.now in
+    let t : Answer = answer_by s.args.oe.now s.args.os.now s.args.ie.now s.args.is.now s.args.de.now s.args.ds.now s.args.offset_dims.now s.args.collapsed.now s.args.map.now s.args.vector s.args.sizes.now s.args.four s.args.shown.now s.args.starts.now s.args.others.now in
     let a =
     c.or_else-answer.ensures ∙ ap (λ (k : Answer). or_else s.args.four k) (c.or_else-2.ensures ∙ ap₂ or_else c.check_lists-b.ensures
     (c.or_else-shape.ensures ∙ ap₂ or_else c.check_counts-c.ensures (c.or_else.ensures ∙ ap₂ or_else c.check_shape-d.ensures r))) in
