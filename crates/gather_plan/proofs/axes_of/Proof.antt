@@ -66,7 +66,7 @@ loop-again c =
     let l = c in
     let s = l in
     let n = length s.args.extents.now in
-    let f = (axis_from s.args.extents.now s.args.dest.now (steps_of s.args.window) (steps_of s.args.batch) s.args.offset-dims.now (numbers_of s.args.shown)) in
+    let f = (axis_from s.args.extents.now s.args.dest.now (steps_of s.args.window) (steps_of s.args.batch) s.args.offset_dims.now (numbers_of s.args.shown)) in
     let t = c.loop-i-test.true in
     let fs : SFits w64 c.stride_at-s.result = search rules in
     let fw : SFits w64 c.step_at-w.result = search rules in
@@ -81,7 +81,7 @@ returns c =
     let l = c in
     let s = l in
     let n = length s.args.extents.now in
-    let f = (axis_from s.args.extents.now s.args.dest.now (steps_of s.args.window) (steps_of s.args.batch) s.args.offset-dims.now (numbers_of s.args.shown)) in
+    let f = (axis_from s.args.extents.now s.args.dest.now (steps_of s.args.window) (steps_of s.args.batch) s.args.offset_dims.now (numbers_of s.args.shown)) in
     let k = length-tabulate n f in
     l.loop-i.invariant.1 ∙ all-written no_axis (tabulate n f) l.loop-i.i (omega (arith, k, l.loop-i.invariant.0, c.loop-i-test.false)) (omega (arith, k, s.requires))
 

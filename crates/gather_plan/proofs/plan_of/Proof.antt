@@ -17,14 +17,14 @@ use Rattle.gather_plan.proofs.plan_of.Statement.{statement}
 use Rattle.gather_plan.proofs.plan_of.Tie as tie
 
 axes-of-requires : tie.Need-axes_of-axes-requires
-axes-of-requires c κs = let s = c in (fits (gather_from s.args.operand-extents.now s.args.operand-strides.now s.args.index-extents.now s.args.index-strides.now s.args.dest-extents.now s.args.dest-strides.now s.args.offset-dims.now s.args.collapsed-slice-dims.now s.args.start-index-map.now s.args.index-vector-dim s.args.slice-sizes.now) _ _ s.requires).dest-rank
+axes-of-requires c κs = let s = c in (fits (gather_from s.args.operand_extents.now s.args.operand_strides.now s.args.index_extents.now s.args.index_strides.now s.args.dest_extents.now s.args.dest_strides.now s.args.offset_dims.now s.args.collapsed_slice_dims.now s.args.start_index_map.now s.args.index_vector_dim s.args.slice_sizes.now) _ _ s.requires).dest-rank
 
 returns : tie.Need-returns
 returns c =
     let s = c in
-    let g : Gather = gather_from s.args.operand-extents.now s.args.operand-strides.now s.args.index-extents.now s.args.index-strides.now s.args.dest-extents.now s.args.dest-strides.now s.args.offset-dims.now s.args.collapsed-slice-dims.now s.args.start-index-map.now s.args.index-vector-dim s.args.slice-sizes.now in
+    let g : Gather = gather_from s.args.operand_extents.now s.args.operand_strides.now s.args.index_extents.now s.args.index_strides.now s.args.dest_extents.now s.args.dest_strides.now s.args.offset_dims.now s.args.collapsed_slice_dims.now s.args.start_index_map.now s.args.index_vector_dim s.args.slice_sizes.now in
     let f : SFits w64 c.stride_at-stride.result = search rules in
-    let o = c.index_component_offsets-offsets.ensures ∙ ap (λ (z : ℤ). held_steps (tabulate (min (length s.args.start-index-map.now) rank_limit) (offset_or z))) (back f ∙ c.stride_at-stride.ensures) in
+    let o = c.index_component_offsets-offsets.ensures ∙ ap (λ (z : ℤ). held_steps (tabulate (min (length s.args.start_index_map.now) rank_limit) (offset_or z))) (back f ∙ c.stride_at-stride.ensures) in
     plan-is g s.args.window s.args.batch s.requires _ _ _ _ _ _ _ _ _ _ _ _ c.make_layout-first.ensures c.make_layout-second.ensures c.make_layout-third.ensures c.other_axes-shown.ensures c.axes_of-axes.ensures o c.strides_on-entries.ensures c.numbers_from-a.ensures c.numbers_from-b.ensures c.numbers_from-c.ensures c.numbers_from-d.ensures c.total_value-total.ensures
 
 pub plan_of_spec : {M : Type 1} → statement M

@@ -46,7 +46,7 @@ returns c =
     let s = l in
     let g : length s.args.shown.entries ≡ rank_limit = search rules in
     let m = l.axis_count-n.ensures in
-    role-here s.args.offset-dims.now s.args.shown.entries l.axis_count-n.result s.args.axis l.loop-i.i (omega (arith, ltb-true)) (omega (arith, m, ltb-true)) c.if-offset_dims-i.true ∙ l.loop-i.invariant.1 ∙ whole l.axis_count-n.result s.args.shown.count s.args.offset-dims.now s.args.shown.entries s.args.axis g m
+    role-here s.args.offset_dims.now s.args.shown.entries l.axis_count-n.result s.args.axis l.loop-i.i (omega (arith, ltb-true)) (omega (arith, m, ltb-true)) c.if-offset_dims-i.true ∙ l.loop-i.invariant.1 ∙ whole l.axis_count-n.result s.args.shown.count s.args.offset_dims.now s.args.shown.entries s.args.axis g m
 
 add-i : tie.Need-overflow_add-i invariant-loop decreases-loop
 add-i c = search rules
@@ -60,7 +60,7 @@ loop-again c =
     let s = l in
     let g : length s.args.shown.entries ≡ rank_limit = search rules in
     let m = l.axis_count-n.ensures in
-    (omega (arith, ltb-true, m), role-next s.args.offset-dims.now s.args.shown.entries l.axis_count-n.result s.args.axis l.loop-i.i (omega (arith, ltb-true)) (omega (arith, m, ltb-true)) c.if-offset_dims-i.false ∙ l.loop-i.invariant.1)
+    (omega (arith, ltb-true, m), role-next s.args.offset_dims.now s.args.shown.entries l.axis_count-n.result s.args.axis l.loop-i.i (omega (arith, ltb-true)) (omega (arith, m, ltb-true)) c.if-offset_dims-i.false ∙ l.loop-i.invariant.1)
 
 returns-2 : tie.Need-returns-else-i-n invariant-loop decreases-loop
 returns-2 c =
@@ -68,7 +68,7 @@ returns-2 c =
     let s = l in
     let g : length s.args.shown.entries ≡ rank_limit = search rules in
     let m = l.axis_count-n.ensures in
-    role-past s.args.offset-dims.now s.args.shown.entries l.axis_count-n.result s.args.axis l.loop-i.i (omega (arith, m, ltb-false)) ∙ l.loop-i.invariant.1 ∙ whole l.axis_count-n.result s.args.shown.count s.args.offset-dims.now s.args.shown.entries s.args.axis g m
+    role-past s.args.offset_dims.now s.args.shown.entries l.axis_count-n.result s.args.axis l.loop-i.i (omega (arith, m, ltb-false)) ∙ l.loop-i.invariant.1 ∙ whole l.axis_count-n.result s.args.shown.count s.args.offset_dims.now s.args.shown.entries s.args.axis g m
 
 returns-3 : tie.Need-returns-after-loop-i invariant-loop decreases-loop
 returns-3 c =
@@ -76,7 +76,7 @@ returns-3 c =
     let s = l in
     let g : length s.args.shown.entries ≡ rank_limit = search rules in
     let m = l.axis_count-n.ensures in
-    role-short s.args.offset-dims.now s.args.shown.entries l.axis_count-n.result s.args.axis l.loop-i.i (omega (arith, ltb-false)) ∙ l.loop-i.invariant.1 ∙ whole l.axis_count-n.result s.args.shown.count s.args.offset-dims.now s.args.shown.entries s.args.axis g m
+    role-short s.args.offset_dims.now s.args.shown.entries l.axis_count-n.result s.args.axis l.loop-i.i (omega (arith, ltb-false)) ∙ l.loop-i.invariant.1 ∙ whole l.axis_count-n.result s.args.shown.count s.args.offset_dims.now s.args.shown.entries s.args.axis g m
 
 pub role_at_spec : {M : Type 1} → statement M
 role_at_spec =
