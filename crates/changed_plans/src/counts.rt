@@ -1,6 +1,7 @@
 // How many changed plans were tried, how many of them refused by 8, with no window reported to have slid, and how many calls changed
 // the destination.
 use layout::CallAnswer;
+use std::io;
 
 #[derive(Clone, Copy)]
 pub struct Counts {
@@ -32,38 +33,39 @@ pub fn with_call(counted: Counts, told: CallAnswer, unchanged: bool) -> Counts {
     }
 }
 
-pub fn put_with(text: &[u8], n: u64) {
-    printing::put(text);
-    printing::put_u64(n);
+pub fn put_with(rt: &impl Print, text: &[u8], n: u64) -> io::Result<()> {
+    printing::put(rt, text)?;
+    printing::put_u64(rt, n)
 }
 
-pub fn put(counted: Counts) {
-    put_with(b": tried ", counted.tried);
-    put_with(b", refused by 8 ", counted.refused);
-    put_with(b", destination changed ", counted.changed);
-    printing::end_line();
+pub fn put(rt: &impl Print, counted: Counts) -> io::Result<()> {
+    put_with(rt, b": tried ", counted.tried)?;
+    put_with(rt, b", refused by 8 ", counted.refused)?;
+    put_with(rt, b", destination changed ", counted.changed)?;
+    printing::end_line(rt)
 }
 
-fn put_element(n: i32) {
-    printing::put(b" ");
-    printing::put_i64(n as i64);
+fn put_element(rt: &impl Print, n: i32) -> io::Result<()> {
+    printing::put(rt, b" ")?;
+    printing::put_i64(rt, n as i64)
 }
 
-fn put_elements(into: &[i32]) {
+fn put_elements(rt: &impl Print, into: &[i32]) -> io::Result<()> {
     let mut i: usize = 0;
     while i < into.len() {
-        put_element(into[i]);
+        put_element(rt, into[i])?;
         i += 1;
     }
+    Ok(())
 }
 
 // A call's answer, how many windows slid, and what it left.
-pub fn put_called(name: &[u8], told: CallAnswer, into: &[i32]) {
+pub fn put_called(rt: &impl Print, name: &[u8], told: CallAnswer, into: &[i32]) -> io::Result<()> {
     let answer = told.answer;
-    printing::put(name);
-    put_with(b": answer ", layout::number(answer));
-    put_with(b", slid ", told.reported);
-    printing::put(b", destination");
-    put_elements(into);
-    printing::end_line();
+    printing::put(rt, name)?;
+    put_with(rt, b": answer ", layout::number(answer))?;
+    put_with(rt, b", slid ", told.reported)?;
+    printing::put(rt, b", destination")?;
+    put_elements(rt, into)?;
+    printing::end_line(rt)
 }

@@ -7,6 +7,7 @@ use changed_plans::counts::Counts;
 use changed_plans::{Field, counts};
 use gather_plan::{CompiledGather, GatherPlan};
 use layout::{CallAnswer, RAW_FUSED_RANK_LIMIT, View};
+use std::io;
 
 fn compile(window: u64) -> CompiledGather {
     gather_plan::compile(
@@ -92,130 +93,151 @@ fn try_places(plan: GatherPlan, field: Field, places: usize) -> Counts {
     counted
 }
 
-fn number(plan: GatherPlan, name: &[u8], field: Field) {
-    printing::put(name);
-    counts::put(try_places(plan, field, 1));
+fn number(rt: &impl Print, plan: GatherPlan, name: &[u8], field: Field) -> io::Result<()> {
+    printing::put(rt, name)?;
+    counts::put(rt, try_places(plan, field, 1))
 }
 
 // Each entry of an array.
-fn entries(plan: GatherPlan, name: &[u8], field: Field) {
-    printing::put(name);
-    counts::put(try_places(plan, field, RAW_FUSED_RANK_LIMIT));
+fn entries(rt: &impl Print, plan: GatherPlan, name: &[u8], field: Field) -> io::Result<()> {
+    printing::put(rt, name)?;
+    counts::put(rt, try_places(plan, field, RAW_FUSED_RANK_LIMIT))
 }
 
-fn operand(plan: GatherPlan) {
-    number(plan, b"operand rank", Field::Layout(0, 0));
-    entries(plan, b"operand extents", Field::Layout(0, 1));
-    entries(plan, b"operand strides", Field::Layout(0, 2));
+fn operand(rt: &impl Print, plan: GatherPlan) -> io::Result<()> {
+    number(rt, plan, b"operand rank", Field::Layout(0, 0))?;
+    entries(rt, plan, b"operand extents", Field::Layout(0, 1))?;
+    entries(rt, plan, b"operand strides", Field::Layout(0, 2))
 }
 
-fn index(plan: GatherPlan) {
-    number(plan, b"index rank", Field::Layout(1, 0));
-    entries(plan, b"index extents", Field::Layout(1, 1));
-    entries(plan, b"index strides", Field::Layout(1, 2));
+fn index(rt: &impl Print, plan: GatherPlan) -> io::Result<()> {
+    number(rt, plan, b"index rank", Field::Layout(1, 0))?;
+    entries(rt, plan, b"index extents", Field::Layout(1, 1))?;
+    entries(rt, plan, b"index strides", Field::Layout(1, 2))
 }
 
-fn dest(plan: GatherPlan) {
-    number(plan, b"destination rank", Field::Layout(2, 0));
-    entries(plan, b"destination extents", Field::Layout(2, 1));
-    entries(plan, b"destination strides", Field::Layout(2, 2));
+fn dest(rt: &impl Print, plan: GatherPlan) -> io::Result<()> {
+    number(rt, plan, b"destination rank", Field::Layout(2, 0))?;
+    entries(rt, plan, b"destination extents", Field::Layout(2, 1))?;
+    entries(rt, plan, b"destination strides", Field::Layout(2, 2))
 }
 
-fn window_axes(plan: GatherPlan) {
-    number(plan, b"offset_dims count", Field::Numbers(0, 0));
-    entries(plan, b"offset_dims entries", Field::Numbers(0, 1));
-    number(plan, b"collapsed_slice_dims count", Field::Numbers(1, 0));
-    entries(plan, b"collapsed_slice_dims entries", Field::Numbers(1, 1));
+fn window_axes(rt: &impl Print, plan: GatherPlan) -> io::Result<()> {
+    number(rt, plan, b"offset_dims count", Field::Numbers(0, 0))?;
+    entries(rt, plan, b"offset_dims entries", Field::Numbers(0, 1))?;
+    number(
+        rt,
+        plan,
+        b"collapsed_slice_dims count",
+        Field::Numbers(1, 0),
+    )?;
+    entries(
+        rt,
+        plan,
+        b"collapsed_slice_dims entries",
+        Field::Numbers(1, 1),
+    )
 }
 
-fn start_axes(plan: GatherPlan) {
-    number(plan, b"start_index_map count", Field::Numbers(2, 0));
-    entries(plan, b"start_index_map entries", Field::Numbers(2, 1));
-    number(plan, b"index_vector_dim", Field::VectorAxis);
+fn start_axes(rt: &impl Print, plan: GatherPlan) -> io::Result<()> {
+    number(rt, plan, b"start_index_map count", Field::Numbers(2, 0))?;
+    entries(rt, plan, b"start_index_map entries", Field::Numbers(2, 1))?;
+    number(rt, plan, b"index_vector_dim", Field::VectorAxis)
 }
 
-fn windows(plan: GatherPlan) {
-    number(plan, b"slice_sizes count", Field::Numbers(3, 0));
-    entries(plan, b"slice_sizes entries", Field::Numbers(3, 1));
+fn windows(rt: &impl Print, plan: GatherPlan) -> io::Result<()> {
+    number(rt, plan, b"slice_sizes count", Field::Numbers(3, 0))?;
+    entries(rt, plan, b"slice_sizes entries", Field::Numbers(3, 1))
 }
 
-fn axes_in_dest(plan: GatherPlan) {
-    entries(plan, b"axes, role", Field::GatherReplayAxis(0));
-    entries(plan, b"axes, destination step", Field::GatherReplayAxis(1));
-    entries(plan, b"axes, destination reset", Field::GatherReplayAxis(2));
+fn axes_in_dest(rt: &impl Print, plan: GatherPlan) -> io::Result<()> {
+    entries(rt, plan, b"axes, role", Field::GatherReplayAxis(0))?;
+    entries(
+        rt,
+        plan,
+        b"axes, destination step",
+        Field::GatherReplayAxis(1),
+    )?;
+    entries(
+        rt,
+        plan,
+        b"axes, destination reset",
+        Field::GatherReplayAxis(2),
+    )
 }
 
-fn axes_in_views(plan: GatherPlan) {
-    entries(plan, b"axes, window step", Field::GatherReplayAxis(3));
-    entries(plan, b"axes, window reset", Field::GatherReplayAxis(4));
-    entries(plan, b"axes, batch step", Field::GatherReplayAxis(5));
-    entries(plan, b"axes, batch reset", Field::GatherReplayAxis(6));
+fn axes_in_views(rt: &impl Print, plan: GatherPlan) -> io::Result<()> {
+    entries(rt, plan, b"axes, window step", Field::GatherReplayAxis(3))?;
+    entries(rt, plan, b"axes, window reset", Field::GatherReplayAxis(4))?;
+    entries(rt, plan, b"axes, batch step", Field::GatherReplayAxis(5))?;
+    entries(rt, plan, b"axes, batch reset", Field::GatherReplayAxis(6))
 }
 
-fn index_component_offsets(plan: GatherPlan) {
-    number(plan, b"component offsets count", Field::Steps(0, 0));
-    entries(plan, b"component offsets entries", Field::Steps(0, 1));
+fn index_component_offsets(rt: &impl Print, plan: GatherPlan) -> io::Result<()> {
+    number(rt, plan, b"component offsets count", Field::Steps(0, 0))?;
+    entries(rt, plan, b"component offsets entries", Field::Steps(0, 1))
 }
 
-fn index_operand_strides(plan: GatherPlan) {
-    number(plan, b"component strides count", Field::Steps(1, 0));
-    entries(plan, b"component strides entries", Field::Steps(1, 1));
-    number(plan, b"total", Field::Total);
+fn index_operand_strides(rt: &impl Print, plan: GatherPlan) -> io::Result<()> {
+    number(rt, plan, b"component strides count", Field::Steps(1, 0))?;
+    entries(rt, plan, b"component strides entries", Field::Steps(1, 1))?;
+    number(rt, plan, b"total", Field::Total)
 }
 
-fn layouts(plan: GatherPlan) {
-    operand(plan);
-    index(plan);
-    dest(plan);
+fn layouts(rt: &impl Print, plan: GatherPlan) -> io::Result<()> {
+    operand(rt, plan)?;
+    index(rt, plan)?;
+    dest(rt, plan)
 }
 
-fn spec(plan: GatherPlan) {
-    window_axes(plan);
-    start_axes(plan);
-    windows(plan);
+fn spec(rt: &impl Print, plan: GatherPlan) -> io::Result<()> {
+    window_axes(rt, plan)?;
+    start_axes(rt, plan)?;
+    windows(rt, plan)
 }
 
-fn walk(plan: GatherPlan) {
-    axes_in_dest(plan);
-    axes_in_views(plan);
-    index_component_offsets(plan);
-    index_operand_strides(plan);
+fn walk(rt: &impl Print, plan: GatherPlan) -> io::Result<()> {
+    axes_in_dest(rt, plan)?;
+    axes_in_views(rt, plan)?;
+    index_component_offsets(rt, plan)?;
+    index_operand_strides(rt, plan)
 }
 
-fn compiled_plan(plan: GatherPlan) {
+fn compiled_plan(rt: &impl Print, plan: GatherPlan) -> io::Result<()> {
     let mut into = [1i32, 2, 3, 4];
     let answer = call(plan, &mut into);
-    counts::put_called(b"the compiled plan", answer, &into);
+    counts::put_called(rt, b"the compiled plan", answer, &into)
 }
 
 // Windows of 6 are refused by 6.
-fn put_refusal(compiled: CompiledGather) {
+fn put_refusal(rt: &impl Print, compiled: CompiledGather) -> io::Result<()> {
     let answer = compiled.answer;
     counts::put_with(
+        rt,
         b"compile with windows of 6: answer ",
         layout::number(answer),
-    );
-    printing::end_line();
+    )?;
+    printing::end_line(rt)
 }
 
-fn refused_plan(plan: GatherPlan) {
+fn refused_plan(rt: &impl Print, plan: GatherPlan) -> io::Result<()> {
     let mut into = [1i32, 2, 3, 4];
     let answer = call(plan, &mut into);
-    counts::put_called(b"the plan that stands there", answer, &into);
+    counts::put_called(rt, b"the plan that stands there", answer, &into)
 }
 
-fn refused_plan_on_scalars(plan: GatherPlan) {
+fn refused_plan_on_scalars(rt: &impl Print, plan: GatherPlan) -> io::Result<()> {
     let mut into = [1i32, 2, 3, 4];
     let answer = call_on_scalars(plan, &mut into);
-    counts::put_called(b"the same on views of its layouts", answer, &into);
+    counts::put_called(rt, b"the same on views of its layouts", answer, &into)
 }
 
-fn refused() {
+fn refused(rt: &impl Print) -> io::Result<()> {
     let compiled = compile(6);
     let plan = compiled.plan;
-    put_refusal(compiled);
-    refused_plan(plan);
-    refused_plan_on_scalars(plan);
+    put_refusal(rt, compiled)?;
+    refused_plan(rt, plan)?;
+    refused_plan_on_scalars(rt, plan)
 }
 
 // Operand 3 4, one cell for each start, into a destination [2] with stride 0.
@@ -234,28 +256,29 @@ fn call_shared(plan: GatherPlan, into: &mut [i32]) -> CallAnswer {
     gather::gather_i32(plan, operand, index, dest, &[3, 4], &[0, 1], into)
 }
 
-fn shared() {
+fn shared(rt: &impl Print) -> io::Result<()> {
     let compiled = shared_compiled();
     let answer = compiled.answer;
     counts::put_with(
+        rt,
         b"compile of 3 4 into [2] with stride 0: answer ",
         layout::number(answer),
-    );
-    printing::end_line();
+    )?;
+    printing::end_line(rt)?;
     let again = shared_again();
     let plan = again.plan;
     let mut into = [9i32];
     let called = call_shared(plan, &mut into);
-    counts::put_called(b"the plan with 4 not tried", called, &into);
+    counts::put_called(rt, b"the plan with 4 not tried", called, &into)
 }
 
-fn main() {
+fn main(rt: HostRuntime) -> io::Result<()> {
     let compiled = compile(2);
     let plan = compiled.plan;
-    compiled_plan(plan);
-    layouts(plan);
-    spec(plan);
-    walk(plan);
-    refused();
-    shared();
+    compiled_plan(&rt, plan)?;
+    layouts(&rt, plan)?;
+    spec(&rt, plan)?;
+    walk(&rt, plan)?;
+    refused(&rt)?;
+    shared(&rt)
 }
