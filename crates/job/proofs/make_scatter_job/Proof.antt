@@ -15,7 +15,7 @@ part-make-job-end c = search rules
 returns : tie.Need-returns
 returns c =
     let s = c in
-    simp (back s.ranges.index-offset, back s.ranges.update-offset, back s.ranges.dest-offset) at c.make_job.ensures
+    simp (back s.ranges.index_offset, back s.ranges.update_offset, back s.ranges.dest_offset) at c.make_job.ensures
 
 pub make_scatter_job_spec : {M : Type 1} → statement M
 make_scatter_job_spec =

@@ -20,7 +20,7 @@ returns : tie.Need-returns
 returns c =
     let a = c.args in
     let z : a.n - 0 ≡ a.n = omega arith in
-    c.padded_extents.ensures ∙ ap (λ (k : ℕ). padded rank_limit 1 (take k a.t1)) z
+    c.padded_extents.ensures ∙ ap (λ (k : ℕ). padded rank_limit 1 (take k a.words)) z
 
 pub extents_from_spec : {M : Type 1} → statement M
 extents_from_spec =

@@ -51,23 +51,23 @@ loop-again : tie.Need-loop-i-preserved invariant-loop decreases-loop
 loop-again c =
     let l = c in
     let a = l.args in
-    let s : length a.t1 ≡ list_limit = search rules in
+    let s : length a.words ≡ list_limit = search rules in
     let f : SFits w64 c.signed_word-stride.result = search rules in
-    (omega (arith, ltb-true), omega (arith, ltb-true), fill_one rank_limit (pos 0) (pos 0) (map signed_of (take a.n a.t1)) l.loop-i.out l.loop-i.i _ (omega (arith, ltb-true)) (omega (arith, ltb-true, length-signed a.n a.t1)) l.loop-i.invariant.2 (back f ∙ c.signed_word-stride.ensures ∙ signed-entry a.n a.t1 l.loop-i.i (omega (arith, ltb-true))))
+    (omega (arith, ltb-true), omega (arith, ltb-true), fill_one rank_limit (pos 0) (pos 0) (map signed_of (take a.n a.words)) l.loop-i.out l.loop-i.i _ (omega (arith, ltb-true)) (omega (arith, ltb-true, length-signed a.n a.words)) l.loop-i.invariant.2 (back f ∙ c.signed_word-stride.ensures ∙ signed-entry a.n a.words l.loop-i.i (omega (arith, ltb-true))))
 
 returns : tie.Need-returns-else-i-n invariant-loop decreases-loop
 returns c =
     let l = c in
     let a = l.args in
-    let s : length a.t1 ≡ list_limit = search rules in
-    fill_done rank_limit (pos 0) (map signed_of (take a.n a.t1)) l.loop-i.out l.loop-i.i (omega (arith, ltb-true, ltb-false, length-signed a.n a.t1)) l.loop-i.invariant.2
+    let s : length a.words ≡ list_limit = search rules in
+    fill_done rank_limit (pos 0) (map signed_of (take a.n a.words)) l.loop-i.out l.loop-i.i (omega (arith, ltb-true, ltb-false, length-signed a.n a.words)) l.loop-i.invariant.2
 
 returns-2 : tie.Need-returns-after-loop-i invariant-loop decreases-loop
 returns-2 c =
     let l = c in
     let a = l.args in
-    let s : length a.t1 ≡ list_limit = search rules in
-    fill_done rank_limit (pos 0) (map signed_of (take a.n a.t1)) l.loop-i.out l.loop-i.i (omega (arith, length-signed a.n a.t1)) l.loop-i.invariant.2
+    let s : length a.words ≡ list_limit = search rules in
+    fill_done rank_limit (pos 0) (map signed_of (take a.n a.words)) l.loop-i.out l.loop-i.i (omega (arith, length-signed a.n a.words)) l.loop-i.invariant.2
 
 pub strides_from_spec : {M : Type 1} → statement M
 strides_from_spec =

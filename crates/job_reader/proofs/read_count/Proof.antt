@@ -12,19 +12,19 @@ read-number-requires : tie.Need-read_number-count-requires
 read-number-requires c κs = search rules
 
 returns : tie.Need-returns-then-not-count
-returns c = let f = number-fault _ _ c.read_number-count.ensures c.if-not-count.true in c.read_number-count.ensures ∙ ap held_number (f ∙ sym (count-1 _ _ f))
+returns c = let f = number-fault _ _ c.read_number-count.ensures (not-true _ c.if-not-count.true) in c.read_number-count.ensures ∙ ap held_number (f ∙ sym (count-1 _ _ f))
 
 sub-if2 : tie.Need-overflow_sub-bytes
 sub-if2 c =
-    omega (arith, (number-room _ _ _ _ _ (number_read _ _ c.read_number-count.ensures c.if-not-count.false)).1)
+    omega (arith, (number-room _ _ _ _ _ (number_read _ _ c.read_number-count.ensures (not-false _ c.if-not-count.false))).1)
 
 returns-2 : tie.Need-returns-then-bytes-count
-returns-2 c = let f = number_read _ _ c.read_number-count.ensures c.if-not-count.false in let r = number-room _ _ _ _ _ f in c.no_number.ensures ∙ sym (ap held_number (count-2 _ _ _ f (omega (arith, r.0, r.1, c.if-bytes-count.true))))
+returns-2 c = let f = number_read _ _ c.read_number-count.ensures (not-false _ c.if-not-count.false) in let r = number-room _ _ _ _ _ f in c.no_number.ensures ∙ sym (ap held_number (count-2 _ _ _ f (omega (arith, r.0, r.1, c.if-bytes-count.true))))
 
 returns-3 : tie.Need-returns
 returns-3 c =
     let p4 = c in
-    let f = number_read _ _ p4.read_number-count.ensures c.if-not-count.false in let r = number-room _ _ _ _ _ f in p4.read_number-count.ensures ∙ ap held_number (f ∙ sym (count-3 _ _ _ f (omega (arith, r.0, r.1, c.if-bytes-count.false))))
+    let f = number_read _ _ p4.read_number-count.ensures (not-false _ c.if-not-count.false) in let r = number-room _ _ _ _ _ f in p4.read_number-count.ensures ∙ ap held_number (f ∙ sym (count-3 _ _ _ f (omega (arith, r.0, r.1, c.if-bytes-count.false))))
 
 pub read_count_spec : {M : Type 1} → statement M
 read_count_spec =

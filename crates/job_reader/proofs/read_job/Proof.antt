@@ -6,14 +6,14 @@ use Rattle.job_reader.proofs.read_job.Statement.{statement}
 use Rattle.job_reader.proofs.read_job.Tie as tie
 
 returns : tie.Need-returns-then-not-head
-returns c = c.job_fault.ensures ∙ sym (ap read_job (job-1 _ _ (no-head _ _ c.read_head-head.ensures c.if-not-head.true)))
+returns c = c.job_fault.ensures ∙ sym (ap read_job (job-1 _ _ (no-head _ _ c.read_head-head.ensures (not-true _ c.if-not-head.true))))
 
 returns-2 : tie.Need-returns-then-not-vs
 returns-2 c =
     let p3 = c in
     let p4 = p3 in
     let p6 = p4 in
-    c.job_fault-then-not-vs.ensures ∙ sym (ap read_job (job-2 _ _ _ _ (got-head _ _ p6.read_head-head.ensures p4.if-not-head.false) (no-views _ _ p3.read_views-vs.ensures c.if-not-vs.true)))
+    c.job_fault-then-not-vs.ensures ∙ sym (ap read_job (job-2 _ _ _ _ (got-head _ _ p6.read_head-head.ensures (not-false _ p4.if-not-head.false)) (no-views _ _ p3.read_views-vs.ensures (not-true _ c.if-not-vs.true))))
 
 returns-3 : tie.Need-returns-then-not-s
 returns-3 c =
@@ -22,7 +22,7 @@ returns-3 c =
     let p6 = p4 in
     let p7 = p6 in
     let p9 = p7 in
-    c.job_fault-then-not-s.ensures ∙ sym (ap read_job (job-3 _ _ _ _ _ _ (got-head _ _ p9.read_head-head.ensures p7.if-not-head.false) (got-views _ _ p6.read_views-vs.ensures p4.if-not-vs.false) (no-spec _ _ p3.read_spec-s.ensures c.if-not-s.true)))
+    c.job_fault-then-not-s.ensures ∙ sym (ap read_job (job-3 _ _ _ _ _ _ (got-head _ _ p9.read_head-head.ensures (not-false _ p7.if-not-head.false)) (got-views _ _ p6.read_views-vs.ensures (not-false _ p4.if-not-vs.false)) (no-spec _ _ p3.read_spec-s.ensures (not-true _ c.if-not-s.true))))
 
 returns-4 : tie.Need-returns-then-s-bytes
 returns-4 c =
@@ -32,7 +32,7 @@ returns-4 c =
     let p8 = p6 in
     let p9 = p8 in
     let p11 = p9 in
-    c.job_fault-then-s-bytes.ensures ∙ sym (ap read_job (job-4 _ _ _ _ _ _ _ (got-head _ _ p11.read_head-head.ensures p9.if-not-head.false) (got-views _ _ p8.read_views-vs.ensures p6.if-not-vs.false) (got-spec _ _ p5.read_spec-s.ensures p3.if-not-s.false) c.if-s-bytes.true))
+    c.job_fault-then-s-bytes.ensures ∙ sym (ap read_job (job-4 _ _ _ _ _ _ _ (got-head _ _ p11.read_head-head.ensures (not-false _ p9.if-not-head.false)) (got-views _ _ p8.read_views-vs.ensures (not-false _ p6.if-not-vs.false)) (got-spec _ _ p5.read_spec-s.ensures (not-false _ p3.if-not-s.false)) c.if-s-bytes.true))
 
 returns-5 : tie.Need-returns
 returns-5 c =
@@ -42,7 +42,7 @@ returns-5 c =
     let p9 = p7 in
     let p10 = p9 in
     let p12 = p10 in
-    sym (ap read_job (job-5 _ _ _ _ _ _ _ (got-head _ _ p12.read_head-head.ensures p10.if-not-head.false) (got-views _ _ p9.read_views-vs.ensures p7.if-not-vs.false) (got-spec _ _ p6.read_spec-s.ensures p4.if-not-s.false) c.if-s-bytes.false))
+    sym (ap read_job (job-5 _ _ _ _ _ _ _ (got-head _ _ p12.read_head-head.ensures (not-false _ p10.if-not-head.false)) (got-views _ _ p9.read_views-vs.ensures (not-false _ p7.if-not-vs.false)) (got-spec _ _ p6.read_spec-s.ensures (not-false _ p4.if-not-s.false)) c.if-s-bytes.false))
 
 pub read_job_spec : {M : Type 1} → statement M
 read_job_spec =
