@@ -13,7 +13,7 @@ use Rattle.indexing.specs.Coordinates.{dot}
 use Rattle.indexing.specs.Start.{clamp}
 use Rattle.indexing.specs.Slid.{moved}
 use Rattle.indexing.specs.Axes.{Axes}
-use Rattle.indexing.specs.Inside.{clamp-is}
+use Rattle.indexing.proofs.Inside.{clamp-is}
 
 -- ---- sums and clamps
 pub clamp-limit : (x : ℤ) (extent window : ℕ) → clamp x (extent - window) 0 ≡ clamp x extent window

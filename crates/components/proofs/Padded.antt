@@ -11,7 +11,7 @@ use lib.Seq.{take_all, ext_get_or, get_or-append-add}
 use lib.IntN.{ℤ, pos}
 use Rattle.indexing.specs.Axes.{get_or-same}
 use Rattle.indexing.specs.Coordinates.{tabulate}
-use Rattle.indexing.specs.Updates.{length-tabulate, get_d_tabulate}
+use Rattle.indexing.proofs.Updates.{length-tabulate, get_d_tabulate}
 use Rattle.layout.specs.Layouts.{rank_limit, padded}
 use Rattle.axis_lists.proofs.Filling.{entry-below, read_back}
 use Rattle.checks.proofs.Held.{length-padded}

@@ -11,7 +11,7 @@ use Rattle.integer.specs.declared.CheckedU.{CheckedU}
 use Rattle.integer.specs.declared.CheckedU.TheVariants as U
 use Rattle.indexing.specs.Coordinates.{product}
 use Rattle.indexing.specs.Odometer.{AllPos}
-use Rattle.indexing.specs.Fusion.{product-pos}
+use Rattle.indexing.proofs.Fusion.{product-pos}
 use Rattle.layout.specs.Layouts.{rank_limit, padded}
 use Rattle.layout.specs.Nested.{has_zero}
 use Rattle.layout.proofs.Fill.{padded-back}

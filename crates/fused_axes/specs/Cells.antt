@@ -3,7 +3,7 @@ use Rattle.std.specs.Prelude.{◌≡◌, true, List, ℕ, ◌<◌, length, get_o
 use Rattle.std.proofs.Common.{sym, ◌∙◌, arith}
 use Rattle.indexing.specs.Coordinates.{View, product, element_at}
 use Rattle.indexing.specs.Operand.{cell_place, operand_copied}
-use Rattle.indexing.specs.OperandCells.{cell-offset, copied-holds}
+use Rattle.indexing.proofs.OperandCells.{cell-offset, copied-holds}
 use Rattle.layout.specs.Nested.{nested}
 use Rattle.fused_axes.specs.Fused.{Apart, nested-apart, apart-one}
 

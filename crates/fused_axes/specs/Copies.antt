@@ -9,8 +9,10 @@ use Rattle.integer.specs.Defs.{eq_z}
 use Rattle.integer.specs.Laws.{eq_z-true, eq_z-false}
 use Rattle.indexing.specs.Coordinates.{element_at, tabulate}
 use Rattle.indexing.specs.Gather.{Read, copy_each}
-use Rattle.indexing.specs.Updates.{no_read, length-copy_each, copy-other, copy-last, length-tabulate, get_d_tabulate}
-use Rattle.indexing.specs.Loops.{in_order, copy-loop}
+use Rattle.indexing.specs.Updates.{no_read}
+use Rattle.indexing.proofs.Updates.{length-copy_each, copy-other, copy-last, length-tabulate, get_d_tabulate}
+use Rattle.indexing.specs.Loops.{in_order}
+use Rattle.indexing.proofs.Loops.{copy-loop}
 use Rattle.fused_axes.specs.Fusing.{copy_turn}
 
 -- one of the first n cells is read at a and written at b

@@ -10,10 +10,11 @@ use Rattle.integer.specs.Tests.{and-true}
 use Rattle.integer.specs.Laws.{+ℤ-cancel-r}
 use Rattle.indexing.specs.Coordinates.{View, product, unravel, dot, Within, element_at, store}
 use Rattle.indexing.specs.Odometer.{offset_at}
-use Rattle.indexing.specs.Linear.{unravel-within, unravel-one}
-use Rattle.indexing.specs.Loops.{in_order, in_order-same}
+use Rattle.indexing.proofs.Linear.{unravel-within, unravel-one}
+use Rattle.indexing.specs.Loops.{in_order}
+use Rattle.indexing.proofs.Loops.{in_order-same}
 use Rattle.indexing.specs.Operand.{cell_place, operand_copied}
-use Rattle.indexing.specs.OperandCells.{cell-offset, copied-loop}
+use Rattle.indexing.proofs.OperandCells.{cell-offset, copied-loop}
 use Rattle.layout.specs.Nested.{has_zero, nested}
 use Rattle.layout.specs.Distinct.{nested-distinct}
 use Rattle.layout.specs.Laws.{no_cells}

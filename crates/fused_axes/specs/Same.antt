@@ -10,8 +10,9 @@ use Rattle.integer.specs.declared.CheckedU.{CheckedU}
 use Rattle.integer.specs.declared.CheckedU.TheVariants as U
 use Rattle.indexing.specs.Coordinates.{product, unravel, dot}
 use Rattle.indexing.specs.Odometer.{offset_at}
-use Rattle.indexing.specs.Loops.{in_order, in_order-same}
-use Rattle.indexing.specs.Fusion.{dot-fuse, dot-unit, product-fuse}
+use Rattle.indexing.specs.Loops.{in_order}
+use Rattle.indexing.proofs.Loops.{in_order-same}
+use Rattle.indexing.proofs.Fusion.{dot-fuse, dot-unit, product-fuse}
 use Rattle.layout.specs.Spans.{and_then}
 use Rattle.layout.specs.Laws.{then-inv}
 use Rattle.fused_axes.specs.declared.FusedAxis.{FusedAxis}

@@ -7,7 +7,7 @@ use Rattle.integer.specs.declared.CheckedU.{CheckedU}
 use Rattle.integer.specs.declared.CheckedU.TheVariants as U
 use Rattle.indexing.specs.Coordinates.{product}
 use Rattle.indexing.specs.Odometer.{AllPos}
-use Rattle.indexing.specs.Fusion.{product-pos}
+use Rattle.indexing.proofs.Fusion.{product-pos}
 use Rattle.layout.specs.Nested.{has_zero}
 use Rattle.layout.specs.Laws.{no_cells, some-cells}
 use Rattle.layout.specs.Spans.{and_then_u, total_from, total_of}

@@ -10,7 +10,7 @@ use Rattle.integer.specs.Tests.{and-true}
 use Rattle.indexing.specs.Coordinates.{rank, tabulate, has}
 use Rattle.indexing.specs.Gather.{Gather, shown_dims, batch_dims}
 use Rattle.indexing.specs.Steps.{window_steps, batch_steps}
-use Rattle.indexing.specs.Updates.{length-tabulate, get_d_tabulate}
+use Rattle.indexing.proofs.Updates.{length-tabulate, get_d_tabulate}
 use Rattle.layout.specs.declared.Answer.{Answer}
 use Rattle.layout.specs.declared.Answer.TheVariants as A
 use Rattle.layout.specs.declared.Reach.{Reach}

@@ -6,7 +6,7 @@ use native.Mathlib.Omega.{arith}
 use lib.ListN.{length, get_or, set}
 use lib.IntN.{ℤ, pos}
 use Rattle.indexing.specs.Coordinates.{tabulate}
-use Rattle.indexing.specs.Updates.{length-tabulate, get_d_tabulate}
+use Rattle.indexing.proofs.Updates.{length-tabulate, get_d_tabulate}
 use Rattle.layout.specs.Layouts.{rank_limit}
 use Rattle.axis_lists.proofs.Filling.{written, one_written, all-written}
 use Rattle.components.proofs.Padded.{full}

@@ -13,12 +13,14 @@ use Rattle.indexing.specs.Start.{index_coordinate, clamp, start_on, start_index}
 use Rattle.indexing.specs.Gather.{Gather, cells, batch_dims, gather_start, read_at, write_at, gathered}
 use Rattle.indexing.specs.Odometer.{offset_at}
 use Rattle.indexing.specs.Axes.{sum_of}
-use Rattle.indexing.specs.Steps.{vector_stride, window_steps, batch_steps, start_sum_to, write-place}
-use Rattle.indexing.specs.Loops.{in_order, gathered-loop}
-use Rattle.indexing.specs.Inside.{inside-within}
-use Rattle.indexing.specs.Bounds.{offset-below, operand-inside, gather-start-within}
+use Rattle.indexing.specs.Steps.{vector_stride, window_steps, batch_steps, start_sum_to}
+use Rattle.indexing.proofs.Steps.{write-place}
+use Rattle.indexing.specs.Loops.{in_order}
+use Rattle.indexing.proofs.Loops.{gathered-loop}
+use Rattle.indexing.proofs.Inside.{inside-within}
+use Rattle.indexing.proofs.Bounds.{offset-below, operand-inside, gather-start-within}
 use Rattle.indexing.specs.Valid.{Covered, ValidGather}
-use Rattle.indexing.specs.Places.{reads_at, gather-component-at, reads-partly-in, writes-in, gather-starts-in, sum_same}
+use Rattle.indexing.proofs.Places.{reads_at, gather-component-at, reads-partly-in, writes-in, gather-starts-in, sum_same}
 use Rattle.layout.specs.declared.Answer.TheVariants as A
 use Rattle.layout.specs.Answers.{is_done}
 use Rattle.layout.specs.Layouts.{rank_limit, padded}

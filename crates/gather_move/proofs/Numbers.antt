@@ -10,7 +10,7 @@ use Rattle.indexing.specs.Coordinates.{rank, tabulate, pick}
 use Rattle.indexing.specs.Gather.{Gather}
 use Rattle.indexing.specs.Axes.{length-pick, get_or-pick}
 use Rattle.indexing.specs.Steps.{vector_stride, window_steps, batch_steps}
-use Rattle.indexing.specs.Updates.{length-tabulate, get_d_tabulate}
+use Rattle.indexing.proofs.Updates.{length-tabulate, get_d_tabulate}
 use Rattle.layout.specs.declared.Answer.TheVariants as A
 use Rattle.layout.specs.Answers.{is_done}
 use Rattle.layout.specs.Layouts.{rank_limit, padded}

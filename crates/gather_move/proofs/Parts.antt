@@ -15,11 +15,12 @@ use Rattle.integer.specs.Laws.{≤-pos, ≤ℤ-trans, +ℤ-mono-r}
 use Rattle.indexing.specs.Coordinates.{product, unravel, element_at, store}
 use Rattle.indexing.specs.Gather.{Gather, cells, shown_dims, batch_dims, gather_start, read_at, write_at, gathered}
 use Rattle.indexing.specs.Slid.{how_many, slides, slid_of, batch_extents, slid_gather}
-use Rattle.indexing.specs.Loops.{gathered-loop}
+use Rattle.indexing.proofs.Loops.{gathered-loop}
 use Rattle.indexing.specs.Reach.{lowest}
 use Rattle.indexing.specs.Steps.{window_steps, batch_steps}
 use Rattle.indexing.specs.Valid.{Covered}
-use Rattle.indexing.specs.Parts.{rebased, covered-part, gathered-lent}
+use Rattle.indexing.specs.Parts.{rebased}
+use Rattle.indexing.proofs.Parts.{covered-part, gathered-lent}
 use Rattle.layout.specs.Laws.{no_cells}
 use Rattle.layout.specs.declared.Answer.{Answer}
 use Rattle.layout.specs.declared.Answer.TheVariants as A

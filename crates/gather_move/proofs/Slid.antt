@@ -21,12 +21,12 @@ use Rattle.indexing.specs.Counting.{one_same, many-same}
 use Rattle.indexing.specs.Odometer.{AllPos, offset_at}
 use Rattle.indexing.specs.Axes.{get_or-same, spread_none, others-not}
 use Rattle.indexing.specs.Steps.{vector_stride, batch_steps}
-use Rattle.indexing.specs.Updates.{length-tabulate, get_d_tabulate}
-use Rattle.indexing.specs.Places.{gather-component-at}
+use Rattle.indexing.proofs.Updates.{length-tabulate, get_d_tabulate}
+use Rattle.indexing.proofs.Places.{gather-component-at}
 use Rattle.layout.specs.declared.Answer.TheVariants as A
 use Rattle.layout.specs.Answers.{is_done}
 use Rattle.layout.specs.Layouts.{rank_limit, padded}
-use Rattle.layout.specs.Laws.{total-is}
+use Rattle.layout.proofs.Products.{total-is}
 use Rattle.layout.specs.Spans.{and_then_u, total_from, total_of}
 use Rattle.axis_lists.proofs.Filling.{entry-below}
 use Rattle.checks.specs.Checks.{total_fits}

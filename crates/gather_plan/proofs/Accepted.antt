@@ -16,7 +16,8 @@ use Rattle.layout.specs.declared.Answer.{Answer}
 use Rattle.layout.specs.Answers.{is_done}
 use Rattle.layout.specs.Layouts.{rank_limit, padded, layout_of, extents_of, strides_of, stride_length, rank_at_most}
 use Rattle.layout.specs.Spans.{total_of, reset_of, reset}
-use Rattle.layout.specs.Laws.{total-is, reset-is}
+use Rattle.layout.specs.Laws.{reset-is}
+use Rattle.layout.proofs.Products.{total-is}
 use Rattle.axis_lists.proofs.Filling.{read_back, length-others}
 use Rattle.checks.specs.Checks.{total_fits, number_fits}
 use Rattle.checks.specs.Values.{reset_or, offset_or, total_or}

@@ -12,13 +12,15 @@ use Rattle.integer.specs.Laws.{+ℤ-ac}
 use Rattle.indexing.specs.Coordinates.{rank, product, unravel, dot, spread, has, others, tabulate}
 use Rattle.indexing.specs.Start.{without}
 use Rattle.indexing.specs.Gather.{Gather, batch_dims, full_offset, cells, reads}
-use Rattle.indexing.specs.Linear.{index-pos}
-use Rattle.indexing.specs.Odometer.{offset_at, advance, advance-offset}
+use Rattle.indexing.proofs.Linear.{index-pos}
+use Rattle.indexing.specs.Odometer.{offset_at, advance}
+use Rattle.indexing.proofs.Odometer.{advance-offset}
 use Rattle.indexing.specs.Axes.{length-pick, get_or-pick, pick-spread, axes-others}
-use Rattle.indexing.specs.Steps.{vector_stride, window_steps, batch_steps, place-ints, dot-window, write-place}
-use Rattle.indexing.specs.Updates.{length-tabulate, get_d_tabulate}
+use Rattle.indexing.specs.Steps.{vector_stride, window_steps, batch_steps}
+use Rattle.indexing.proofs.Steps.{place-ints, dot-window, write-place}
+use Rattle.indexing.proofs.Updates.{length-tabulate, get_d_tabulate}
 use Rattle.indexing.specs.Valid.{ValidGather}
-use Rattle.indexing.specs.Places.{gather-component-at}
+use Rattle.indexing.proofs.Places.{gather-component-at}
 use Rattle.layout.specs.declared.Answer.TheVariants as A
 use Rattle.layout.specs.Answers.{is_done}
 use Rattle.layout.specs.Layouts.{rank_limit}

@@ -15,7 +15,7 @@ use mir.Val.{SFits}
 use Rattle.integer.specs.Z.{back}
 use Rattle.indexing.specs.Coordinates.{product}
 use Rattle.indexing.specs.Odometer.{AllPos}
-use Rattle.indexing.specs.Fusion.{product-pos}
+use Rattle.indexing.proofs.Fusion.{product-pos}
 use Rattle.indexing.specs.Slid.{how_many, slid_of}
 use Rattle.indexing.specs.Counting.{many-none, many_more, many-same, many_below, many-part}
 use Rattle.layout.specs.Laws.{no_cells}

@@ -13,8 +13,8 @@ use Rattle.integer.specs.Z.{back}
 use Rattle.integer.specs.Laws.{+ℤ-ac}
 use Rattle.indexing.specs.Coordinates.{product, unravel, dot, InSlice}
 use Rattle.indexing.specs.Odometer.{AllPos, offset_at}
-use Rattle.indexing.specs.Linear.{head-pos, div_below}
-use Rattle.indexing.specs.Fusion.{product-pos}
+use Rattle.indexing.proofs.Linear.{head-pos, div_below}
+use Rattle.indexing.proofs.Fusion.{product-pos}
 use Rattle.indexing.specs.Loops.{in_order}
 use Rattle.runs.specs.Runs.{cell_at, line}
 use Rattle.runs.proofs.Turns.{more, in-runs, same-turns, same-places}

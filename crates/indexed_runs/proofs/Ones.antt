@@ -16,11 +16,11 @@ use Rattle.integer.specs.Z.{up, dn, only, back, abs_is, zfacts, ≡-from, ≤-fr
 use Rattle.integer.specs.Machine.{same_bits}
 use Rattle.indexing.specs.Coordinates.{InSlice, element_at, store}
 use Rattle.indexing.specs.Start.{clamp}
-use Rattle.indexing.specs.Inside.{clamp-is}
+use Rattle.indexing.proofs.Inside.{clamp-is}
 use Rattle.indexing.specs.Slid.{moved, how_many}
 use Rattle.indexing.specs.Counting.{many-same}
 use Rattle.indexing.specs.Loops.{in_order}
-use Rattle.indexing.specs.Parts.{element-mid, store-mid}
+use Rattle.indexing.proofs.Parts.{element-mid, store-mid}
 use Rattle.runs.specs.Runs.{cell_at, line}
 use Rattle.runs.proofs.Turns.{more, split, same-turns, same-places, length-cells}
 use Rattle.runs.proofs.Place.{read, Index, index}

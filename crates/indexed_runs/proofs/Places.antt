@@ -12,7 +12,7 @@ use Rattle.integer.specs.Z.{back}
 use Rattle.integer.specs.Laws.{≤-pos}
 use Rattle.indexing.specs.Coordinates.{InSlice, element_at}
 use Rattle.indexing.specs.Start.{clamp}
-use Rattle.indexing.specs.Inside.{clamp-high}
+use Rattle.indexing.proofs.Inside.{clamp-high}
 use Rattle.indexing.specs.Loops.{in_order}
 use Rattle.runs.specs.Runs.{cell_at, line}
 use Rattle.runs.proofs.Turns.{same-places}

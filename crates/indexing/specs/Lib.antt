@@ -12,32 +12,23 @@ pub mod Answers
 -- what one element holds at the end, and demand 3; the same as loops
 pub mod Updates
 pub mod Sums
-pub mod Cells
 pub mod Demand3
 pub mod Loops
-pub mod OperandCells
 -- counts
 pub mod Counting
 pub mod Moved
 -- the same of f64: exact sums, the sign of zero, NaN and infinities
 pub mod Whole
-pub mod Exact
-pub mod Sign
 pub mod Nan
 -- the walk: a linear index and its coordinate, the successor, fusion of axes, the least and the greatest offset
 pub mod Odometer
 pub mod Linear
 pub mod Reach
-pub mod Fusion
 -- places as the sums that a walk makes
 pub mod Axes
 pub mod Steps
 -- what compile has tested, and what follows: coordinates inside their views, each update once, places as indexes
 pub mod Valid
 pub mod Met
-pub mod Inside
-pub mod Bounds
-pub mod Once
-pub mod Places
 -- a part of the slice lent on
 pub mod Parts

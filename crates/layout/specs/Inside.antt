@@ -9,7 +9,8 @@ use Rattle.integer.specs.Z.{up, zfacts, ≤-from, <-from}
 use Rattle.integer.specs.Laws.{≤ℤ-trans, +ℤ-mono, +ℤ-mono-r}
 use Rattle.indexing.specs.Coordinates.{dot, Within}
 use Rattle.indexing.specs.Valid.{Covered}
-use Rattle.indexing.specs.Reach.{below_zero, above_zero, lowest, highest, dot-low, dot-high}
+use Rattle.indexing.specs.Reach.{below_zero, above_zero, lowest, highest}
+use Rattle.indexing.proofs.Reach.{dot-low, dot-high}
 use Rattle.layout.specs.declared.Reach.TheVariants as R
 use Rattle.layout.specs.Nested.{has_zero}
 use Rattle.layout.specs.Reach.{view_reach}

@@ -15,7 +15,8 @@ use Rattle.indexing.specs.Odometer.{AllPos}
 use Rattle.layout.specs.declared.OffsetSpan.{OffsetSpan}
 use Rattle.layout.specs.declared.OffsetSpan.TheVariants as S
 use Rattle.indexing.specs.Coordinates.{product, dot, Within}
-use Rattle.indexing.specs.Reach.{below_zero, above_zero, lowest, highest, dot-low, dot-high}
+use Rattle.indexing.specs.Reach.{below_zero, above_zero, lowest, highest}
+use Rattle.indexing.proofs.Reach.{dot-low, dot-high}
 use Rattle.layout.specs.Spans.{and_then, and_then_u, span_of, and_span, total_from, total_of, reach_of, widen_by, widened, span_from, spanned, reset, reset_of, offset_add, strided_offset}
 use Rattle.layout.specs.Nested.{has_zero}
 
@@ -38,17 +39,6 @@ span-of-inv C.Overflow f l h e = let x : ◌≡◌ {A = ℕ} 0 1 = cc in absurd 
 pub and-span-inv : (p : OffsetSpan) (f : ℤ → ℤ → OffsetSpan) (l h : ℤ) → and_span p f ≡ S.Fits l h → (a : ℤ) × (b : ℤ) × (p ≡ S.Fits a b) × (f a b ≡ S.Fits l h)
 and-span-inv (S.Fits a b) f l h e = (a, b, refl, e)
 and-span-inv S.Overflow f l h e = let x : ◌≡◌ {A = ℕ} 0 1 = cc in absurd (zero-ne x)
-
--- ---- the product
-total-from-is : (acc : ℕ) (ds : List ℕ) (n : ℕ) → total_from acc ds ≡ U.Fits n → n ≡ acc * product ds
-unfolding total_from product
-total-from-is acc [] n e = let x : acc ≡ n = cc in omega arith
-total-from-is acc (d ∷ ds) n e =
-    let t = then_u-inv (checked_u (acc * d)) (λ m. total_from m ds) n e in
-    total-from-is t.0 ds n t.2 ∙ ap (λ (m : ℕ). m * product ds) (sym (checked_u-fits (acc * d) t.0 t.1)) ∙ mul_assoc acc d (product ds)
-
-pub total-is : (ds : List ℕ) (n : ℕ) → total_of ds ≡ U.Fits n → n ≡ product ds
-total-is ds n e = total-from-is 1 ds n e ∙ one-mul (product ds)
 
 -- ---- the reach and the reset
 pub reach-is : (d : ℕ) (s r : ℤ) → reach_of d s ≡ C.Fits r → r ≡ s *ℤ pos (d - 1)

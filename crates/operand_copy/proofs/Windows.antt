@@ -11,7 +11,7 @@ use mir.Val.{SFits}
 use Rattle.integer.specs.Z.{back}
 use Rattle.indexing.specs.Coordinates.{product, InSlice}
 use Rattle.indexing.specs.Odometer.{AllPos, offset_at}
-use Rattle.indexing.specs.Linear.{index-pos}
+use Rattle.indexing.proofs.Linear.{index-pos}
 use Rattle.indexing.specs.Operand.{operand_copied}
 use Rattle.layout.specs.Layouts.{rank_limit, padded}
 use Rattle.runs.proofs.Place.{read}

@@ -7,16 +7,17 @@ use Rattle.std.specs.Float.{nan}
 use Rattle.indexing.specs.Coordinates.{View, product, unravel, ints, place_of, element_at}
 use Rattle.indexing.specs.Scatter.{Scatter, batch_shape, window_shape, result_index, lands_at, placed_updates, landing, scattered, scattered_f64}
 use Rattle.indexing.specs.Operand.{cell_place, operand_copied}
-use Rattle.indexing.specs.OperandCells.{length-copied, copied-stays}
-use Rattle.indexing.specs.Linear.{ravel, unravel-ravel, ravel-below}
+use Rattle.indexing.proofs.OperandCells.{length-copied, copied-stays}
+use Rattle.indexing.specs.Linear.{ravel}
+use Rattle.indexing.proofs.Linear.{unravel-ravel, ravel-below}
 use Rattle.indexing.specs.Updates.{in_turn}
 use Rattle.indexing.specs.Valid.{ValidScatter}
-use Rattle.indexing.specs.Inside.{inside-within}
-use Rattle.indexing.specs.Bounds.{land-inside}
-use Rattle.indexing.specs.Demand3.{each-by, stays}
+use Rattle.indexing.proofs.Inside.{inside-within}
+use Rattle.indexing.proofs.Bounds.{land-inside}
+use Rattle.indexing.proofs.Demand3.{each-by, stays}
 use Rattle.indexing.specs.Sums.{total}
 use Rattle.indexing.specs.Whole.{Whole, Wholes, sizes}
-use Rattle.indexing.specs.Exact.{exact-f64}
+use Rattle.indexing.proofs.Exact.{exact-f64}
 use Rattle.layout.specs.Nested.{nested}
 use Rattle.fused_axes.specs.Cells.{nested-cell}
 

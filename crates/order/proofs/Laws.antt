@@ -10,10 +10,12 @@ use mir.Val.{SFits}
 use Rattle.integer.specs.Defs.{wrap32}
 use Rattle.indexing.specs.Gather.{gathered}
 use Rattle.indexing.specs.Scatter.{Scatter, Update, placed_updates, combined, landing, scattered}
-use Rattle.indexing.specs.Updates.{length-combined}
+use Rattle.indexing.proofs.Updates.{length-combined}
 use Rattle.indexing.specs.Slid.{slid_gather}
-use Rattle.indexing.specs.Sums.{total, added-plain, total-append}
-use Rattle.indexing.specs.Demand3.{Unseen, unseen-by}
+use Rattle.indexing.specs.Sums.{total}
+use Rattle.indexing.proofs.Sums.{added-plain, total-append}
+use Rattle.indexing.specs.Demand3.{Unseen}
+use Rattle.indexing.proofs.Demand3.{unseen-by}
 use Rattle.layout.specs.declared.Answer.{Answer}
 use Rattle.layout.specs.declared.CallAnswer.{CallAnswer}
 use Rattle.layout.specs.Answers.{is_done}
@@ -22,7 +24,7 @@ use Rattle.rules.specs.declared.Rule.{Rule}
 use Rattle.rules.specs.declared.Rule.TheVariants as R
 use Rattle.rules.specs.Rules.{rule_i32}
 use Rattle.rules.specs.Swaps.{put_on, MaySwap, CellHolds, both-add}
-use Rattle.rules.specs.Laws.{cell, may-swap}
+use Rattle.rules.proofs.Laws.{cell, may-swap}
 use Rattle.calls.specs.Calls.{GatherCall, ScatterCall, answer_with, Gathers, Scatters}
 use Rattle.order.specs.Orders.{updates_of, put_by, slid_by, told, told_gather, done_with, done_by, EitherOrder, GatherBeside}
 

@@ -8,8 +8,8 @@ use lib.IntN.{ℤ, pos}
 use Rattle.indexing.specs.Coordinates.{View}
 use Rattle.indexing.specs.Scatter.{placed_updates, scattered}
 use Rattle.indexing.specs.Operand.{operand_copied}
-use Rattle.indexing.specs.OperandCells.{length-copied}
-use Rattle.indexing.specs.Updates.{length-combined}
+use Rattle.indexing.proofs.OperandCells.{length-copied}
+use Rattle.indexing.proofs.Updates.{length-combined}
 use Rattle.layout.specs.declared.Answer.{Answer}
 use Rattle.layout.specs.declared.Answer.TheVariants as A
 use Rattle.layout.specs.declared.CallAnswer.{CallAnswer}

@@ -6,7 +6,7 @@ use native.Mathlib.Omega.{arith}
 use lib.ListN.{length, get_or, length-map, get_or-map}
 use lib.Seq.{ext_get_or}
 use lib.IntN.{ℤ, pos}
-use Rattle.indexing.specs.Updates.{length-tabulate, get_d_tabulate}
+use Rattle.indexing.proofs.Updates.{length-tabulate, get_d_tabulate}
 use Rattle.indexing.specs.Axes.{get_d_any}
 use Rattle.layout.specs.Layouts.{rank_limit}
 use Rattle.replay.specs.declared.WindowReplayAxis.{WindowReplayAxis}

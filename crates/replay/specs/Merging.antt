@@ -11,8 +11,9 @@ use Rattle.integer.specs.declared.Checked.TheVariants as C
 use Rattle.integer.specs.Tests.{and-true}
 use Rattle.indexing.specs.Coordinates.{product, unravel, dot}
 use Rattle.indexing.specs.Odometer.{AllPos}
-use Rattle.indexing.specs.Reach.{below_zero, above_zero, lowest, highest, below-neg, above-neg}
-use Rattle.indexing.specs.Fusion.{dot-fuse, product-fuse}
+use Rattle.indexing.specs.Reach.{below_zero, above_zero, lowest, highest}
+use Rattle.indexing.proofs.Reach.{below-neg, above-neg}
+use Rattle.indexing.proofs.Fusion.{dot-fuse, product-fuse}
 use Rattle.layout.specs.declared.Answer.TheVariants as N
 use Rattle.layout.specs.declared.OffsetSpan.{OffsetSpan}
 use Rattle.layout.specs.declared.OffsetSpan.TheVariants as S

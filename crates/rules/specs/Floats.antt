@@ -7,7 +7,7 @@ use Rattle.std.specs.Float.{nan, inf, fin}
 use Rattle.std.specs.Float.Ieee.{up, down, below, level, lt, eq, le, is_nan, add}
 use Rattle.indexing.specs.Scatter.{Scatter, placed_updates, landing, scattered, add_f64}
 use Rattle.indexing.specs.Updates.{in_turn}
-use Rattle.indexing.specs.Demand3.{each-by}
+use Rattle.indexing.proofs.Demand3.{each-by}
 use Rattle.rules.specs.Rules.{capped, rule_f64}
 use Rattle.rules.specs.Choice.{either, in-turn-one-of}
 use Rattle.rules.specs.declared.RuleF64.{RuleF64}

@@ -5,7 +5,6 @@ pub mod Rules
 pub mod Swaps
 -- that it is so, for any lists of updates and any grid
 pub mod Choice
-pub mod Laws
 pub mod Scatters
 -- that no other pairing may swap without the condition
 pub mod Needed

@@ -3,7 +3,7 @@ use Rattle.std.proofs.Common.{sym, ◌∙◌, inl, inr, ⊎_elim}
 use Rattle.std.specs.Prelude.{◌≢◌, List, ℕ, ◌<◌, ℤ, pos}
 use Rattle.indexing.specs.Coordinates.{product, element_at}
 use Rattle.indexing.specs.Scatter.{Scatter, batch_shape, window_shape, lands_at, update_at, placed_updates}
-use Rattle.indexing.specs.Updates.{rows-land, rows-miss}
+use Rattle.indexing.proofs.Updates.{rows-land, rows-miss}
 use Rattle.rules.specs.Swaps.{Apart}
 
 -- no update of the one lands on an element that an update of the other lands on

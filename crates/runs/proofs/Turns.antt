@@ -10,9 +10,9 @@ use lib.Seq.{length-take-le, get_or-take, get_or-drop}
 use lib.IntN.{ℤ, pos}
 use Rattle.integer.specs.Z.{≤-from, <-from}
 use Rattle.indexing.specs.Coordinates.{InSlice, element_at, store}
-use Rattle.indexing.specs.Updates.{length-store}
+use Rattle.indexing.proofs.Updates.{length-store}
 use Rattle.indexing.specs.Loops.{in_order}
-use Rattle.indexing.specs.Parts.{element-mid, store-mid}
+use Rattle.indexing.proofs.Parts.{element-mid, store-mid}
 use Rattle.runs.specs.Runs.{cell_at, line}
 
 -- ---- over any contents and any turn

@@ -8,9 +8,10 @@ use lib.IntN.{ℤ}
 use Rattle.indexing.specs.Coordinates.{product, store, element_at}
 use Rattle.indexing.specs.Scatter.{Scatter, batch_shape, window_shape, update_at, lands_at, scattered}
 use Rattle.indexing.specs.Slid.{slid_scatter}
-use Rattle.indexing.specs.Loops.{in_order, combined-loop}
-use Rattle.indexing.specs.Inside.{inside-within}
-use Rattle.indexing.specs.Bounds.{land-inside}
+use Rattle.indexing.specs.Loops.{in_order}
+use Rattle.indexing.proofs.Loops.{combined-loop}
+use Rattle.indexing.proofs.Inside.{inside-within}
+use Rattle.indexing.proofs.Bounds.{land-inside}
 use Rattle.indexing.specs.Valid.{ValidScatter}
 use Rattle.layout.specs.declared.Reach.TheVariants as R
 use Rattle.layout.specs.Answers.{is_done}

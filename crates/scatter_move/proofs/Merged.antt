@@ -8,7 +8,7 @@ use lib.Seq.{get_or-take, length-take-le, ext_get_or}
 use lib.IntN.{ℤ, pos, ◌+ℤ◌}
 use Rattle.checks.proofs.Held.{take-map}
 use Rattle.indexing.specs.Coordinates.{product, unravel, dot}
-use Rattle.indexing.specs.Updates.{length-tabulate, get_d_tabulate}
+use Rattle.indexing.proofs.Updates.{length-tabulate, get_d_tabulate}
 use Rattle.indexing.specs.Odometer.{offset_at}
 use Rattle.indexing.specs.Axes.{get_d_any}
 use Rattle.layout.specs.Layouts.{rank_limit, padded}

@@ -13,12 +13,13 @@ use Rattle.indexing.specs.Start.{without, index_coordinate, clamp, start_on, sta
 use Rattle.indexing.specs.Scatter.{Scatter, batch_shape, window_shape, windows, update_at, lands_at, scattered}
 use Rattle.indexing.specs.Odometer.{offset_at}
 use Rattle.indexing.specs.Steps.{vector_stride, update_batch_steps, update_window_steps, land_steps, start_sum_to}
-use Rattle.indexing.specs.Loops.{in_order, combined-loop}
-use Rattle.indexing.specs.Bounds.{window-below, scatter-start-within}
-use Rattle.indexing.specs.Once.{update-within}
+use Rattle.indexing.specs.Loops.{in_order}
+use Rattle.indexing.proofs.Loops.{combined-loop}
+use Rattle.indexing.proofs.Bounds.{window-below, scatter-start-within}
+use Rattle.indexing.proofs.Once.{update-within}
 use Rattle.indexing.specs.Valid.{Covered, ValidScatter}
-use Rattle.indexing.specs.Places.{updates-at, scatter-component-at, lands-at, lands-in, lands-partly-in, updates-in, scatter-starts-in, sum_same}
-use Rattle.indexing.specs.Linear.{dot-first}
+use Rattle.indexing.proofs.Places.{updates-at, scatter-component-at, lands-at, lands-in, lands-partly-in, updates-in, scatter-starts-in, sum_same}
+use Rattle.indexing.proofs.Linear.{dot-first}
 use Rattle.layout.specs.declared.Answer.TheVariants as A
 use Rattle.layout.specs.Answers.{is_done}
 use Rattle.layout.specs.Layouts.{rank_limit, padded}

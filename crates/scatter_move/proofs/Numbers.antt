@@ -11,7 +11,7 @@ use Rattle.indexing.specs.Start.{without}
 use Rattle.indexing.specs.Scatter.{Scatter, scatter_dims, window_dims, batch_shape, window_shape, windows}
 use Rattle.indexing.specs.Axes.{length-pick, get_or-pick}
 use Rattle.indexing.specs.Steps.{vector_stride, update_batch_steps, update_window_steps, land_steps}
-use Rattle.indexing.specs.Updates.{length-tabulate, get_d_tabulate}
+use Rattle.indexing.proofs.Updates.{length-tabulate, get_d_tabulate}
 use Rattle.layout.specs.declared.Answer.TheVariants as A
 use Rattle.layout.specs.Answers.{is_done}
 use Rattle.layout.specs.Layouts.{rank_limit, padded}

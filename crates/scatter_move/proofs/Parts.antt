@@ -16,7 +16,8 @@ use Rattle.indexing.specs.Scatter.{Scatter, scatter_dims, window_dims, batch_sha
 use Rattle.indexing.specs.Reach.{lowest}
 use Rattle.indexing.specs.Steps.{update_batch_steps, update_window_steps, land_steps}
 use Rattle.indexing.specs.Valid.{Covered}
-use Rattle.indexing.specs.Parts.{rebased, covered-part, combined-lent}
+use Rattle.indexing.specs.Parts.{rebased}
+use Rattle.indexing.proofs.Parts.{covered-part, combined-lent}
 use Rattle.layout.specs.declared.Answer.{Answer}
 use Rattle.layout.specs.declared.Answer.TheVariants as A
 use Rattle.layout.specs.Answers.{is_done}

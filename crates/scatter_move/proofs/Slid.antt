@@ -14,9 +14,9 @@ use Rattle.indexing.specs.Start.{start_index}
 use Rattle.indexing.specs.Scatter.{Scatter, batch_shape, window_shape, windows}
 use Rattle.indexing.specs.Slid.{moved, how_many, slides, slid_of, slid_scatter}
 use Rattle.indexing.specs.Counting.{one_same, many-same}
-use Rattle.indexing.specs.Fusion.{product-pos}
-use Rattle.indexing.specs.Linear.{unravel-within}
-use Rattle.indexing.specs.Once.{update-taken, update-within}
+use Rattle.indexing.proofs.Fusion.{product-pos}
+use Rattle.indexing.proofs.Linear.{unravel-within}
+use Rattle.indexing.proofs.Once.{update-taken, update-within}
 use Rattle.indexing.specs.Valid.{ValidScatter}
 use Rattle.layout.specs.declared.Answer.TheVariants as A
 use Rattle.layout.specs.Answers.{is_done}

@@ -21,7 +21,8 @@ use Rattle.layout.specs.Answers.{is_done}
 use Rattle.layout.specs.Layouts.{rank_limit, padded, layout_of, extents_of, strides_of, stride_length, rank_at_most}
 use Rattle.layout.specs.Lists.{unique_axes}
 use Rattle.layout.specs.Spans.{total_of, spanned, offset_add}
-use Rattle.layout.specs.Laws.{total-is, offset-add-is}
+use Rattle.layout.specs.Laws.{offset-add-is}
+use Rattle.layout.proofs.Products.{total-is}
 use Rattle.layout.proofs.First.{done-is}
 use Rattle.axis_lists.proofs.Filling.{read_back, length-others}
 use Rattle.checks.specs.Checks.{first_of, total_fits, span_fits, same_count, vector_axis, components_of, windows_fit, number_fits, offset_fits, layouts_refusal}

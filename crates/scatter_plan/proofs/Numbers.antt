@@ -11,7 +11,7 @@ use Rattle.indexing.specs.Start.{without}
 use Rattle.indexing.specs.Scatter.{Scatter, joined, lands_at, update_at, placed_updates}
 use Rattle.indexing.specs.Axes.{length-pick, get_or-pick}
 use Rattle.indexing.specs.Steps.{vector_stride}
-use Rattle.indexing.specs.Updates.{length-tabulate, get_d_tabulate}
+use Rattle.indexing.proofs.Updates.{length-tabulate, get_d_tabulate}
 use Rattle.layout.specs.declared.Answer.TheVariants as A
 use Rattle.layout.specs.Answers.{is_done}
 use Rattle.components.proofs.Padded.{padded-entry}

@@ -11,7 +11,7 @@ use mir.Val.{SFits}
 use Rattle.integer.specs.Z.{back}
 use Rattle.indexing.specs.Coordinates.{product, InSlice}
 use Rattle.indexing.specs.Odometer.{AllPos}
-use Rattle.indexing.specs.Fusion.{product-pos}
+use Rattle.indexing.proofs.Fusion.{product-pos}
 use Rattle.indexing.specs.Loops.{in_order}
 use Rattle.layout.specs.Laws.{no_cells}
 use Rattle.layout.specs.Nested.{has_zero}

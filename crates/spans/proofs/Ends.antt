@@ -14,7 +14,8 @@ use Rattle.integer.specs.Defs.{checked_u, is_neg}
 use Rattle.integer.specs.Machine.{checked_u-yes, checked_u-fits, checked_u-over}
 use Rattle.integer.specs.declared.CheckedU.{CheckedU}
 use Rattle.integer.specs.declared.CheckedU.TheVariants as U
-use Rattle.indexing.specs.Reach.{below_zero, above_zero, lowest, highest, below-neg, above-neg}
+use Rattle.indexing.specs.Reach.{below_zero, above_zero, lowest, highest}
+use Rattle.indexing.proofs.Reach.{below-neg, above-neg}
 use Rattle.layout.specs.declared.Reach.{Reach}
 use Rattle.layout.specs.declared.Reach.TheVariants as R
 use Rattle.layout.specs.Spans.{and_then_u}

@@ -10,8 +10,8 @@ use lib.IntN.{ℤ, pos, ◌+ℤ◌, ◌*ℤ◌, +ℤ_assoc, +ℤ_comm, +ℤ_idr}
 use Rattle.integer.specs.Laws.{+ℤ-ac}
 use Rattle.indexing.specs.Coordinates.{product, unravel, dot}
 use Rattle.indexing.specs.Odometer.{AllPos, offset_at}
-use Rattle.indexing.specs.Linear.{div_below, dot-first}
-use Rattle.indexing.specs.Fusion.{dot-unit}
+use Rattle.indexing.proofs.Linear.{div_below, dot-first}
+use Rattle.indexing.proofs.Fusion.{dot-unit}
 use Rattle.runs.specs.Runs.{line}
 use Rattle.windows.specs.Windows.{place_at, Units}
 

@@ -13,7 +13,7 @@ use mir.Val.{SFits}
 use Rattle.integer.specs.Z.{back}
 use Rattle.indexing.specs.Coordinates.{product, InSlice}
 use Rattle.indexing.specs.Odometer.{AllPos}
-use Rattle.indexing.specs.Fusion.{product-pos}
+use Rattle.indexing.proofs.Fusion.{product-pos}
 use Rattle.indexing.specs.Loops.{in_order}
 use Rattle.runs.specs.Runs.{cell_at, line, Line, Run, Plane, run_at}
 use Rattle.runs.proofs.Turns.{more, in-runs, same-turns, same-places}

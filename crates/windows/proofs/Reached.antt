@@ -12,7 +12,7 @@ use Rattle.integer.specs.Z.{up, ≤-from, <-from}
 use Rattle.integer.specs.Laws.{≤ℤ-trans, ≤ℤ-<ℤ-trans}
 use Rattle.indexing.specs.Coordinates.{product, unravel, InSlice}
 use Rattle.indexing.specs.Odometer.{offset_at}
-use Rattle.indexing.specs.Linear.{unravel-within}
+use Rattle.indexing.proofs.Linear.{unravel-within}
 use Rattle.indexing.specs.Reach.{lowest, highest}
 use Rattle.layout.specs.Answers.{is_done}
 use Rattle.layout.specs.Nested.{has_zero}

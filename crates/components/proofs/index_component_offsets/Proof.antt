@@ -7,7 +7,7 @@ use mir.Syntax.{w64}
 use mir.Val.{SFits, to_z, of_z}
 use Rattle.integer.specs.Z.{back}
 use Rattle.indexing.specs.Coordinates.{tabulate}
-use Rattle.indexing.specs.Updates.{length-tabulate, get_d_tabulate}
+use Rattle.indexing.proofs.Updates.{length-tabulate, get_d_tabulate}
 use Rattle.axis_lists.specs.Held.{held_steps}
 use Rattle.axis_lists.proofs.Filling.{steps-are, written, one_written, all-written}
 use Rattle.checks.specs.Values.{offset_or}

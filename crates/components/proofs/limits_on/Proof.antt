@@ -4,7 +4,7 @@ use native.Mathlib.Omega.{arith}
 use borrow.Author.Rules.{rules}
 use lib.ListN.{get_or}
 use Rattle.indexing.specs.Coordinates.{tabulate}
-use Rattle.indexing.specs.Updates.{length-tabulate, get_d_tabulate}
+use Rattle.indexing.proofs.Updates.{length-tabulate, get_d_tabulate}
 use Rattle.layout.specs.Layouts.{rank_limit}
 use Rattle.axis_lists.proofs.Filling.{written, one_written, all-written}
 use Rattle.components.specs.Components.{limit_at}

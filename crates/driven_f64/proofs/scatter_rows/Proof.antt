@@ -7,7 +7,7 @@ use lib.ListN.{take}
 use Rattle.layout.specs.Laws.{no_cells, some-cells}
 use Rattle.indexing.specs.Coordinates.{product}
 use Rattle.indexing.specs.Odometer.{AllPos}
-use Rattle.indexing.specs.Fusion.{product-pos}
+use Rattle.indexing.proofs.Fusion.{product-pos}
 use Rattle.indexing.specs.Counting.{many-none}
 use Rattle.rules.specs.Rules.{rule_f64}
 use Rattle.runs.proofs.Place.{read}

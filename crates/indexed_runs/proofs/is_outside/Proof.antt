@@ -6,7 +6,7 @@ use native.Mathlib.Omega.{arith}
 use lib.IntN.{ℤ, pos, nat_abs}
 use Rattle.integer.specs.Z.{up, dn, only, known, zfacts, abs_is, ≡-from}
 use Rattle.indexing.specs.Slid.{moved}
-use Rattle.indexing.specs.Inside.{clamp-is}
+use Rattle.indexing.proofs.Inside.{clamp-is}
 use Rattle.indexing.specs.Moved.{moved-by}
 use Rattle.indexed_runs.proofs.is_outside.Statement.{statement}
 use Rattle.indexed_runs.proofs.is_outside.Tie as tie

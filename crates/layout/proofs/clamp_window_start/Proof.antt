@@ -10,7 +10,7 @@ use Rattle.integer.specs.Z.{up, dn, znorm, zflat, zfacts, known, only, ≡-from}
 use Rattle.integer.specs.Machine.{as-u64}
 use Rattle.indexing.specs.Start.{clamp}
 use Rattle.indexing.specs.Slid.{moved}
-use Rattle.indexing.specs.Inside.{clamp-is}
+use Rattle.indexing.proofs.Inside.{clamp-is}
 use Rattle.indexing.specs.Moved.{moved-by}
 use Rattle.layout.proofs.clamp_window_start.Statement.{statement}
 use Rattle.layout.proofs.clamp_window_start.Tie as tie

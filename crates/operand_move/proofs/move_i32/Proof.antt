@@ -9,7 +9,7 @@ use mir.Val.{SFits}
 use Rattle.indexing.specs.Scatter.{scattered}
 use Rattle.indexing.specs.Slid.{slid_scatter}
 use Rattle.indexing.specs.Operand.{operand_copied}
-use Rattle.indexing.specs.OperandCells.{length-copied}
+use Rattle.indexing.proofs.OperandCells.{length-copied}
 use Rattle.layout.specs.Answers.{is_done}
 use Rattle.rules.specs.Rules.{rule_i32}
 use Rattle.calls.proofs.Does.{refused}

@@ -11,8 +11,9 @@ use Rattle.integer.specs.Defs.{min_ℤ, max_ℤ}
 use Rattle.integer.specs.Wrap.{wrap-fits}
 use Rattle.integer.specs.Z.{≡-from, zfacts}
 use Rattle.indexing.specs.Scatter.{Update, combined, landing, add_i32}
-use Rattle.indexing.specs.Updates.{in_turn, element, length-combined, combined-append, landing-append, in-either-order}
-use Rattle.indexing.specs.Sums.{in-turn-added, swap-i32}
+use Rattle.indexing.specs.Updates.{in_turn}
+use Rattle.indexing.proofs.Updates.{element, length-combined, combined-append, landing-append, in-either-order}
+use Rattle.indexing.proofs.Sums.{in-turn-added, swap-i32}
 use Rattle.rules.specs.Rules.{lowest, highest, rule_i32}
 use Rattle.rules.specs.Swaps.{least, greatest, latest, leaves, put_on, Alike, both-add, both-lowest, both-highest, Apart, MaySwap, CellHolds}
 use Rattle.rules.specs.Choice.{either, in-turn-one-of, min-best, max-best, best-swap, in-turn-best, best-of-all}

@@ -19,7 +19,7 @@ use Rattle.indexing.specs.Scatter.{Scatter, placed_updates, landing, add_f64, sc
 use Rattle.indexing.specs.Updates.{in_turn}
 use Rattle.indexing.specs.Sums.{total}
 use Rattle.indexing.specs.Whole.{Whole, Wholes, sizes, minus_zero, all_minus_zero}
-use Rattle.indexing.specs.Exact.{sum-scaled, over, size-signed, of-value, add-whole, regroup, front, each-f64}
+use Rattle.indexing.proofs.Exact.{sum-scaled, over, size-signed, of-value, add-whole, regroup, front, each-f64}
 
 -- ---- a sum of two signed natural numbers, rounded
 module _ (f : Format) where

@@ -8,7 +8,7 @@ use Rattle.integer.specs.Laws.{min_ℤ-by, max_ℤ-by, max_ℤ-l}
 use Rattle.indexing.specs.Coordinates.{View, rank, Within, ints, plus, Inside, tabulate, pick, spread, has}
 use Rattle.indexing.specs.Start.{without, components, index_coordinate, clamp, start_on, full_start}
 use Rattle.indexing.specs.Axes.{Axes, spread-all, length-spread}
-use Rattle.indexing.specs.Linear.{within-at}
+use Rattle.indexing.proofs.Linear.{within-at}
 
 -- a coordinate inside extents is inside them on any axes
 pub pick-within : (n : ℕ) (axes ds cs : List ℕ) → Axes n axes → n ≤ length ds → Within ds cs → Within (pick 0 axes ds) (pick 0 axes cs)

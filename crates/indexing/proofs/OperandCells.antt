@@ -5,8 +5,10 @@ use Rattle.std.proofs.Math.Path.{ap}
 use Rattle.indexing.specs.Coordinates.{View, product, unravel, place_of, element_at, store}
 use Rattle.indexing.specs.Gather.{Read}
 use Rattle.indexing.specs.Operand.{cell_place, operand_reads, operand_copied}
-use Rattle.indexing.specs.Updates.{no_read, length-copy_each, copy-other, copy-last, length-tabulate, get_d_tabulate}
-use Rattle.indexing.specs.Loops.{in_order, copy-loop}
+use Rattle.indexing.specs.Updates.{no_read}
+use Rattle.indexing.proofs.Updates.{length-copy_each, copy-other, copy-last, length-tabulate, get_d_tabulate}
+use Rattle.indexing.specs.Loops.{in_order}
+use Rattle.indexing.proofs.Loops.{copy-loop}
 use Rattle.indexing.specs.Odometer.{offset_at}
 use Rattle.indexing.specs.Axes.{dot-ints}
 

@@ -8,8 +8,9 @@ use Rattle.std.proofs.Math.ListN.{length, length-append}
 use Rattle.indexing.specs.Coordinates.{rank, product, unravel, Within, pick, spread, has}
 use Rattle.indexing.specs.Scatter.{Scatter, scatter_dims, batch_shape, window_shape, update_index}
 use Rattle.indexing.specs.Axes.{Axes, others-has, has_either, spread-pick, axes-others, axes-both, length-spread, length-pick, pick-append, pick-spread}
-use Rattle.indexing.specs.Inside.{pick-within, either-has}
-use Rattle.indexing.specs.Linear.{ravel, length-unravel, unravel-within, unravel-ravel, ravel-below, unravel-one, within-length, within_by}
+use Rattle.indexing.proofs.Inside.{pick-within, either-has}
+use Rattle.indexing.specs.Linear.{ravel}
+use Rattle.indexing.proofs.Linear.{length-unravel, unravel-within, unravel-ravel, ravel-below, unravel-one, within-length, within_by}
 use Rattle.indexing.specs.Valid.{ValidScatter}
 
 -- two lists joined in two ways, update at the same place
