@@ -18,7 +18,7 @@ right k x = eqb x (9 + 16 * k)
 mul-result : tie.Need-offset_bounds-rank
 mul-result c = search rules
 
-array-read-result : tie.Need-array-read-result
+array-read-result : tie.Need-bounds-rank
 array-read-result c = search rules
 
 returns : tie.Need-returns
