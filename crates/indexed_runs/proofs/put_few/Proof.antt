@@ -57,7 +57,7 @@ loop-again c =
     let a = c in (
       omega (arith, h.loop-i.invariant.0),
       omega (arith, d.loop-i-test.true),
-      p.put_one-one.kept.1.1.1.0 ∙ h.loop-i.invariant.2,
+      p.put_one-one.auto.dst ∙ h.loop-i.invariant.2,
       turn_more (cell_at (pos 0) (rule_i32 a.args.rule) a.args.src.now pos (one_at a.args.starts.now (read a.args.limit))) a.args.from h.loop-i.i a.args.dst.now _ _ h.loop-i.invariant.0 h.loop-i.invariant.3 p.put_one-one.ensures.0,
       many-turn a.args.from h.loop-i.i (moves_at a.args.starts.now pos (nat_abs (read a.args.limit))) _ _ h.loop-i.invariant.0 h.loop-i.invariant.4 p.put_one-one.ensures.1,
     )

@@ -26,7 +26,7 @@ put-few-requires c κs = let a = c in (omega arith, omega arith, ones-left _ _ _
 put-rest-requires : tie.Need-put_rest-rest-requires
 put-rest-requires c κs =
     let f = c in
-    let a = c in (omega arith, omega arith, ones-left _ _ _ _ _ _ a.ranges.limit a.requires refl f.put_few-few.kept.1.1.1.0)
+    let a = c in (omega arith, omega arith, ones-left _ _ _ _ _ _ a.ranges.limit a.requires refl f.put_few-few.auto.dst)
 
 same_length : tie.Need-shape_of-dst
 same_length c = search rules
@@ -35,7 +35,7 @@ same_length c = search rules
 few-then-rest : (c : tie.After-put_rest-rest)
     → let a = c in
     let f = c in
-    (c.put_rest-rest.new.1.1.1.0 ≡ in_order (cell_at (pos 0) (rule_i32 a.args.rule) a.args.src.now pos (one_at a.args.starts.now (read a.args.limit))) (length a.args.src.now) a.args.dst.now)
+    (c.put_rest-rest.new.dst ≡ in_order (cell_at (pos 0) (rule_i32 a.args.rule) a.args.src.now pos (one_at a.args.starts.now (read a.args.limit))) (length a.args.src.now) a.args.dst.now)
     × (f.put_few-few.result + c.put_rest-rest.result ≡ how_many (length a.args.src.now) (moves_at a.args.starts.now pos (nat_abs (read a.args.limit))))
 few-then-rest c =
     let f = c in
@@ -51,13 +51,13 @@ add-result : tie.Need-overflow_add-result
 add-result c =
     let r = c in
     let a = c in
-    omega (arith, (few-then-rest r.before).1, many_below (length a.args.src.now) (moves_at a.args.starts.now pos (nat_abs (read a.args.limit))), a.well_formed.1.0.1)
+    omega (arith, (few-then-rest search).1, many_below (length a.args.src.now) (moves_at a.args.starts.now pos (nat_abs (read a.args.limit))), a.well_formed.1.0.1)
 
 returns : tie.Need-returns
 returns c =
     let r = c in
     let a = c in
-    (put-ones-end (pos 0) (rule_i32 a.args.rule) a.args.src.now a.args.starts.now a.args.limit _ _ a.args.dst.now _ a.ranges.limit refl (few-then-rest r.before).0, ones-count a.args.starts.now a.args.limit _ _ _ a.ranges.limit refl (few-then-rest r.before).1)
+    (put-ones-end (pos 0) (rule_i32 a.args.rule) a.args.src.now a.args.starts.now a.args.limit _ _ a.args.dst.now _ a.ranges.limit refl (few-then-rest search).0, ones-count a.args.starts.now a.args.limit _ _ _ a.ranges.limit refl (few-then-rest search).1)
 
 pub put_ones_spec : {M : Type 1} → statement M
 put_ones_spec = tie.close (tie.spec mul-twos put-few-requires put-rest-requires add-result same_length returns)

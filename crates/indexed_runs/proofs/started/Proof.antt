@@ -1,7 +1,7 @@
 use mathlib.Core.Path.{◌≡◌, ap, ap₂, ◌∙◌}
 use Prim.Native.Nat.{◌-◌, ◌<◌, ◌≤◌, ◌^◌}
 use native.Mathlib.Omega.{arith}
-use borrow.Author.Rules.{rules, sfits_of}
+use borrow.Author.Rules.{sfits_of}
 use lib.ListN.{length, get_or}
 use lib.IntN.{pos, ◌+ℤ◌}
 use mir.Syntax.{w64}
@@ -23,42 +23,39 @@ abbrev decreases-loop : tie.decreases-loop-c
 decreases-loop starts s t count offsets strides limits at₀ moved₀ c₀ at moved c = count - c
 
 -- the loop's state, and the start of the call
-abbrev start : tie.In-loop-c invariant-loop decreases-loop → tie.Start invariant-loop decreases-loop
-start d = d.before.before
-
 room : (a : tie.Start invariant-loop decreases-loop) → length a.args.starts.now < 2 ^ 63
 room a = omega (arith, a.well_formed.0.1)
 
 module _ (c : tie.After-p-1 invariant-loop decreases-loop) where
-  index_at : Index (read (start c.before).args.t +ℤ read (get_or (start c.before).args.offsets.now c.before.before.loop.c (pos 0))) (length (start c.before).args.starts.now)
-  index_at = let a = start c.before in component-index _ _ _ _ _ _ _ _ a.pre (omega arith) a.fits.s a.fits.t _ c.before.loop-test.true (sfits_of c.p.given) (room a)
+  index_at : Index (read c.args.t +ℤ read (get_or c.args.offsets.now c.loop-c.c (pos 0))) (length c.args.starts.now)
+  index_at = let a = c in component-index _ _ _ _ _ _ _ _ a.requires (omega arith) a.ranges.s a.ranges.t _ c.loop-c-test.true (sfits_of c.p-1.given) (room search)
 
 loop-holds : tie.Need-loop-c-init invariant-loop decreases-loop
 loop-holds c = (omega arith, Fits-of_z c.ranges.s, none_yet c.args.starts.now c.args.offsets.now c.args.strides.now c.args.limits.now (read c.args.s) (read c.args.t), one_none (component_moved c.args.starts.now c.args.offsets.now c.args.limits.now (read c.args.t)))
 
 mul-p : tie.Need-offset_bounds-offsets-c invariant-loop decreases-loop
-mul-p c = let d = c in omega (arith, (start d).pre.few)
+mul-p c = let d = c in omega (arith, d.requires.few)
 
 element-copy-out-p : tie.Need-bounds-offsets-c invariant-loop decreases-loop
-element-copy-out-p c = let d = c in omega (arith, (start d).pre.few)
+element-copy-out-p c = let d = c in omega (arith, d.requires.few)
 
 add-p : tie.Need-overflow_add-p invariant-loop decreases-loop
-add-p c = let a = start c.before in component-fits _ _ _ _ _ _ _ _ a.pre (omega arith) a.fits.s a.fits.t _ c.loop-c-test.true (sfits_of c.p-1.given) (room a)
+add-p c = let a = c in component-fits _ _ _ _ _ _ _ _ a.requires (omega arith) a.ranges.s a.ranges.t _ c.loop-c-test.true (sfits_of c.p-1.given) (room search)
 
 cast-p : tie.Need-overflow_cast-p invariant-loop decreases-loop
-cast-p c = (index_at c).cast
+cast-p c = (index_at search).cast
 
 mul-x : tie.Need-offset_bounds-starts-p invariant-loop decreases-loop
-mul-x c = omega (arith, (index_at c).below, (start c.before).good.0.1)
+mul-x c = omega (arith, (index_at search).below, c.well_formed.0.1)
 
 shared-slice-copy-out-x : tie.Need-bounds-starts-p invariant-loop decreases-loop
-shared-slice-copy-out-x c = (index_at c).below
+shared-slice-copy-out-x c = (index_at search).below
 
 mul-clamp-window-start : tie.Need-offset_bounds-limits-c invariant-loop decreases-loop
-mul-clamp-window-start c = let d = c in omega (arith, (start d).pre.few)
+mul-clamp-window-start c = let d = c in omega (arith, d.requires.few)
 
 element-copy-out-clamp-window-start : tie.Need-bounds-limits-c invariant-loop decreases-loop
-element-copy-out-clamp-window-start c = let d = c in omega (arith, (start d).pre.few)
+element-copy-out-clamp-window-start c = let d = c in omega (arith, d.requires.few)
 
 clamp-window-start-requires : tie.Need-clamp_window_start-y-requires invariant-loop decreases-loop
 clamp-window-start-requires c κs = tt
@@ -67,13 +64,13 @@ cast-k : tie.Need-overflow_cast-k invariant-loop decreases-loop
 cast-k c =
     let k = c in
     let d = c in
-    clamped-fits _ _ _ ((start d).pre.small _ d.loop-c-test.true) k.clamp_window_start-y.ensures.0
+    clamped-fits _ _ _ (d.requires.small _ d.loop-c-test.true) k.clamp_window_start-y.ensures.0
 
 mul_at : tie.Need-offset_bounds-strides-c invariant-loop decreases-loop
-mul_at c = let d = c in omega (arith, (start d).pre.few)
+mul_at c = let d = c in omega (arith, d.requires.few)
 
 element-copy-out-at : tie.Need-bounds-strides-c invariant-loop decreases-loop
-element-copy-out-at c = let d = c in omega (arith, (start d).pre.few)
+element-copy-out-at c = let d = c in omega (arith, d.requires.few)
 
 mul-at-2 : tie.Need-overflow_mul-at invariant-loop decreases-loop
 mul-at-2 c =
@@ -81,9 +78,9 @@ mul-at-2 c =
     let k = c in
     let x = c in
     let p = c in
-    let d = p.before in
-    let a = start d in
-    product-fits _ _ _ _ _ _ _ _ a.pre (omega arith) a.fits.s a.fits.t _ d.loop-test.taken (sfits_of p.p-1.given) (sfits_of v.at-1.given) _ d.before.loop.inv.2 _ (index_at p).is (sfits_of x.x-1.given) _ k.clamp_window_start-y.ensures.0
+    let d = p in
+    let a = d in
+    product-fits _ _ _ _ _ _ _ _ a.requires (omega arith) a.ranges.s a.ranges.t _ d.loop-c-test.true (sfits_of p.p-1.given) (sfits_of v.at-1.given) _ d.loop-c.invariant.2 _ (index_at search).is (sfits_of x.x-1.given) _ k.clamp_window_start-y.ensures.0
 
 add_at : tie.Need-overflow_add-at invariant-loop decreases-loop
 add_at c =
@@ -91,12 +88,12 @@ add_at c =
     let k = c in
     let x = c in
     let p = c in
-    let d = p.before in
-    let a = start d in
-    sum_fits _ _ _ _ _ _ _ _ a.pre (omega arith) a.fits.s a.fits.t _ d.loop-test.taken (sfits_of p.p-1.given) (sfits_of v.at-1.given) _ d.before.loop.inv.2 _ (index_at p).is (sfits_of x.x-1.given) _ k.clamp_window_start-y.ensures.0
+    let d = p in
+    let a = d in
+    sum_fits _ _ _ _ _ _ _ _ a.requires (omega arith) a.ranges.s a.ranges.t _ d.loop-c-test.true (sfits_of p.p-1.given) (sfits_of v.at-1.given) _ d.loop-c.invariant.2 _ (index_at search).is (sfits_of x.x-1.given) _ k.clamp_window_start-y.ensures.0
 
 add-c : tie.Need-overflow_add-c invariant-loop decreases-loop
-add-c c = let d = c in omega (arith, (start d).pre.few)
+add-c c = let d = c in omega (arith, d.requires.few)
 
 loop-less : tie.Need-loop-c-smaller invariant-loop decreases-loop
 loop-less c = omega arith
@@ -107,13 +104,13 @@ loop-again c =
     let k = c in
     let x = c in
     let p = c in
-    let d = p.before in
-    let a = start d in (
+    let d = p in
+    let a = d in (
       omega arith,
-      Fits-of_z (sum_fits _ _ _ _ _ _ _ _ a.pre (omega arith) a.fits.s a.fits.t _ d.loop-test.taken (sfits_of p.p-1.given) (sfits_of v.at-1.given) _ d.before.loop.inv.2 _ (index_at p).is (sfits_of x.x-1.given) _ k.clamp_window_start-y.ensures.0),
-      sum-next _ _ _ _ _ _ _ _ a.pre (omega arith) a.fits.s a.fits.t _ d.loop-test.taken (sfits_of p.p-1.given) (sfits_of v.at-1.given) _ d.before.loop.inv.2 _ (index_at p).is (sfits_of x.x-1.given) _ k.clamp_window_start-y.ensures.0,
-      one_more _ (component_moved a.args.starts.now a.args.offsets.now a.args.limits.now (read a.args.t)) _ _ _ d.before.loop.inv.3
-          (component-moved _ _ _ _ _ _ _ _ a.pre (omega arith) a.fits.s a.fits.t _ d.loop-test.taken (sfits_of p.p-1.given) _ (index_at p).is (sfits_of x.x-1.given) _ k.clamp_window_start-y.ensures.1) c.either-moved.ensures,
+      Fits-of_z (sum_fits _ _ _ _ _ _ _ _ a.requires (omega arith) a.ranges.s a.ranges.t _ d.loop-c-test.true (sfits_of p.p-1.given) (sfits_of v.at-1.given) _ d.loop-c.invariant.2 _ (index_at search).is (sfits_of x.x-1.given) _ k.clamp_window_start-y.ensures.0),
+      sum-next _ _ _ _ _ _ _ _ a.requires (omega arith) a.ranges.s a.ranges.t _ d.loop-c-test.true (sfits_of p.p-1.given) (sfits_of v.at-1.given) _ d.loop-c.invariant.2 _ (index_at search).is (sfits_of x.x-1.given) _ k.clamp_window_start-y.ensures.0,
+      one_more _ (component_moved a.args.starts.now a.args.offsets.now a.args.limits.now (read a.args.t)) _ _ _ d.loop-c.invariant.3
+          (component-moved _ _ _ _ _ _ _ _ a.requires (omega arith) a.ranges.s a.ranges.t _ d.loop-c-test.true (sfits_of p.p-1.given) _ (index_at search).is (sfits_of x.x-1.given) _ k.clamp_window_start-y.ensures.1) c.either-moved.ensures,
     )
 
 returns : tie.Need-returns invariant-loop decreases-loop

@@ -58,7 +58,7 @@ loop-again c =
     let a = c in (
       omega (arith, h.loop-i.invariant.0),
       omega (arith, d.loop-i-test.true),
-      p.take_one-one.kept.1.1.1.0 ∙ h.loop-i.invariant.2,
+      p.take_one-one.auto.dst ∙ h.loop-i.invariant.2,
       turn_more (cell_at (pos 0) (rule_i32 R.Replace) a.args.src.now (one_at a.args.starts.now (read a.args.limit)) pos) a.args.from h.loop-i.i a.args.dst.now _ _ h.loop-i.invariant.0 h.loop-i.invariant.3 p.take_one-one.ensures.0,
       many-turn a.args.from h.loop-i.i (λ k. a.args.counts && moves_at a.args.starts.now pos (nat_abs (read a.args.limit)) k) _ _ h.loop-i.invariant.0 h.loop-i.invariant.4 p.take_one-one.ensures.1,
     )
