@@ -1,4 +1,4 @@
-// What the static library exports. A list is lent as a slice: to C and Rust a pointer, then a count. Every argument list
+// What the static library exports (crate strided_c). A list is lent as a slice: to C and Rust a pointer, then a count. Every argument list
 // gets an answer: lists of extents and strides of unequal length, ranks above 8, lists of any length.
 #![tactic(auto)]
 
@@ -7,11 +7,11 @@ ghost use Rattle.std.specs.Float.{nan};
 ghost use Rattle.indexing.specs.Scatter.{add_i32, add_f64};
 ghost use Rattle.checks.specs.Checks.{view_from};
 ghost use Rattle.calls.specs.Calls.{view_with, Gathers, Scatters};
-ghost use Rattle.gather_checks.specs.Refusals.{gather_from, compile_refusal as compileGather};
-ghost use Rattle.scatter_checks.specs.Refusals.{scatter_from, compile_refusal as compileScatter};
+ghost use Rattle.gather_checks.specs.Refusals.{gather_from, compile_refusal as compile_gather};
+ghost use Rattle.scatter_checks.specs.Refusals.{scatter_from, compile_refusal as compile_scatter};
 ghost use Rattle.gather_lists.specs.Lists as gathers;
 ghost use Rattle.scatter_lists.specs.Lists as scatters;
-ghost use Rattle.operand_checks.specs.Refusals.{compile_refusal as compileOperand};
+ghost use Rattle.operand_checks.specs.Refusals.{compile_refusal as compile_operand};
 ghost use Rattle.operand_calls.specs.Calls.{ScattersOn};
 ghost use Rattle.operand_lists.specs.Lists as operands;
 ghost use Rattle.job.specs.declared.Kind.TheVariants as K;
@@ -34,8 +34,7 @@ use rules::{Rule, RuleF64};
 pub const VERSION: u64 = 4;
 
 // The version of the exports.
-#[unsafe(no_mangle)]
-pub extern "C" fn strided_version_4() -> u64
+pub fn strided_version_4() -> u64
     ensures { result ≡ 4 }
 {
     VERSION
@@ -113,8 +112,7 @@ fn rule_f64_of(rule: u64, limit: f64) -> RuleF64
 }
 
 // The first refusal of a gather's compile as number, a, b and 0; zeros where compile gives a plan.
-#[unsafe(no_mangle)]
-pub extern "C" fn strided_gather_refusal(
+pub fn strided_gather_refusal(
     operand_extents: &[u64],
     operand_strides: &[i64],
     index_extents: &[u64],
@@ -128,7 +126,7 @@ pub extern "C" fn strided_gather_refusal(
     slice_sizes: &[u64],
     answer: &mut [u64; 4],
 )
-    ensures { answer.new ≡ words (bare (compileGather (gather_from operand_extents.now operand_strides.now index_extents.now index_strides.now dest_extents.now dest_strides.now offset_dims.now collapsed_slice_dims.now start_index_map.now index_vector_dim slice_sizes.now))) }
+    ensures { answer.new ≡ words (bare (compile_gather (gather_from operand_extents.now operand_strides.now index_extents.now index_strides.now dest_extents.now dest_strides.now offset_dims.now collapsed_slice_dims.now start_index_map.now index_vector_dim slice_sizes.now))) }
 {
     let r = gather_checks::gather_refusal(
         operand_extents,
@@ -147,8 +145,7 @@ pub extern "C" fn strided_gather_refusal(
 }
 
 // The first refusal of a scatter's compile as number, a, b and 0; zeros where compile gives a plan.
-#[unsafe(no_mangle)]
-pub extern "C" fn strided_scatter_refusal(
+pub fn strided_scatter_refusal(
     index_extents: &[u64],
     index_strides: &[i64],
     updates_extents: &[u64],
@@ -161,7 +158,7 @@ pub extern "C" fn strided_scatter_refusal(
     index_vector_dim: u64,
     answer: &mut [u64; 4],
 )
-    ensures { answer.new ≡ words (bare (compileScatter (scatter_from index_extents.now index_strides.now updates_extents.now updates_strides.now dest_extents.now dest_strides.now update_window_dims.now inserted_window_dims.now scatter_dims_to_operand_dims.now index_vector_dim))) }
+    ensures { answer.new ≡ words (bare (compile_scatter (scatter_from index_extents.now index_strides.now updates_extents.now updates_strides.now dest_extents.now dest_strides.now update_window_dims.now inserted_window_dims.now scatter_dims_to_operand_dims.now index_vector_dim))) }
 {
     let r = scatter_checks::scatter_refusal(
         index_extents,
@@ -180,8 +177,7 @@ pub extern "C" fn strided_scatter_refusal(
 
 // A gather of i32: compile by the first eleven arguments, and the call on the three views and their slices. The answer as number, a, b
 // and how many windows slid.
-#[unsafe(no_mangle)]
-pub extern "C" fn strided_raw_gather_i32(
+pub fn strided_raw_gather_i32(
     operand_extents: &[u64],
     operand_strides: &[i64],
     index_extents: &[u64],
@@ -240,8 +236,7 @@ pub extern "C" fn strided_raw_gather_i32(
 
 // A gather of f64: compile by the first eleven arguments, and the call on the three views and their slices. The answer as number, a, b
 // and how many windows slid.
-#[unsafe(no_mangle)]
-pub extern "C" fn strided_raw_gather_f64(
+pub fn strided_raw_gather_f64(
     operand_extents: &[u64],
     operand_strides: &[i64],
     index_extents: &[u64],
@@ -300,8 +295,7 @@ pub extern "C" fn strided_raw_gather_f64(
 
 // A scatter of i32 by the rule of a number: compile by the next ten arguments, and the call on the three views and their slices. The
 // answer as number, a, b and how many windows slid: 18 before all others for a number that is not listed.
-#[unsafe(no_mangle)]
-pub extern "C" fn strided_raw_scatter_i32(
+pub fn strided_raw_scatter_i32(
     rule: u64,
     index_extents: &[u64],
     index_strides: &[i64],
@@ -366,8 +360,7 @@ pub extern "C" fn strided_raw_scatter_i32(
 // A scatter of f64 by the rule of a number, whose limit Ceiling alone reads: compile by the next ten arguments, and the call on the
 // three views and their slices. The answer as number, a, b and how many windows slid: 18 before all others for a number that is not
 // listed.
-#[unsafe(no_mangle)]
-pub extern "C" fn strided_raw_scatter_f64(
+pub fn strided_raw_scatter_f64(
     rule: u64,
     limit: f64,
     index_extents: &[u64],
@@ -433,8 +426,7 @@ pub extern "C" fn strided_raw_scatter_f64(
 // ---- scatters with an operand
 
 // The first refusal of the compile of a scatter with an operand as number, a, b and 0; zeros where compile gives a plan.
-#[unsafe(no_mangle)]
-pub extern "C" fn strided_scatter_operand_refusal(
+pub fn strided_scatter_operand_refusal(
     operand_extents: &[u64],
     operand_strides: &[i64],
     index_extents: &[u64],
@@ -449,7 +441,7 @@ pub extern "C" fn strided_scatter_operand_refusal(
     index_vector_dim: u64,
     answer: &mut [u64; 4],
 )
-    ensures { answer.new ≡ words (bare (compileOperand (view_from operand_extents.now operand_strides.now) (scatter_from index_extents.now index_strides.now updates_extents.now updates_strides.now dest_extents.now dest_strides.now update_window_dims.now inserted_window_dims.now scatter_dims_to_operand_dims.now index_vector_dim))) }
+    ensures { answer.new ≡ words (bare (compile_operand (view_from operand_extents.now operand_strides.now) (scatter_from index_extents.now index_strides.now updates_extents.now updates_strides.now dest_extents.now dest_strides.now update_window_dims.now inserted_window_dims.now scatter_dims_to_operand_dims.now index_vector_dim))) }
 {
     let r = operand_checks::operand_refusal(
         operand_extents,
@@ -471,8 +463,7 @@ pub extern "C" fn strided_scatter_operand_refusal(
 // A scatter of i32 with an operand, by the rule of a number: compile by the next twelve arguments, and the call on the four views and
 // their slices: the operand is copied into the destination, and the updates are put on that. The answer as number, a, b and how many
 // windows slid: 18 before all others for a number that is not listed.
-#[unsafe(no_mangle)]
-pub extern "C" fn strided_raw_scatter_operand_i32(
+pub fn strided_raw_scatter_operand_i32(
     rule: u64,
     operand_extents: &[u64],
     operand_strides: &[i64],
@@ -553,8 +544,7 @@ pub extern "C" fn strided_raw_scatter_operand_i32(
 }
 
 // A scatter of f64 with an operand, by the rule of a number, whose limit Ceiling alone reads.
-#[unsafe(no_mangle)]
-pub extern "C" fn strided_raw_scatter_operand_f64(
+pub fn strided_raw_scatter_operand_f64(
     rule: u64,
     limit: f64,
     operand_extents: &[u64],
@@ -638,8 +628,7 @@ pub extern "C" fn strided_raw_scatter_operand_f64(
 // ---- stored jobs
 
 // Whether the bytes store a job: zeros, or 10 with the place as a.
-#[unsafe(no_mangle)]
-pub extern "C" fn strided_read_job(bytes: &[u8], answer: &mut [u64; 4])
+pub fn strided_read_job(bytes: &[u8], answer: &mut [u64; 4])
     ensures { answer.new ≡ words (bare (read_job (job_at bytes.now)).answer) }
 {
     let r = job_reader::read_job(bytes);
@@ -687,8 +676,7 @@ fn store(made: MadeJob, out: &mut [u8]) -> Answer
 
 // Writes a gather as a stored job from the first byte on. The answer as number, a, b and 0: 10 for an element that is not listed, 1, 2,
 // 5 for a list that no job holds, 9 with the bytes that are needed as b.
-#[unsafe(no_mangle)]
-pub extern "C" fn strided_write_gather_job(
+pub fn strided_write_gather_job(
     element: u64,
     operand_extents: &[u64],
     operand_strides: &[i64],
@@ -733,8 +721,7 @@ pub extern "C" fn strided_write_gather_job(
 }
 
 // Writes a scatter as a stored job from the first byte on. The answer as number, a, b and 0.
-#[unsafe(no_mangle)]
-pub extern "C" fn strided_write_scatter_job(
+pub fn strided_write_scatter_job(
     element: u64,
     index_extents: &[u64],
     index_strides: &[i64],
@@ -778,8 +765,7 @@ pub extern "C" fn strided_write_scatter_job(
 
 // A stored gather of i32, read, compiled and called. The answer as number, a, b and how many windows slid: 10 5 0 and 10 6 0 also for a
 // job that is no gather or not of i32.
-#[unsafe(no_mangle)]
-pub extern "C" fn strided_gather_i32(
+pub fn strided_gather_i32(
     job: &[u8],
     operand: &[i32],
     starts: &[i64],
@@ -795,8 +781,7 @@ pub extern "C" fn strided_gather_i32(
 
 // A stored gather of f64, read, compiled and called. The answer as number, a, b and how many windows slid: 10 5 0 and 10 6 0 also for a
 // job that is no gather or not of f64.
-#[unsafe(no_mangle)]
-pub extern "C" fn strided_gather_f64(
+pub fn strided_gather_f64(
     job: &[u8],
     operand: &[f64],
     starts: &[i64],
@@ -812,8 +797,7 @@ pub extern "C" fn strided_gather_f64(
 
 // A stored scatter of i32, read, compiled and called. The answer as number, a, b and how many windows slid: 10 5 0 and 10 6 0 also for a
 // job that is no scatter or not of i32.
-#[unsafe(no_mangle)]
-pub extern "C" fn strided_scatter_i32(
+pub fn strided_scatter_i32(
     job: &[u8],
     starts: &[i64],
     updates: &[i32],
@@ -829,8 +813,7 @@ pub extern "C" fn strided_scatter_i32(
 
 // A stored scatter of f64, read, compiled and called. The answer as number, a, b and how many windows slid: 10 5 0 and 10 6 0 also for a
 // job that is no scatter or not of f64.
-#[unsafe(no_mangle)]
-pub extern "C" fn strided_scatter_f64(
+pub fn strided_scatter_f64(
     job: &[u8],
     starts: &[i64],
     updates: &[f64],
