@@ -1,5 +1,5 @@
 -- The odometer, first axis fastest: the coordinate after a linear index, and the step of its offset as sums of strides and resets. Assumes nothing.
-use Rattle.std.specs.Prelude.{cond, List, [], ◌∷◌, ℕ, ◌+◌, ◌*◌, ◌-◌, ◌<◌, ltb, ℤ, pos, neg_ℤ, ◌+ℤ◌, ◌*ℤ◌}
+use Rattle.std.specs.Prelude.{cond, List, [], ◌∷◌, ℕ, ◌+◌, ◌-◌, ◌<◌, ltb, ℤ, pos, neg_ℤ, ◌+ℤ◌, ◌*ℤ◌}
 use Rattle.indexing.specs.Coordinates.{unravel, dot}
 
 -- no extent is 0

@@ -1,5 +1,5 @@
 -- To be believed. The least and the greatest sum that strides make over extents, and that every coordinate's offset lies between them. Assumes nothing.
-use Rattle.std.specs.Prelude.{List, [], ◌∷◌, ℕ, ◌*◌, ◌-◌, ℤ, pos, negsuc, ◌+ℤ◌, ◌*ℤ◌}
+use Rattle.std.specs.Prelude.{List, [], ◌∷◌, ℕ, ◌-◌, ℤ, pos, negsuc, ◌+ℤ◌, ◌*ℤ◌}
 
 -- the part of a number below zero, and the part above
 abbrev pub below_zero : ℤ → ℤ

@@ -5,7 +5,7 @@ use Rattle.integer.specs.Defs.{checked_u}
 use Rattle.integer.specs.Machine.{checked_u-fits}
 use Rattle.integer.specs.declared.CheckedU.TheVariants as U
 use Rattle.indexing.specs.Coordinates.{product}
-use Rattle.layout.specs.Spans.{and_then_u, total_from, total_of}
+use Rattle.layout.specs.Spans.{total_from, total_of}
 use Rattle.layout.specs.Laws.{then_u-inv}
 
 total-from-is : (acc : ℕ) (ds : List ℕ) (n : ℕ) → total_from acc ds ≡ U.Fits n → n ≡ acc * product ds

@@ -1,12 +1,12 @@
 -- What an accepted product, span, reset or offset is: the product, the least and the greatest sums, the way back, the place. Assumes nothing.
 use Rattle.std.specs.Prelude.{◌≡◌, refl, Bool, true, false, ◌||◌, List, [], ◌∷◌, ℕ, zero, suc, ◌*◌, ◌-◌, ◌≤◌, ◌<◌, eqb, length, ℤ, pos, negsuc, neg_ℤ, ◌+ℤ◌, ◌*ℤ◌, ◌≤ℤ◌}
-use Rattle.std.proofs.Common.{sym, ap, subst, ◌∙◌, true≢false, mul_assoc, one-mul, zero-mul, mul-zero, arith, eqb-true, SFits}
+use Rattle.std.proofs.Common.{sym, ap, subst, ◌∙◌, true≢false, zero-mul, mul-zero, arith, eqb-true, SFits}
 use Rattle.std.proofs.lemmas.Bool.{eqb-false}
 use Rattle.std.proofs.Math.IntN.{+ℤ_idl, +ℤ_idr, +ℤ_assoc, *ℤ-zero}
 use Rattle.std.specs.Int.{w64}
 use Rattle.std.proofs.Math.Facts.{sfits_lit}
-use Rattle.integer.specs.Defs.{checked, checked_u, is_neg}
-use Rattle.integer.specs.Machine.{checked-fits, checked-sfits, checked_u-fits}
+use Rattle.integer.specs.Defs.{checked, is_neg}
+use Rattle.integer.specs.Machine.{checked-fits, checked-sfits}
 use Rattle.integer.specs.declared.Checked.{Checked}
 use Rattle.integer.specs.declared.Checked.TheVariants as C
 use Rattle.integer.specs.declared.CheckedU.{CheckedU}
@@ -17,7 +17,7 @@ use Rattle.layout.specs.declared.OffsetSpan.TheVariants as S
 use Rattle.indexing.specs.Coordinates.{product, dot, Within}
 use Rattle.indexing.specs.Reach.{below_zero, above_zero, lowest, highest}
 use Rattle.indexing.proofs.Reach.{dot-low, dot-high}
-use Rattle.layout.specs.Spans.{and_then, and_then_u, span_of, and_span, total_from, total_of, reach_of, widen_by, widened, span_from, spanned, reset, reset_of, offset_add, strided_offset}
+use Rattle.layout.specs.Spans.{and_then, and_then_u, span_of, and_span, reach_of, widen_by, widened, span_from, spanned, reset, reset_of, offset_add, strided_offset}
 use Rattle.layout.specs.Nested.{has_zero}
 
 zero-ne : ◌≡◌ {A = ℕ} 0 1 → ⊥

@@ -1,5 +1,4 @@
 use mathlib.Core.Path.{◌∙◌}
-use borrow.Author.Tests.{not-true, not-false}
 use Rattle.layout.specs.Layouts.{layout_from}
 use Rattle.layout.proofs.First.{first-refuses, second-refuses, both-pass}
 use Rattle.layout.proofs.make_layout.Statement.{statement}

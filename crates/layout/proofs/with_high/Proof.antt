@@ -1,6 +1,6 @@
 use mathlib.Core.Path.{ap₂}
 use mir.Syntax.{w64}
-use mir.Val.{SFits, Fits}
+use mir.Val.{SFits}
 use borrow.Author.Rules.{sfits_of, rules}
 use Rattle.integer.specs.Z.{back}
 use Rattle.layout.specs.declared.OffsetSpan.TheVariants as S
