@@ -116,7 +116,7 @@ returns c =
     let x7 = list_read c.entry_count-v.result s.args.spec.unit_dims.count s.args.spec.unit_dims.entries c.entry_count-v.ensures (lengths s.before.before.before.before.before.before.before.before.before.before.before.before.before.before.before.before.before.before.before.before.before.before.before.before.before.before.before.before.before.before.before.before).7 in
     let x8 = list_read c.entry_count-w.result s.args.spec.start_map.count s.args.spec.start_map.entries c.entry_count-w.ensures (lengths s.before.before.before.before.before.before.before.before.before.before.before.before.before.before.before.before.before.before.before.before.before.before.before.before.before.before.before.before.before.before.before.before).8 in
     let x9 = list_read c.entry_count-x.result s.args.spec.slice_sizes.count s.args.spec.slice_sizes.entries c.entry_count-x.ensures (lengths s.before.before.before.before.before.before.before.before.before.before.before.before.before.before.before.before.before.before.before.before.before.before.before.before.before.before.before.before.before.before.before.before).9 in
-    gather-listed _ s.args.operand-offset s.args.index-offset s.args.dest-offset s.args.operand-len s.args.starts-len s.args.dest-len (λ i. gather_from (x0 i) (x1 i) (x2 i) (x3 i) (x4 i) (x5 i) (x6 i) (x7 i) (x8 i) s.args.spec.index_vector_dim (x9 i)) (simp (back s.ranges.operand-offset, back s.ranges.index-offset, back s.ranges.dest-offset) at c.prepare.ensures)
+    gather-listed _ s.args.operand_offset s.args.index_offset s.args.dest_offset s.args.operand_len s.args.starts_len s.args.dest_len (λ i. gather_from (x0 i) (x1 i) (x2 i) (x3 i) (x4 i) (x5 i) (x6 i) (x7 i) (x8 i) s.args.spec.index_vector_dim (x9 i)) (simp (back s.ranges.operand_offset, back s.ranges.index_offset, back s.ranges.dest_offset) at c.prepare.ensures)
 
 pub gather_of_spec : {M : Type 1} → statement M
 gather_of_spec =

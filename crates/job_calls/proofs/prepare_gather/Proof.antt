@@ -12,7 +12,7 @@ use Rattle.job_calls.proofs.prepare_gather.Tie as tie
 returns : tie.Need-returns-then-not-is_done
 returns c =
     let s = c in
-    gather-refused s.args.element c.read_job-r.ensures s.args.operand-len s.args.starts-len s.args.dest-len _ (first-refusals K.Gather s.args.element c.read_job-r.result c.or_else-refusal.ensures c.or_else.ensures c.kind_answer-a.ensures c.element_answer-b.ensures) (sym c.is_done.ensures ∙ c.if-not-is_done.true) c.refused.ensures
+    gather-refused s.args.element c.read_job-r.ensures s.args.operand_len s.args.starts_len s.args.dest_len _ (first-refusals K.Gather s.args.element c.read_job-r.result c.or_else-refusal.ensures c.or_else.ensures c.kind_answer-a.ensures c.element_answer-b.ensures) (sym c.is_done.ensures ∙ c.if-not-is_done.true) c.refused.ensures
 
 returns-2 : tie.Need-returns
 returns-2 c =
@@ -21,7 +21,7 @@ returns-2 c =
     let x : SFits w64 j.first.offset = search rules in
     let y : SFits w64 j.second.offset = search rules in
     let z : SFits w64 j.third.offset = search rules in
-    gather-read s.args.element c.read_job-r.ensures s.args.operand-len s.args.starts-len s.args.dest-len _ (first-refusals K.Gather s.args.element c.read_job-r.result c.or_else-refusal.ensures c.or_else.ensures c.kind_answer-a.ensures c.element_answer-b.ensures) (sym c.is_done.ensures ∙ c.if-not-is_done.false) (simp (back x, back y, back z) at c.gather_of.ensures)
+    gather-read s.args.element c.read_job-r.ensures s.args.operand_len s.args.starts_len s.args.dest_len _ (first-refusals K.Gather s.args.element c.read_job-r.result c.or_else-refusal.ensures c.or_else.ensures c.kind_answer-a.ensures c.element_answer-b.ensures) (sym c.is_done.ensures ∙ c.if-not-is_done.false) (simp (back x, back y, back z) at c.gather_of.ensures)
 
 pub prepare_gather_spec : {M : Type 1} → statement M
 prepare_gather_spec =

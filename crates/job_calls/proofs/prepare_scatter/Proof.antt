@@ -12,7 +12,7 @@ use Rattle.job_calls.proofs.prepare_scatter.Tie as tie
 returns : tie.Need-returns-then-not-is_done
 returns c =
     let s = c in
-    scatter-refused s.args.element c.read_job-r.ensures s.args.starts-len s.args.updates-len s.args.dest-len _ (first-refusals K.Scatter s.args.element c.read_job-r.result c.or_else-refusal.ensures c.or_else.ensures c.kind_answer-a.ensures c.element_answer-b.ensures) (sym c.is_done.ensures ∙ c.if-not-is_done.true) c.refused.ensures
+    scatter-refused s.args.element c.read_job-r.ensures s.args.starts_len s.args.updates_len s.args.dest_len _ (first-refusals K.Scatter s.args.element c.read_job-r.result c.or_else-refusal.ensures c.or_else.ensures c.kind_answer-a.ensures c.element_answer-b.ensures) (sym c.is_done.ensures ∙ c.if-not-is_done.true) c.refused.ensures
 
 returns-2 : tie.Need-returns
 returns-2 c =
@@ -21,7 +21,7 @@ returns-2 c =
     let x : SFits w64 j.first.offset = search rules in
     let y : SFits w64 j.second.offset = search rules in
     let z : SFits w64 j.third.offset = search rules in
-    scatter-read s.args.element c.read_job-r.ensures s.args.starts-len s.args.updates-len s.args.dest-len _ (first-refusals K.Scatter s.args.element c.read_job-r.result c.or_else-refusal.ensures c.or_else.ensures c.kind_answer-a.ensures c.element_answer-b.ensures) (sym c.is_done.ensures ∙ c.if-not-is_done.false) (simp (back x, back y, back z) at c.scatter_of.ensures)
+    scatter-read s.args.element c.read_job-r.ensures s.args.starts_len s.args.updates_len s.args.dest_len _ (first-refusals K.Scatter s.args.element c.read_job-r.result c.or_else-refusal.ensures c.or_else.ensures c.kind_answer-a.ensures c.element_answer-b.ensures) (sym c.is_done.ensures ∙ c.if-not-is_done.false) (simp (back x, back y, back z) at c.scatter_of.ensures)
 
 pub prepare_scatter_spec : {M : Type 1} → statement M
 prepare_scatter_spec =

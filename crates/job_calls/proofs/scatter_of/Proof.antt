@@ -106,7 +106,7 @@ returns c =
     let x6 = list_read c.entry_count-u.result s.args.spec.window_dims.count s.args.spec.window_dims.entries c.entry_count-u.ensures (lengths s.before.before.before.before.before.before.before.before.before.before.before.before.before.before.before.before.before.before.before.before.before.before.before.before.before.before.before.before).6 in
     let x7 = list_read c.entry_count-v.result s.args.spec.unit_dims.count s.args.spec.unit_dims.entries c.entry_count-v.ensures (lengths s.before.before.before.before.before.before.before.before.before.before.before.before.before.before.before.before.before.before.before.before.before.before.before.before.before.before.before.before).7 in
     let x8 = list_read c.entry_count-w.result s.args.spec.start_map.count s.args.spec.start_map.entries c.entry_count-w.ensures (lengths s.before.before.before.before.before.before.before.before.before.before.before.before.before.before.before.before.before.before.before.before.before.before.before.before.before.before.before.before).8 in
-    scatter-listed _ s.args.index-offset s.args.updates-offset s.args.dest-offset s.args.starts-len s.args.updates-len s.args.dest-len (λ i. scatter_from (x0 i) (x1 i) (x2 i) (x3 i) (x4 i) (x5 i) (x6 i) (x7 i) (x8 i) s.args.spec.index_vector_dim) (simp (back s.ranges.index-offset, back s.ranges.updates-offset, back s.ranges.dest-offset) at c.prepare.ensures)
+    scatter-listed _ s.args.index_offset s.args.updates_offset s.args.dest_offset s.args.starts_len s.args.updates_len s.args.dest_len (λ i. scatter_from (x0 i) (x1 i) (x2 i) (x3 i) (x4 i) (x5 i) (x6 i) (x7 i) (x8 i) s.args.spec.index_vector_dim) (simp (back s.ranges.index_offset, back s.ranges.updates_offset, back s.ranges.dest_offset) at c.prepare.ensures)
 
 pub scatter_of_spec : {M : Type 1} → statement M
 scatter_of_spec =
