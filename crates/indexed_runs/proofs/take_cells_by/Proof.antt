@@ -145,7 +145,7 @@ loop-again c =
       omega arith,
       length-set h.loop-i.dst _ _ ∙ h.loop-i.invariant.1,
       cell-more (pos 0) (rule_i32 R.Replace) a.args.src.now (moved_at a.args.starts.now a.args.offsets.now a.args.strides.now a.args.limits.now a.args.count (line (read a.args.s) (read a.args.ss)) (line (read a.args.t) (read a.args.ts))) (line (read a.args.d) (read a.args.ds)) a.args.dst.now h.loop-i.dst h.loop-i.i _ _ _ h.loop-i.invariant.2
-          (place_is _ _ _ _ _ _ _ _ _ _ _ _ _ _ a.requires _ d.loop-i-test.true (from search) (index search) _ q.started-m.ensures.0 (src-room search)) (to search).index_is (back {w = w32} (sfits_of c.dst-1.given)),
+          (place_is _ _ _ _ _ _ _ _ _ _ _ _ _ _ a.requires _ d.loop-i-test.true (from search) (index search) _ q.started-m.ensures.0 (src-room search)) (to search).index_is (back (sfits_of {w = w32} c.dst-1.given)),
       many_more h.loop-i.i (λ k. a.args.counts && start_moved a.args.starts.now a.args.offsets.now a.args.limits.now (line (read a.args.t) (read a.args.ts) k) a.args.count) _ _ (a.args.counts && q.started-m.result.moved) h.loop-i.invariant.3
           (one-counts a.args.counts _ _ _ c.count_if-one.ensures c.count_if-more.ensures)
           (ap (λ (b : Bool). a.args.counts && b) (started-is a.args.starts.now a.args.offsets.now a.args.limits.now a.args.count _ _ _ _ (index search) _ q.started-m.ensures.1)),

@@ -58,7 +58,7 @@ returns : tie.Need-returns
 returns c =
     let q = c in
     let a = q in (
-      one-turn (pos 0) (rule_i32 R.Replace) a.args.src.now (one_at a.args.starts.now a.args.limit) pos a.args.dst.now a.args.i (nat_abs (read q.clamped-y.result.at)) a.args.i _ (by-start search) refl (back {w = w32} (sfits_of c.dst-1.given)),
+      one-turn (pos 0) (rule_i32 R.Replace) a.args.src.now (one_at a.args.starts.now a.args.limit) pos a.args.dst.now a.args.i (nat_abs (read q.clamped-y.result.at)) a.args.i _ (by-start search) refl (back (sfits_of {w = w32} c.dst-1.given)),
       one-counts a.args.counts _ _ _ c.count_if-one.ensures c.count_if.ensures ∙ ap (λ (b : Bool). cond (a.args.counts && b) 1 0) (ones-moved a.args.starts.now a.args.limit a.args.i a.ranges.limit (sfits_of q.x-1.given) _ q.clamped-y.ensures.1),
     )
 

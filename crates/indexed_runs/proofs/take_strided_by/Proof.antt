@@ -159,7 +159,7 @@ loop-again c =
     let a = d in (
       omega arith,
       length-set h.loop-i.dst _ _ ∙ h.loop-i.invariant.1,
-      cell-more (pos 0) (rule_i32 R.Replace) a.args.src.now (clamped_at a.args.starts.now (line (read a.args.t) (read a.args.ts)) (read a.args.base) (read a.args.stride) a.args.limit) (line (read a.args.d) (read a.args.ds)) a.args.dst.now h.loop-i.dst h.loop-i.i (nat_abs (machine a.args.base a.args.stride q.clamp_window_start-y.result.start)) (nat_abs (machine a.args.d a.args.ds h.loop-i.i)) _ h.loop-i.invariant.2 (by-start search) (plain_at search).index_is (back {w = w32} (sfits_of c.dst-1.given)),
+      cell-more (pos 0) (rule_i32 R.Replace) a.args.src.now (clamped_at a.args.starts.now (line (read a.args.t) (read a.args.ts)) (read a.args.base) (read a.args.stride) a.args.limit) (line (read a.args.d) (read a.args.ds)) a.args.dst.now h.loop-i.dst h.loop-i.i (nat_abs (machine a.args.base a.args.stride q.clamp_window_start-y.result.start)) (nat_abs (machine a.args.d a.args.ds h.loop-i.i)) _ h.loop-i.invariant.2 (by-start search) (plain_at search).index_is (back (sfits_of {w = w32} c.dst-1.given)),
       many_more h.loop-i.i (λ k. a.args.counts && moves_at a.args.starts.now (line (read a.args.t) (read a.args.ts)) a.args.limit k) _ _ (a.args.counts && q.clamp_window_start-y.result.moved) h.loop-i.invariant.3
           (one-counts a.args.counts _ _ _ c.count_if-one.ensures c.count_if-more.ensures)
           (ap (λ (b : Bool). a.args.counts && b) (moves-is a.args.starts.now _ _ a.args.limit _ _ (starts-at search) (sfits_of q.x-1.given) _ q.clamp_window_start-y.ensures.1)),

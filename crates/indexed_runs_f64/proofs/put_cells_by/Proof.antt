@@ -2,11 +2,11 @@
 use mathlib.Core.Path.{◌≡◌, refl, ◌∙◌}
 use Prim.Native.Nat.{◌-◌, ◌<◌, ◌≤◌, ◌^◌}
 use native.Mathlib.Omega.{arith}
-use lib.Ieee.{nan}
 use lib.ListN.{length, length-set}
 use lib.IntN.{nat_abs}
 use mir.Syntax.{w64}
 use mir.Val.{to_z}
+use Rattle.std.specs.Float.{nan}
 use Rattle.indexing.specs.Loops.{in_order}
 use Rattle.indexing.specs.Counting.{many-none, many_more}
 use Rattle.rules.specs.Rules.{rule_f64}
@@ -28,25 +28,22 @@ invariant-loop rule src starts dst₀ n s t d ss ts count offsets strides limits
 abbrev decreases-loop : tie.decreases-loop-i
 decreases-loop rule src starts dst₀ n s t d ss ts count offsets strides limits slid₀ i₀ dst slid i = n - i
 
-abbrev start : tie.In-loop-i invariant-loop decreases-loop → tie.Start invariant-loop decreases-loop
-start d = search
-
 module _ (a : tie.Start invariant-loop decreases-loop) where
   src-room : length a.args.src.now < 2 ^ 63
-  src-room = omega (arith, a.well-formed.1.0.1)
+  src-room = omega (arith, a.well_formed.1.0.1)
 
   dst-room : length a.args.dst.now < 2 ^ 63
-  dst-room = omega (arith, a.good.1.1.1.0.1)
+  dst-room = omega (arith, a.well_formed.1.1.1.0.1)
 
 module _ (d : tie.In-loop-i invariant-loop decreases-loop) where
-  from : Step (start d).args.s (start d).args.ss d.before.loop.i (length (start d).args.src.now)
-  from = let a = start d in source-step _ _ _ _ _ _ _ _ _ _ _ _ _ a.pre.1 _ d.loop-test.true a.fits.s a.fits.ss (src-room a)
+  from : Step d.args.s d.args.ss d.loop-i.i (length d.args.src.now)
+  from = let a = d in source-step _ _ _ _ _ _ _ _ _ _ _ _ _ a.requires.1 _ d.loop-i-test.true a.ranges.s a.ranges.ss (src-room search)
 
-  index : Step (start d).args.t (start d).args.ts d.before.loop.i (2 ^ 63 - 1)
-  index = let a = start d in index-step _ _ _ _ _ _ _ _ _ _ _ _ _ a.pre.1 _ d.loop-test.taken a.fits.t a.fits.ts
+  index : Step d.args.t d.args.ts d.loop-i.i (2 ^ 63 - 1)
+  index = let a = d in index-step _ _ _ _ _ _ _ _ _ _ _ _ _ a.requires.1 _ d.loop-i-test.true a.ranges.t a.ranges.ts
 
-put-at : (c : tie.After-started-m invariant-loop decreases-loop) → Index c.started-m.result.at (length (start c.before).args.dst.now)
-put-at c = let a = start c.before in place-index _ _ _ _ _ _ _ _ _ _ _ _ _ a.pre.1 _ c.loop-i-test.true (index c.before) a.fits.d (dst-room a) _ c.started-m.ensures.0
+put-at : (c : tie.After-started-m invariant-loop decreases-loop) → Index c.started-m.result.at (length c.args.dst.now)
+put-at c = let a = c in place-index _ _ _ _ _ _ _ _ _ _ _ _ _ a.requires.1 _ c.loop-i-test.true (index search) a.ranges.d (dst-room search) _ c.started-m.ensures.0
 
 returns : tie.Need-returns-then-count-eq0 invariant-loop decreases-loop
 returns c =
@@ -61,77 +58,77 @@ loop-holds c =
 cast-k : tie.Need-overflow_cast-k invariant-loop decreases-loop
 cast-k c =
     let d = c in
-    (from d).count
+    (from search).count
 
 mul-q : tie.Need-overflow_mul-q invariant-loop decreases-loop
 mul-q c =
     let d = c in
-    (index d).multiple
+    (index search).multiple
 
 add-q : tie.Need-overflow_add-q invariant-loop decreases-loop
 add-q c =
     let d = c in
-    (index d).fits
+    (index search).fits
 
 started-requires : tie.Need-started-m-requires invariant-loop decreases-loop
 started-requires c κs =
     let d = c in
-    let a = start d in started-asks _ _ _ _ _ _ _ _ _ _ _ _ _ a.pre.1 _ c.loop-i-test.true (index d) a.fits.d (dst-room a)
+    let a = d in started-asks _ _ _ _ _ _ _ _ _ _ _ _ _ a.requires.1 _ c.loop-i-test.true (index search) a.ranges.d (dst-room search)
 
 cast-b : tie.Need-overflow_cast-b invariant-loop decreases-loop
 cast-b c =
     let s = c in
-    (put-at s.before).cast
+    (put-at search).cast
 
 mul-a : tie.Need-overflow_mul-a invariant-loop decreases-loop
 mul-a c =
     let d = c in
-    (from d).multiple
+    (from search).multiple
 
 add_a : tie.Need-overflow_add-a invariant-loop decreases-loop
 add_a c =
     let d = c in
-    (from d).fits
+    (from search).fits
 
 cast-a : tie.Need-overflow_cast-a invariant-loop decreases-loop
 cast-a c =
     let d = c in
-    (from d).cast
+    (from search).cast
 
-mul-apply-f64 : tie.Need-offset_bounds-dst-b invariant-loop decreases-loop
-mul-apply-f64 c =
+mul_apply : tie.Need-offset_bounds-dst-b invariant-loop decreases-loop
+mul_apply c =
     let d = c in
     let s = c in
-    omega (arith, (put-at s.before).below, (start d).good.1.1.1.0.1)
+    omega (arith, (put-at search).below, d.well_formed.1.1.1.0.1)
 
-slice-read-apply-f64 : tie.Need-bounds-dst-b invariant-loop decreases-loop
-slice-read-apply-f64 c =
+slice-copy-out-apply_f64 : tie.Need-bounds-dst-b invariant-loop decreases-loop
+slice-copy-out-apply_f64 c =
     let s = c in
     let h = c in
-    omega (arith, (put-at s.before.before).below, h.loop-i.invariant.1)
+    omega (arith, (put-at search).below, h.loop-i.invariant.1)
 
-mul-apply-f64-2 : tie.Need-offset_bounds-src-a invariant-loop decreases-loop
-mul-apply-f64-2 c =
+mul-apply_f64-2 : tie.Need-offset_bounds-src-a invariant-loop decreases-loop
+mul-apply_f64-2 c =
     let d = c in
-    omega (arith, (from d).below, (start d).good.1.0.1)
+    omega (arith, (from search).below, d.well_formed.1.0.1)
 
-shared-slice-read-apply-f64 : tie.Need-bounds-src-a invariant-loop decreases-loop
-shared-slice-read-apply-f64 c = let d = c in (from d).below
+shared-slice-copy-out-apply_f64 : tie.Need-bounds-src-a invariant-loop decreases-loop
+shared-slice-copy-out-apply_f64 c = let d = c in (from search).below
 
-apply-f64-requires : tie.Need-apply_f64-v-requires invariant-loop decreases-loop
-apply-f64-requires c κs = tt
+apply_f64-requires : tie.Need-apply_f64-v-requires invariant-loop decreases-loop
+apply_f64-requires c κs = tt
 
-mul-dst : tie.Need-offset_bounds-dst-b-in-loop-i invariant-loop decreases-loop
-mul-dst c =
+mul-v : tie.Need-offset_bounds-dst-b-in-loop-i invariant-loop decreases-loop
+mul-v c =
     let s = c in
     let d = c in
-    omega (arith, (put-at s.before.before.before.before).below, (start d).good.1.1.1.0.1)
+    omega (arith, (put-at search).below, d.well_formed.1.1.1.0.1)
 
-slice-write-dst : tie.Need-bounds-dst-b-in-loop-i invariant-loop decreases-loop
-slice-write-dst c =
+slice-set-from-v : tie.Need-bounds-dst-b-in-loop-i invariant-loop decreases-loop
+slice-set-from-v c =
     let s = c in
     let h = c in
-    omega (arith, (put-at s.before.before.before.before).below, h.loop-i.invariant.1)
+    omega (arith, (put-at search).below, h.loop-i.invariant.1)
 
 add-slid : tie.Need-overflow_add-slid invariant-loop decreases-loop
 add-slid c =
@@ -149,19 +146,19 @@ loop-again : tie.Need-loop-i-preserved invariant-loop decreases-loop
 loop-again c =
     let w = c in
     let q = c in
-    let d = q.before in
-    let h = d.before in
-    let a = start d in
-    let at = nat_abs (machine a.args.s a.args.ss h.loop.i) in
+    let d = q in
+    let h = d in
+    let a = d in
+    let at = nat_abs (machine a.args.s a.args.ss h.loop-i.i) in
     let to = nat_abs (read q.started-m.result.at) in (
       omega arith,
-      length-set h.loop.dst _ _ ∙ h.loop.inv.1,
+      length-set h.loop-i.dst _ _ ∙ h.loop-i.invariant.1,
       cell-more nan (rule_f64 a.args.rule) a.args.src.now (line (read a.args.s) (read a.args.ss))
           (moved_at a.args.starts.now a.args.offsets.now a.args.strides.now a.args.limits.now a.args.count (λ _. read a.args.d) (line (read a.args.t) (read a.args.ts)))
-          a.args.dst.now h.loop.dst h.loop.i at to _ h.loop.inv.2 (from d).index_is
-          (place_is _ _ _ _ _ _ _ _ _ _ _ _ _ a.pre.1 _ d.loop-test.taken (index d) a.fits.d (dst-room a) _ q.started-m.ensures.0) w.apply_f64-v.ensures,
-      many_more h.loop.i (λ k. start_moved a.args.starts.now a.args.offsets.now a.args.limits.now (line (read a.args.t) (read a.args.ts) k) a.args.count) _ _ q.started-m.result.moved h.loop.inv.3 c.count_if-one.ensures
-          (started-is a.args.starts.now a.args.offsets.now a.args.limits.now a.args.count _ _ _ _ (index d) _ q.started-m.ensures.1),
+          a.args.dst.now h.loop-i.dst h.loop-i.i at to _ h.loop-i.invariant.2 (from search).index_is
+          (place_is _ _ _ _ _ _ _ _ _ _ _ _ _ a.requires.1 _ d.loop-i-test.true (index search) a.ranges.d (dst-room search) _ q.started-m.ensures.0) w.apply_f64-v.ensures,
+      many_more h.loop-i.i (λ k. start_moved a.args.starts.now a.args.offsets.now a.args.limits.now (line (read a.args.t) (read a.args.ts) k) a.args.count) _ _ q.started-m.result.moved h.loop-i.invariant.3 c.count_if-one.ensures
+          (started-is a.args.starts.now a.args.offsets.now a.args.limits.now a.args.count _ _ _ _ (index search) _ q.started-m.ensures.1),
     )
 
 same_length : tie.Need-shape_of-dst invariant-loop decreases-loop
@@ -191,13 +188,13 @@ put_cells_by_spec =
     mul-a
     add_a
     cast-a
-    mul-apply-f64
-    slice-read-apply-f64
-    mul-apply-f64-2
-    shared-slice-read-apply-f64
-    apply-f64-requires
-    mul-dst
-    slice-write-dst
+    mul_apply
+    slice-copy-out-apply_f64
+    mul-apply_f64-2
+    shared-slice-copy-out-apply_f64
+    apply_f64-requires
+    mul-v
+    slice-set-from-v
     (λ c κs. tt)
     add-slid
     add-i

@@ -3,9 +3,9 @@ use mathlib.Core.Path.{◌≡◌, refl, ap, ◌∙◌}
 use mathlib.Core.Bool.{Bool, cond}
 use native.Mathlib.Omega.{arith}
 use borrow.Author.Rules.{rules, sfits_of}
-use lib.Ieee.{nan}
 use lib.ListN.{length}
 use lib.IntN.{pos, nat_abs}
+use Rattle.std.specs.Float.{nan}
 use Rattle.rules.specs.Rules.{rule_f64}
 use Rattle.runs.proofs.Place.{read, Index}
 use Rattle.indexed_runs.specs.IndexedRuns.{one_at}
@@ -15,14 +15,11 @@ use Rattle.indexed_runs_f64.proofs.put_one.Tie as tie
 
 -- the place of the destination
 module _ (c : tie.After-clamped-y) where
-  abbrev at-start : tie.Start
-  at-start = search
+  place : Index c.clamped-y.result.at (length c.args.dst.now)
+  place = let a = c in ones-index _ _ _ _ a.requires.1 a.ranges.limit (omega (arith, a.well_formed.1.1.1.0.1)) _ a.requires.0 (sfits_of c.x-1.given) _ c.clamped-y.ensures.0
 
-  place : Index c.clamped.result.at (length at-start.args.dst.now)
-  place = let a = at-start in ones-index _ _ _ _ a.pre.1 a.fits.limit (omega (arith, a.good.1.1.1.0.1)) _ a.pre.0 (sfits_of c.before.x.given) _ c.clamped.ensures.0
-
-  by-start : pos (nat_abs (read c.clamped.result.at)) ≡ one_at at-start.args.starts.now at-start.args.limit at-start.args.i
-  by-start = let a = at-start in ones_is _ _ _ _ a.pre.1 a.fits.limit (omega (arith, a.good.1.1.1.0.1)) _ a.pre.0 (sfits_of c.before.x.given) _ c.clamped.ensures.0
+  by-start : pos (nat_abs (read c.clamped-y.result.at)) ≡ one_at c.args.starts.now c.args.limit c.args.i
+  by-start = let a = c in ones_is _ _ _ _ a.requires.1 a.ranges.limit (omega (arith, a.well_formed.1.1.1.0.1)) _ a.requires.0 (sfits_of c.x-1.given) _ c.clamped-y.ensures.0
 
 mul-x : tie.Need-offset_bounds-starts-i
 mul-x c = search rules
@@ -36,31 +33,31 @@ clamped-requires c κs = search rules
 cast-b : tie.Need-overflow_cast-b
 cast-b c =
     let l = c in
-    (place l).cast
+    (place search).cast
 
-mul-apply-f64 : tie.Need-offset_bounds-dst-b
-mul-apply-f64 c =
+mul_apply : tie.Need-offset_bounds-dst-b
+mul_apply c =
     let l = c in
-    omega (arith, (place l).below, (at-start l).good.1.1.1.0.1)
+    omega (arith, (place search).below, l.well_formed.1.1.1.0.1)
 
-slice-read-apply-f64 : tie.Need-bounds-dst-b
-slice-read-apply-f64 c = let l = c in (place l).below
+slice-copy-out-apply_f64 : tie.Need-bounds-dst-b
+slice-copy-out-apply_f64 c = let l = c in (place search).below
 
-mul-apply-f64-2 : tie.Need-offset_bounds-src-i
-mul-apply-f64-2 c = search rules
+mul-apply_f64-2 : tie.Need-offset_bounds-src-i
+mul-apply_f64-2 c = search rules
 
-shared-slice-read-apply-f64 : tie.Need-bounds-src-i
-shared-slice-read-apply-f64 c = search rules
+shared-slice-copy-out-apply_f64 : tie.Need-bounds-src-i
+shared-slice-copy-out-apply_f64 c = search rules
 
-mul-dst : tie.Need-offset_bounds-dst-b-2
-mul-dst c =
+mul-v : tie.Need-offset_bounds-dst-b-2
+mul-v c =
     let l = c in
-    omega (arith, (place l).below, (at-start l).good.1.1.1.0.1)
+    omega (arith, (place search).below, l.well_formed.1.1.1.0.1)
 
-slice-write-dst : tie.Need-bounds-dst-b-2
-slice-write-dst c =
+slice-set-from-v : tie.Need-bounds-dst-b-2
+slice-set-from-v c =
     let l = c in
-    (place l).below
+    (place search).below
 
 same_length : tie.Need-shape_of-dst
 same_length c = search rules
@@ -69,11 +66,11 @@ returns : tie.Need-returns
 returns c =
     let w = c in
     let q = c in
-    let a = at-start q in
+    let a = q in
     let m = nat_abs (read q.clamped-y.result.at) in (
-      one-turn nan (rule_f64 a.args.rule) a.args.src.now pos (one_at a.args.starts.now a.args.limit) a.args.dst.now a.args.i a.args.i m _ refl (by-start q)
+      one-turn nan (rule_f64 a.args.rule) a.args.src.now pos (one_at a.args.starts.now a.args.limit) a.args.dst.now a.args.i a.args.i m _ refl (by-start search)
           w.apply_f64-v.ensures,
-      c.count_if.ensures ∙ ap (λ (b : Bool). cond b 1 0) (ones-moved a.args.starts.now a.args.limit a.args.i a.fits.limit (sfits_of q.x-1.given) _ q.clamped-y.ensures.1),
+      c.count_if.ensures ∙ ap (λ (b : Bool). cond b 1 0) (ones-moved a.args.starts.now a.args.limit a.args.i a.ranges.limit (sfits_of q.x-1.given) _ q.clamped-y.ensures.1),
     )
 
 pub put_one_spec : {M : Type 1} → statement M
@@ -84,13 +81,13 @@ put_one_spec =
     shared-slice-copy-out-x
     clamped-requires
     cast-b
-    mul-apply-f64
-    slice-read-apply-f64
-    mul-apply-f64-2
-    shared-slice-read-apply-f64
+    mul_apply
+    slice-copy-out-apply_f64
+    mul-apply_f64-2
+    shared-slice-copy-out-apply_f64
     (λ c κs. tt)
-    mul-dst
-    slice-write-dst
+    mul-v
+    slice-set-from-v
     (λ c κs. tt)
     same_length
     returns)

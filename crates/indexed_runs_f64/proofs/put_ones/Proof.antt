@@ -3,9 +3,9 @@ use mathlib.Core.Path.{◌≡◌, refl}
 use Prim.Native.Nat.{◌+◌, ◌%◌}
 use native.Mathlib.Omega.{arith}
 use borrow.Author.Rules.{rules}
-use lib.Ieee.{nan}
 use lib.ListN.{length}
 use lib.IntN.{pos, nat_abs}
+use Rattle.std.specs.Float.{nan}
 use Rattle.indexing.specs.Counting.{many-on, many_below}
 use Rattle.indexing.specs.Slid.{how_many}
 use Rattle.indexing.specs.Loops.{in_order}
@@ -28,7 +28,7 @@ put-few-requires c κs = let a = c in (omega arith, omega arith, ones-left _ _ _
 put-rest-requires : tie.Need-put_rest-rest-requires
 put-rest-requires c κs =
     let f = c in
-    let a = c in (omega arith, omega arith, ones-left _ _ _ _ _ _ a.ranges.limit a.requires refl f.put_few-few.kept.1.1.1.0)
+    let a = c in (omega arith, omega arith, ones-left _ _ _ _ _ _ a.ranges.limit a.requires refl f.put_few-few.auto.dst)
 
 same_length : tie.Need-shape_of-dst
 same_length c = search rules
@@ -37,7 +37,7 @@ same_length c = search rules
 few-then-rest : (c : tie.After-put_rest-rest)
     → let a = c in
     let f = c in
-    (c.put_rest-rest.new.1.1.1.0 ≡ in_order (cell_at nan (rule_f64 a.args.rule) a.args.src.now pos (one_at a.args.starts.now (read a.args.limit))) (length a.args.src.now) a.args.dst.now)
+    (c.put_rest-rest.new.dst ≡ in_order (cell_at nan (rule_f64 a.args.rule) a.args.src.now pos (one_at a.args.starts.now (read a.args.limit))) (length a.args.src.now) a.args.dst.now)
     × (f.put_few-few.result + c.put_rest-rest.result ≡ how_many (length a.args.src.now) (moves_at a.args.starts.now pos (nat_abs (read a.args.limit))))
 few-then-rest c =
     let f = c in
@@ -53,13 +53,13 @@ add-result : tie.Need-overflow_add-result
 add-result c =
     let r = c in
     let a = c in
-    omega (arith, (few-then-rest r.before.before).1, many_below (length a.args.src.now) (moves_at a.args.starts.now pos (nat_abs (read a.args.limit))), a.well_formed.1.0.1)
+    omega (arith, (few-then-rest search).1, many_below (length a.args.src.now) (moves_at a.args.starts.now pos (nat_abs (read a.args.limit))), a.well_formed.1.0.1)
 
 returns : tie.Need-returns
 returns c =
     let r = c in
     let a = c in
-    (put-ones-end nan (rule_f64 a.args.rule) a.args.src.now a.args.starts.now a.args.limit _ _ a.args.dst.now _ a.ranges.limit refl (few-then-rest r.before.before).0, ones-count a.args.starts.now a.args.limit _ _ _ a.ranges.limit refl (few-then-rest r.before.before).1)
+    (put-ones-end nan (rule_f64 a.args.rule) a.args.src.now a.args.starts.now a.args.limit _ _ a.args.dst.now _ a.ranges.limit refl (few-then-rest search).0, ones-count a.args.starts.now a.args.limit _ _ _ a.ranges.limit refl (few-then-rest search).1)
 
 pub put_ones_spec : {M : Type 1} → statement M
 put_ones_spec = tie.close (tie.spec mul-twos put-few-requires put-rest-requires add-result same_length returns)

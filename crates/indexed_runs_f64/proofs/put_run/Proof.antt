@@ -1,7 +1,7 @@
 -- Written by tests/twins from crates/indexed_runs/proofs/put_run/Proof.antt.
 use mathlib.Core.Path.{refl}
 use borrow.Author.Rules.{rules}
-use lib.Ieee.{nan}
+use Rattle.std.specs.Float.{nan}
 use Rattle.rules.specs.Rules.{rule_f64}
 use Rattle.runs.proofs.Turns.{none}
 use Rattle.indexed_runs.proofs.Places.{put-end}
@@ -42,7 +42,7 @@ returns-3 : tie.Need-returns
 returns-3 c =
     let p = c in
     let a = c in
-    (put-end nan (rule_f64 a.args.rule) a.args.src.now a.args.starts.now a.args.t a.args.ts a.args.base a.args.stride a.args.s a.args.ss a.args.limit a.args.n a.args.n a.args.dst.now p.put_strided.last.1.1.1.0 a.ranges.t a.ranges.ts a.ranges.base a.ranges.stride a.ranges.s a.ranges.ss refl p.put_strided.ensures.0, moves-end a.args.starts.now a.args.t a.args.ts a.args.n a.args.n _ a.ranges.t a.ranges.ts refl a.args.limit p.put_strided.ensures.1)
+    (put-end nan (rule_f64 a.args.rule) a.args.src.now a.args.starts.now a.args.t a.args.ts a.args.base a.args.stride a.args.s a.args.ss a.args.limit a.args.n a.args.n a.args.dst.now p.put_strided.new.dst a.ranges.t a.ranges.ts a.ranges.base a.ranges.stride a.ranges.s a.ranges.ss refl p.put_strided.ensures.0, moves-end a.args.starts.now a.args.t a.args.ts a.args.n a.args.n _ a.ranges.t a.ranges.ts refl a.args.limit p.put_strided.ensures.1)
 
 pub put_run_spec : {M : Type 1} → statement M
 put_run_spec =

@@ -3,11 +3,11 @@ use mathlib.Core.Path.{◌≡◌, refl, ◌∙◌}
 use Prim.Native.Nat.{◌-◌, ◌≤◌}
 use native.Mathlib.Omega.{arith}
 use borrow.Author.Rules.{sfits_of}
-use lib.Ieee.{nan}
 use lib.ListN.{length, length-set}
 use lib.IntN.{pos, nat_abs}
 use mir.Syntax.{w64}
 use mir.Val.{to_z}
+use Rattle.std.specs.Float.{nan}
 use Rattle.indexing.specs.Loops.{in_order}
 use Rattle.indexing.specs.Slid.{how_many}
 use Rattle.indexing.specs.Counting.{many-none, many_more}
@@ -27,23 +27,20 @@ invariant-loop rule src starts dst₀ n t ts base stride limit s ss slid₀ i₀
 abbrev decreases-loop : tie.decreases-loop-i
 decreases-loop rule src starts dst₀ n t ts base stride limit s ss slid₀ i₀ dst slid i = n - i
 
-abbrev start : tie.In-loop-i invariant-loop decreases-loop → tie.Start invariant-loop decreases-loop
-start d = search
+starts-at : (d : tie.In-loop-i invariant-loop decreases-loop) → Step d.args.t d.args.ts d.loop-i.i (length d.args.starts.now)
+starts-at d = let a = d in start-step _ _ _ _ _ _ _ _ _ _ _ a.requires a.ranges.t a.ranges.ts (omega (arith, a.well_formed.1.1.0.1)) _ d.loop-i-test.true
 
-starts-at : (d : tie.In-loop-i invariant-loop decreases-loop) → Step (start d).args.t (start d).args.ts d.loop-i.i (length (start d).args.starts.now)
-starts-at d = let a = start d in start-step _ _ _ _ _ _ _ _ _ _ _ a.pre a.fits.t a.fits.ts (omega (arith, a.good.1.1.0.1)) _ d.loop-i-test.true
-
-plain_at : (d : tie.In-loop-i invariant-loop decreases-loop) → Step (start d).args.s (start d).args.ss d.loop-i.i (length (start d).args.src.now)
-plain_at d = let a = start d in plain_step _ _ _ _ _ _ _ _ _ _ _ a.pre a.fits.s a.fits.ss (omega (arith, a.good.1.0.1)) _ d.loop-i-test.true
+plain_at : (d : tie.In-loop-i invariant-loop decreases-loop) → Step d.args.s d.args.ss d.loop-i.i (length d.args.src.now)
+plain_at d = let a = d in plain_step _ _ _ _ _ _ _ _ _ _ _ a.requires a.ranges.s a.ranges.ss (omega (arith, a.well_formed.1.0.1)) _ d.loop-i-test.true
 
 module _ (c : tie.After-clamp_window_start-y invariant-loop decreases-loop) where
-  clamped-at : Step (start c.before.before).args.base (start c.before.before).args.stride c.clamp-window-start.result.start (length (start c.before.before).args.dst.now)
-  clamped-at = let a = start c.before.before in clamped-step _ _ _ _ _ _ _ _ _ _ _ a.pre a.fits.t a.fits.ts a.fits.base a.fits.stride (omega (arith, a.good.1.1.1.0.1)) _ c.before.before.loop-test.true (starts-at c.before.before) (sfits_of c.before.x.given) _ c.clamp-window-start.ensures.0
+  clamped-at : Step c.args.base c.args.stride c.clamp_window_start-y.result.start (length c.args.dst.now)
+  clamped-at = let a = c in clamped-step _ _ _ _ _ _ _ _ _ _ _ a.requires a.ranges.t a.ranges.ts a.ranges.base a.ranges.stride (omega (arith, a.well_formed.1.1.1.0.1)) _ c.loop-i-test.true (starts-at search) (sfits_of c.x-1.given) _ c.clamp_window_start-y.ensures.0
 
-  -- the place is by the start
-  by-start : pos (nat_abs (machine (start c.before.before).args.base (start c.before.before).args.stride c.clamp-window-start.result.start))
-      ≡ clamped_at (start c.before.before).args.starts.now (line (read (start c.before.before).args.t) (read (start c.before.before).args.ts)) (read (start c.before.before).args.base) (read (start c.before.before).args.stride) (start c.before.before).args.limit c.before.before.before.loop.i
-  by-start = let a = start c.before.before in clamped-is a.args.starts.now a.args.t a.args.ts a.args.base a.args.stride a.args.limit _ _ _ _ (starts-at c.before.before) (sfits_of c.before.x.given) clamped-at c.clamp-window-start.ensures.0
+  -- the place is by the c
+  by-start : pos (nat_abs (machine c.args.base c.args.stride c.clamp_window_start-y.result.start))
+      ≡ clamped_at c.args.starts.now (line (read c.args.t) (read c.args.ts)) (read c.args.base) (read c.args.stride) c.args.limit c.loop-i.i
+  by-start = let a = c in clamped-is a.args.starts.now a.args.t a.args.ts a.args.base a.args.stride a.args.limit _ _ _ _ (starts-at search) (sfits_of c.x-1.given) clamped-at c.clamp_window_start-y.ensures.0
 
 loop-holds : tie.Need-loop-i-init invariant-loop decreases-loop
 loop-holds c =
@@ -53,32 +50,32 @@ loop-holds c =
 cast-k : tie.Need-overflow_cast-k invariant-loop decreases-loop
 cast-k c =
     let d = c in
-    (starts-at d).count
+    (starts-at search).count
 
 mul-p : tie.Need-overflow_mul-p invariant-loop decreases-loop
 mul-p c =
     let d = c in
-    (starts-at d).multiple
+    (starts-at search).multiple
 
 add-p : tie.Need-overflow_add-p invariant-loop decreases-loop
 add-p c =
     let d = c in
-    (starts-at d).fits
+    (starts-at search).fits
 
 cast-p : tie.Need-overflow_cast-p invariant-loop decreases-loop
 cast-p c =
     let d = c in
-    (starts-at d).cast
+    (starts-at search).cast
 
 mul-x : tie.Need-offset_bounds-starts-p invariant-loop decreases-loop
 mul-x c =
     let d = c in
-    omega (arith, (starts-at d).below, (start d).good.1.1.0.1)
+    omega (arith, (starts-at search).below, d.well_formed.1.1.0.1)
 
 shared-slice-copy-out-x : tie.Need-bounds-starts-p invariant-loop decreases-loop
 shared-slice-copy-out-x c =
     let d = c in
-    (starts-at d).below
+    (starts-at search).below
 
 clamp-window-start-requires : tie.Need-clamp_window_start-y-requires invariant-loop decreases-loop
 clamp-window-start-requires c κs = tt
@@ -86,73 +83,73 @@ clamp-window-start-requires c κs = tt
 cast-c : tie.Need-overflow_cast-c invariant-loop decreases-loop
 cast-c c =
     let k = c in
-    (clamped-at k).count
+    (clamped-at search).count
 
 mul-b : tie.Need-overflow_mul-b invariant-loop decreases-loop
 mul-b c =
     let k = c in
-    (clamped-at k).multiple
+    (clamped-at search).multiple
 
 add-b : tie.Need-overflow_add-b invariant-loop decreases-loop
 add-b c =
     let k = c in
-    (clamped-at k).fits
+    (clamped-at search).fits
 
 cast-b : tie.Need-overflow_cast-b invariant-loop decreases-loop
 cast-b c =
     let k = c in
-    (clamped-at k).cast
+    (clamped-at search).cast
 
 mul-a : tie.Need-overflow_mul-a invariant-loop decreases-loop
 mul-a c =
     let d = c in
-    (plain_at d.before.before.before).multiple
+    (plain_at search).multiple
 
 add_a : tie.Need-overflow_add-a invariant-loop decreases-loop
 add_a c =
     let d = c in
-    (plain_at d.before.before.before).fits
+    (plain_at search).fits
 
 cast-a : tie.Need-overflow_cast-a invariant-loop decreases-loop
 cast-a c =
     let d = c in
-    (plain_at d.before.before.before).cast
+    (plain_at search).cast
 
-mul-apply-f64 : tie.Need-offset_bounds-dst-b invariant-loop decreases-loop
-mul-apply-f64 c =
+mul_apply : tie.Need-offset_bounds-dst-b invariant-loop decreases-loop
+mul_apply c =
     let d = c in
     let k = c in
-    omega (arith, (clamped-at k).below, (start d).good.1.1.1.0.1)
+    omega (arith, (clamped-at search).below, d.well_formed.1.1.1.0.1)
 
-slice-read-apply-f64 : tie.Need-bounds-dst-b invariant-loop decreases-loop
-slice-read-apply-f64 c =
+slice-copy-out-apply_f64 : tie.Need-bounds-dst-b invariant-loop decreases-loop
+slice-copy-out-apply_f64 c =
     let l = c in
     let h = c in
-    omega (arith, (clamped-at l).below, h.loop-i.invariant.1)
+    omega (arith, (clamped-at search).below, h.loop-i.invariant.1)
 
-mul-apply-f64-2 : tie.Need-offset_bounds-src-a invariant-loop decreases-loop
-mul-apply-f64-2 c =
+mul-apply_f64-2 : tie.Need-offset_bounds-src-a invariant-loop decreases-loop
+mul-apply_f64-2 c =
     let d = c in
-    omega (arith, (plain_at d.before.before.before.before).below, (start d).good.1.0.1)
+    omega (arith, (plain_at search).below, d.well_formed.1.0.1)
 
-shared-slice-read-apply-f64 :
+shared-slice-copy-out-apply_f64 :
     tie.Need-bounds-src-a invariant-loop decreases-loop
-shared-slice-read-apply-f64 c = let d : tie.In-loop-i invariant-loop decreases-loop = search in (plain_at d).below
+shared-slice-copy-out-apply_f64 c = let d : tie.In-loop-i invariant-loop decreases-loop = search in (plain_at d).below
 
-apply-f64-requires : tie.Need-apply_f64-v-requires invariant-loop decreases-loop
-apply-f64-requires c κs = tt
+apply_f64-requires : tie.Need-apply_f64-v-requires invariant-loop decreases-loop
+apply_f64-requires c κs = tt
 
-mul-dst : tie.Need-offset_bounds-dst-b-in-loop-i invariant-loop decreases-loop
-mul-dst c =
+mul-v : tie.Need-offset_bounds-dst-b-in-loop-i invariant-loop decreases-loop
+mul-v c =
     let k = c in
     let d = c in
-    omega (arith, (clamped-at k).below, (start d).good.1.1.1.0.1)
+    omega (arith, (clamped-at search).below, d.well_formed.1.1.1.0.1)
 
-slice-write-dst : tie.Need-bounds-dst-b-in-loop-i invariant-loop decreases-loop
-slice-write-dst c =
+slice-set-from-v : tie.Need-bounds-dst-b-in-loop-i invariant-loop decreases-loop
+slice-set-from-v c =
     let k = c in
     let h = c in
-    omega (arith, (clamped-at k).below, h.loop-i.invariant.1)
+    omega (arith, (clamped-at search).below, h.loop-i.invariant.1)
 
 add-slid : tie.Need-overflow_add-slid invariant-loop decreases-loop
 add-slid c =
@@ -170,16 +167,16 @@ loop-again : tie.Need-loop-i-preserved invariant-loop decreases-loop
 loop-again c =
     let w = c in
     let q = c in
-    let d = q.before.before in
-    let h = d.before in
-    let a = start d in
-    let from = nat_abs (machine a.args.s a.args.ss h.loop.i) in
+    let d = q in
+    let h = d in
+    let a = d in
+    let from = nat_abs (machine a.args.s a.args.ss h.loop-i.i) in
     let to = nat_abs (machine a.args.base a.args.stride q.clamp_window_start-y.result.start) in (
       omega arith,
-      length-set h.loop.dst _ _ ∙ h.loop.inv.1,
-      cell-more nan (rule_f64 a.args.rule) a.args.src.now (line (read a.args.s) (read a.args.ss)) (clamped_at a.args.starts.now (line (read a.args.t) (read a.args.ts)) (read a.args.base) (read a.args.stride) a.args.limit) a.args.dst.now h.loop.dst h.loop.i from to _ h.loop.inv.2 (plain_at d).index_is (by-start q) w.apply_f64-v.ensures,
-      many_more h.loop.i (moves_at a.args.starts.now (line (read a.args.t) (read a.args.ts)) a.args.limit) _ _ q.clamp_window_start-y.result.moved h.loop.inv.3 c.count_if-one.ensures
-          (moves-is a.args.starts.now _ _ a.args.limit _ _ (starts-at d) (sfits_of q.x-1.given) _ q.clamp_window_start-y.ensures.1),
+      length-set h.loop-i.dst _ _ ∙ h.loop-i.invariant.1,
+      cell-more nan (rule_f64 a.args.rule) a.args.src.now (line (read a.args.s) (read a.args.ss)) (clamped_at a.args.starts.now (line (read a.args.t) (read a.args.ts)) (read a.args.base) (read a.args.stride) a.args.limit) a.args.dst.now h.loop-i.dst h.loop-i.i from to _ h.loop-i.invariant.2 (plain_at search).index_is (by-start search) w.apply_f64-v.ensures,
+      many_more h.loop-i.i (moves_at a.args.starts.now (line (read a.args.t) (read a.args.ts)) a.args.limit) _ _ q.clamp_window_start-y.result.moved h.loop-i.invariant.3 c.count_if-one.ensures
+          (moves-is a.args.starts.now _ _ a.args.limit _ _ (starts-at search) (sfits_of q.x-1.given) _ q.clamp_window_start-y.ensures.1),
     )
 
 same_length : tie.Need-shape_of-dst invariant-loop decreases-loop
@@ -214,13 +211,13 @@ put_strided_by_spec =
     mul-a
     add_a
     cast-a
-    mul-apply-f64
-    slice-read-apply-f64
-    mul-apply-f64-2
-    shared-slice-read-apply-f64
-    apply-f64-requires
-    mul-dst
-    slice-write-dst
+    mul_apply
+    slice-copy-out-apply_f64
+    mul-apply_f64-2
+    shared-slice-copy-out-apply_f64
+    apply_f64-requires
+    mul-v
+    slice-set-from-v
     (λ c κs. tt)
     add-slid
     add-i

@@ -3,11 +3,11 @@ use mathlib.Core.Bool.{true}
 use mathlib.Core.Path.{◌≡◌, refl, ◌∙◌}
 use Prim.Native.Nat.{◌+◌, ◌*◌, ◌-◌, ◌≤◌}
 use native.Mathlib.Omega.{arith}
-use lib.Ieee.{nan}
 use lib.ListN.{length}
 use lib.IntN.{pos, nat_abs}
 use mir.Syntax.{w64}
 use mir.Val.{to_z}
+use Rattle.std.specs.Float.{nan}
 use Rattle.integer.specs.Z.{only, known, zfacts}
 use Rattle.indexing.specs.Loops.{in_order}
 use Rattle.indexing.specs.Slid.{how_many}
@@ -32,14 +32,11 @@ abbrev decreases-loop : tie.decreases-loop-left
 decreases-loop rule src starts dst₀ limit from turns width slid₀ i₀ left₀ dst slid i left = left
 
 module _ (d : tie.In-loop-left invariant-loop decreases-loop) where
-  abbrev start : tie.Start invariant-loop decreases-loop
-  start = search
-
   -- the turn, and those that are left after it
-  turn : d.before.loop.i + start.args.width + start.args.width * (d.before.loop.left - 1) ≡ length start.args.src.now
-  turn = turn-left d.before.loop.i start.args.width d.before.loop.left (length start.args.src.now) d.before.loop.inv.1 d.loop-test.taken
+  turn : d.loop-left.i + d.args.width + d.args.width * (d.loop-left.left - 1) ≡ length d.args.src.now
+  turn = turn-left d.loop-left.i d.args.width d.loop-left.left (length d.args.src.now) d.loop-left.invariant.1 d.loop-left-test.true
 
-  fits : d.before.loop.i + start.args.width ≤ length start.args.src.now
+  fits : d.loop-left.i + d.args.width ≤ length d.args.src.now
   fits = omega (arith, turn)
 
 returns : tie.Need-returns-then-limit-lt0 invariant-loop decreases-loop
@@ -53,20 +50,20 @@ loop-holds c =
     (omega arith, a.requires.0, refl, none _ (a.args.from - a.args.from) a.args.dst.now (omega arith), many-none (a.args.from - a.args.from) _ (omega arith))
 
 add-e : tie.Need-overflow_add-e invariant-loop decreases-loop
-add-e c = omega (arith, fits c, (start c).well-formed.1.0.1)
+add-e c = omega (arith, fits search, c.well_formed.1.0.1)
 
 put-few-requires : tie.Need-put_few-few-requires invariant-loop decreases-loop
 put-few-requires c κs =
     let d = c in
     let h = c in
-    (omega arith, fits d, ones-left _ _ _ _ _ _ (start d).fits.limit (start d).pre.1 refl h.loop-left.invariant.2)
+    (omega arith, fits search, ones-left _ _ _ _ _ _ d.ranges.limit d.requires.1 refl h.loop-left.invariant.2)
 
 add-slid : tie.Need-overflow_add-slid invariant-loop decreases-loop
 add-slid c =
     let p = c in
     let d = c in
     let h = c in
-    omega (arith, further-below (start d).args.from h.loop-left.i (h.loop-left.i + (start d).args.width) _ _ _ _ h.loop-left.invariant.0 (omega arith) h.loop-left.invariant.4 p.put_few-few.ensures.1, fits d, (start d).good.1.0.1)
+    omega (arith, further-below d.args.from h.loop-left.i (h.loop-left.i + d.args.width) _ _ _ _ h.loop-left.invariant.0 (omega arith) h.loop-left.invariant.4 p.put_few-few.ensures.1, fits search, d.well_formed.1.0.1)
 
 sub-left : tie.Need-overflow_sub-left invariant-loop decreases-loop
 sub-left c = let d = c in omega (arith, d.loop-left-test.true)
@@ -79,10 +76,10 @@ loop-again c =
     let p = c in
     let d = c in
     let h = c in
-    let a = start d in (
+    let a = d in (
       omega (arith, h.loop-left.invariant.0),
-      turn d,
-      p.put_few-few.kept.1.1.1.0 ∙ h.loop-left.invariant.2,
+      turn search,
+      p.put_few-few.auto.dst ∙ h.loop-left.invariant.2,
       turns-further (cell_at nan (rule_f64 a.args.rule) a.args.src.now pos (one_at a.args.starts.now (read a.args.limit))) a.args.from h.loop-left.i (h.loop-left.i + a.args.width) a.args.dst.now h.loop-left.dst _ h.loop-left.invariant.0 (omega arith) h.loop-left.invariant.3 p.put_few-few.ensures.0,
       many-further a.args.from h.loop-left.i (h.loop-left.i + a.args.width) (moves_at a.args.starts.now pos (nat_abs (read a.args.limit))) _ _ h.loop-left.invariant.0 (omega arith) h.loop-left.invariant.4 p.put_few-few.ensures.1,
     )
@@ -94,7 +91,7 @@ returns-2 : tie.Need-returns invariant-loop decreases-loop
 returns-2 c =
     let h = c in
     let a = c in
-    let e = none_left h.loop-left.i a.args.width h.loop-left.false (length a.args.src.now) h.loop-left.invariant.1 (omega (arith, c.loop-left-test.false)) in (
+    let e = none_left h.loop-left.i a.args.width h.loop-left.left (length a.args.src.now) h.loop-left.invariant.1 (omega (arith, c.loop-left-test.false)) in (
       put-few-end nan (rule_f64 a.args.rule) a.args.src.now a.args.starts.now a.args.limit a.args.from h.loop-left.i (length a.args.src.now) a.args.dst.now h.loop-left.dst a.ranges.limit e h.loop-left.invariant.3,
       few-count true a.args.starts.now a.args.limit a.args.from h.loop-left.i (length a.args.src.now) h.loop-left.slid a.ranges.limit e h.loop-left.invariant.4,
     )

@@ -3,8 +3,8 @@ use mathlib.Core.Path.{refl, subst}
 use mathlib.Core.Bool.{true, false}
 use Prim.Native.Nat.{ℕ}
 use borrow.Author.Rules.{rules}
-use lib.Ieee.{nan}
 use lib.ListN.{length}
+use Rattle.std.specs.Float.{nan}
 use Rattle.rules.specs.Rules.{rule_f64}
 use Rattle.rules.specs.declared.RuleF64.TheVariants as R
 use Rattle.indexed_runs.specs.IndexedRuns.{Taking}

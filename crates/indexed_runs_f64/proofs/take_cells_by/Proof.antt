@@ -3,10 +3,10 @@ use mathlib.Core.Path.{◌≡◌, refl, ap, ◌∙◌}
 use mathlib.Core.Bool.{Bool, cond, ◌&&◌}
 use Prim.Native.Nat.{ℕ, ◌-◌, ◌<◌, ◌≤◌, ◌^◌}
 use native.Mathlib.Omega.{arith}
-use lib.Ieee.{nan}
 use lib.ListN.{length, length-set}
 use mir.Syntax.{w64}
 use mir.Val.{to_z}
+use Rattle.std.specs.Float.{nan}
 use Rattle.indexing.specs.Loops.{in_order}
 use Rattle.indexing.specs.Slid.{how_many}
 use Rattle.indexing.specs.Counting.{many-none, many_more}
@@ -27,28 +27,25 @@ invariant-loop counts src starts dst₀ n s t d ss ts ds count offsets strides l
 abbrev decreases-loop : tie.decreases-loop-i
 decreases-loop counts src starts dst₀ n s t d ss ts ds count offsets strides limits slid₀ i₀ dst slid i = n - i
 
-abbrev start : tie.In-loop-i invariant-loop decreases-loop → tie.Start invariant-loop decreases-loop
-start d = search
-
 module _ (a : tie.Start invariant-loop decreases-loop) where
   src-room : length a.args.src.now < 2 ^ 63
-  src-room = omega (arith, a.well-formed.1.0.1)
+  src-room = omega (arith, a.well_formed.1.0.1)
 
   dst-room : length a.args.dst.now < 2 ^ 63
-  dst-room = omega (arith, a.good.1.1.1.0.1)
+  dst-room = omega (arith, a.well_formed.1.1.1.0.1)
 
 module _ (d : tie.In-loop-i invariant-loop decreases-loop) where
-  from : Step (start d).args.s (start d).args.ss d.before.loop.i (length (start d).args.src.now)
-  from = let a = start d in source-step _ _ _ _ _ _ _ _ _ _ _ _ _ _ a.pre _ d.loop-test.true a.fits.s a.fits.ss (src-room a)
+  from : Step d.args.s d.args.ss d.loop-i.i (length d.args.src.now)
+  from = let a = d in source-step _ _ _ _ _ _ _ _ _ _ _ _ _ _ a.requires _ d.loop-i-test.true a.ranges.s a.ranges.ss (src-room search)
 
-  index : Step (start d).args.t (start d).args.ts d.before.loop.i (2 ^ 63 - 1)
-  index = let a = start d in index-step _ _ _ _ _ _ _ _ _ _ _ _ _ _ a.pre _ d.loop-test.taken a.fits.t a.fits.ts
+  index : Step d.args.t d.args.ts d.loop-i.i (2 ^ 63 - 1)
+  index = let a = d in index-step _ _ _ _ _ _ _ _ _ _ _ _ _ _ a.requires _ d.loop-i-test.true a.ranges.t a.ranges.ts
 
-  to : Step (start d).args.d (start d).args.ds d.before.loop.i (length (start d).args.dst.now)
-  to = let a = start d in dest-step _ _ _ _ _ _ _ _ _ _ _ _ _ _ a.pre _ d.loop-test.taken a.fits.d a.fits.ds (dst-room a)
+  to : Step d.args.d d.args.ds d.loop-i.i (length d.args.dst.now)
+  to = let a = d in dest-step _ _ _ _ _ _ _ _ _ _ _ _ _ _ a.requires _ d.loop-i-test.true a.ranges.d a.ranges.ds (dst-room search)
 
-read-at : (c : tie.After-started-m invariant-loop decreases-loop) → Index c.started-m.result.at (length (start c.before).args.src.now)
-read-at c = let a = start c.before in place-index _ _ _ _ _ _ _ _ _ _ _ _ _ _ a.pre _ c.loop-i-test.true (from c.before) (index c.before) _ c.started-m.ensures.0 (src-room a)
+read-at : (c : tie.After-started-m invariant-loop decreases-loop) → Index c.started-m.result.at (length c.args.src.now)
+read-at c = let a = c in place-index _ _ _ _ _ _ _ _ _ _ _ _ _ _ a.requires _ c.loop-i-test.true (from search) (index search) _ c.started-m.ensures.0 (src-room search)
 
 loop-holds : tie.Need-loop-i-init invariant-loop decreases-loop
 loop-holds c =
@@ -58,78 +55,78 @@ loop-holds c =
 cast-k : tie.Need-overflow_cast-k invariant-loop decreases-loop
 cast-k c =
     let d = c in
-    (from d).count
+    (from search).count
 
 mul-p : tie.Need-overflow_mul-p invariant-loop decreases-loop
 mul-p c =
     let d = c in
-    (from d).multiple
+    (from search).multiple
 
 add-p : tie.Need-overflow_add-p invariant-loop decreases-loop
 add-p c =
     let d = c in
-    (from d).fits
+    (from search).fits
 
 mul-q : tie.Need-overflow_mul-q invariant-loop decreases-loop
 mul-q c =
     let d = c in
-    (index d).multiple
+    (index search).multiple
 
 add-q : tie.Need-overflow_add-q invariant-loop decreases-loop
 add-q c =
     let d = c in
-    (index d).fits
+    (index search).fits
 
 started-requires : tie.Need-started-m-requires invariant-loop decreases-loop
 started-requires c κs =
     let d = c in
-    let a = start d in started-asks _ _ _ _ _ _ _ _ _ _ _ _ _ _ a.pre _ c.loop-i-test.true (from d) (index d) (src-room a)
+    let a = d in started-asks _ _ _ _ _ _ _ _ _ _ _ _ _ _ a.requires _ c.loop-i-test.true (from search) (index search) (src-room search)
 
 cast-a : tie.Need-overflow_cast-a invariant-loop decreases-loop
 cast-a c =
     let s = c in
-    (read-at s.before).cast
+    (read-at search).cast
 
 mul-b : tie.Need-overflow_mul-b invariant-loop decreases-loop
 mul-b c =
     let d = c in
-    (to d).multiple
+    (to search).multiple
 
 add-b : tie.Need-overflow_add-b invariant-loop decreases-loop
 add-b c =
     let d = c in
-    (to d).fits
+    (to search).fits
 
 cast-b : tie.Need-overflow_cast-b invariant-loop decreases-loop
 cast-b c =
     let d = c in
-    (to d).cast
+    (to search).cast
 
 mul-dst : tie.Need-offset_bounds-src-a invariant-loop decreases-loop
 mul-dst c =
     let d = c in
     let s = c in
-    omega (arith, (read-at s.before).below, (start d).good.1.0.1)
+    omega (arith, (read-at search).below, d.well_formed.1.0.1)
 
-shared-slice-read-dst : tie.Need-bounds-src-a invariant-loop decreases-loop
-shared-slice-read-dst c = let s = c in (read-at s.before.before).below
+shared-slice-copy-out-dst : tie.Need-bounds-src-a invariant-loop decreases-loop
+shared-slice-copy-out-dst c = let s = c in (read-at search).below
 
-mul-dst-2 : tie.Need-offset_bounds-dst-b invariant-loop decreases-loop
-mul-dst-2 c =
+mul-t34 : tie.Need-offset_bounds-dst-b invariant-loop decreases-loop
+mul-t34 c =
     let d = c in
-    omega (arith, (to d).below, (start d).good.1.1.1.0.1)
+    omega (arith, (to search).below, d.well_formed.1.1.1.0.1)
 
-slice-write-dst : tie.Need-bounds-dst-b invariant-loop decreases-loop
-slice-write-dst c =
+slice-set-from-dst : tie.Need-bounds-dst-b invariant-loop decreases-loop
+slice-set-from-dst c =
     let d = c in
     let h = c in
-    omega (arith, (to d).below, h.loop-i.invariant.1)
+    omega (arith, (to search).below, h.loop-i.invariant.1)
 
 add-slid : tie.Need-overflow_add-slid invariant-loop decreases-loop
 add-slid c =
     let q = c in
     let h = c in
-    let a = start q.before in
+    let a = q in
     omega (arith, one_below h.loop-i.i _ _ _ (a.args.counts && q.started-m.result.moved) h.loop-i.invariant.3 (one-counts a.args.counts _ _ _ c.count_if-one.ensures c.count_if-more.ensures))
 
 add-i : tie.Need-overflow_add-i invariant-loop decreases-loop
@@ -141,16 +138,16 @@ loop-less c = omega arith
 loop-again : tie.Need-loop-i-preserved invariant-loop decreases-loop
 loop-again c =
     let q = c in
-    let d = q.before in
-    let h = d.before in
-    let a = start d in (
+    let d = q in
+    let h = d in
+    let a = d in (
       omega arith,
-      length-set h.loop.dst _ _ ∙ h.loop.inv.1,
-      cell-more nan (rule_f64 R.Replace) a.args.src.now (moved_at a.args.starts.now a.args.offsets.now a.args.strides.now a.args.limits.now a.args.count (line (read a.args.s) (read a.args.ss)) (line (read a.args.t) (read a.args.ts))) (line (read a.args.d) (read a.args.ds)) a.args.dst.now h.loop.dst h.loop.i _ _ _ h.loop.inv.2
-          (place_is _ _ _ _ _ _ _ _ _ _ _ _ _ _ a.pre _ d.loop-test.taken (from d) (index d) _ q.started-m.ensures.0 (src-room a)) (to d).index_is refl,
-      many_more h.loop.i (λ k. a.args.counts && start_moved a.args.starts.now a.args.offsets.now a.args.limits.now (line (read a.args.t) (read a.args.ts) k) a.args.count) _ _ (a.args.counts && q.started-m.result.moved) h.loop.inv.3
+      length-set h.loop-i.dst _ _ ∙ h.loop-i.invariant.1,
+      cell-more nan (rule_f64 R.Replace) a.args.src.now (moved_at a.args.starts.now a.args.offsets.now a.args.strides.now a.args.limits.now a.args.count (line (read a.args.s) (read a.args.ss)) (line (read a.args.t) (read a.args.ts))) (line (read a.args.d) (read a.args.ds)) a.args.dst.now h.loop-i.dst h.loop-i.i _ _ _ h.loop-i.invariant.2
+          (place_is _ _ _ _ _ _ _ _ _ _ _ _ _ _ a.requires _ d.loop-i-test.true (from search) (index search) _ q.started-m.ensures.0 (src-room search)) (to search).index_is refl,
+      many_more h.loop-i.i (λ k. a.args.counts && start_moved a.args.starts.now a.args.offsets.now a.args.limits.now (line (read a.args.t) (read a.args.ts) k) a.args.count) _ _ (a.args.counts && q.started-m.result.moved) h.loop-i.invariant.3
           (one-counts a.args.counts _ _ _ c.count_if-one.ensures c.count_if-more.ensures)
-          (ap (λ (b : Bool). a.args.counts && b) (started-is a.args.starts.now a.args.offsets.now a.args.limits.now a.args.count _ _ _ _ (index d) _ q.started-m.ensures.1)),
+          (ap (λ (b : Bool). a.args.counts && b) (started-is a.args.starts.now a.args.offsets.now a.args.limits.now a.args.count _ _ _ _ (index search) _ q.started-m.ensures.1)),
     )
 
 same_length : tie.Need-shape_of-dst invariant-loop decreases-loop
@@ -184,9 +181,9 @@ take_cells_by_spec =
     add-b
     cast-b
     mul-dst
-    shared-slice-read-dst
-    mul-dst-2
-    slice-write-dst
+    shared-slice-copy-out-dst
+    mul-t34
+    slice-set-from-dst
     (λ c κs. tt)
     (λ c κs. tt)
     add-slid

@@ -3,11 +3,11 @@ use mathlib.Core.Path.{◌≡◌, refl, ◌∙◌}
 use mathlib.Core.Bool.{◌&&◌}
 use Prim.Native.Nat.{◌+◌, ◌-◌, ◌≤◌}
 use native.Mathlib.Omega.{arith}
-use lib.Ieee.{nan}
 use lib.ListN.{length}
 use lib.IntN.{pos, nat_abs}
 use mir.Syntax.{w64}
 use mir.Val.{to_z}
+use Rattle.std.specs.Float.{nan}
 use Rattle.indexing.specs.Loops.{in_order}
 use Rattle.indexing.specs.Slid.{how_many}
 use Rattle.indexing.specs.Counting.{many-none}
@@ -60,7 +60,7 @@ loop-again c =
     let a = c in (
       omega (arith, h.loop-i.invariant.0),
       omega (arith, d.loop-i-test.true),
-      p.take_one-one.kept.1.1.1.0 ∙ h.loop-i.invariant.2,
+      p.take_one-one.auto.dst ∙ h.loop-i.invariant.2,
       turn_more (cell_at nan (rule_f64 R.Replace) a.args.src.now (one_at a.args.starts.now (read a.args.limit)) pos) a.args.from h.loop-i.i a.args.dst.now _ _ h.loop-i.invariant.0 h.loop-i.invariant.3 p.take_one-one.ensures.0,
       many-turn a.args.from h.loop-i.i (λ k. a.args.counts && moves_at a.args.starts.now pos (nat_abs (read a.args.limit)) k) _ _ h.loop-i.invariant.0 h.loop-i.invariant.4 p.take_one-one.ensures.1,
     )

@@ -3,11 +3,11 @@ use mathlib.Core.Path.{refl}
 use Prim.Native.Nat.{ℕ, ◌+◌, ◌-◌}
 use native.Mathlib.Omega.{arith}
 use borrow.Author.Rules.{rules}
-use lib.Ieee.{nan}
 use lib.ListN.{length, take, drop}
 use lib.IntN.{pos, nat_abs}
 use mir.Syntax.{w64}
 use mir.Val.{to_z}
+use Rattle.std.specs.Float.{nan}
 use Rattle.rules.specs.Rules.{rule_f64}
 use Rattle.runs.specs.Runs.{line}
 use Rattle.rules.specs.declared.RuleF64.TheVariants as R
@@ -33,34 +33,34 @@ cast-l : tie.Need-overflow_cast-l
 cast-l c = search rules
 
 cast-a : tie.Need-overflow_cast-a
-cast-a c = let a = c in (starting a.before.before).cast
+cast-a c = let a = c in (starting search).cast
 
 cast-b : tie.Need-overflow_cast-b
-cast-b c = let a = c in (plain a.before.before).cast
+cast-b c = let a = c in (plain search).cast
 
 cast-c : tie.Need-overflow_cast-c
-cast-c c = let a = c in (first a.before.before).cast
+cast-c c = let a = c in (first search).cast
 
 add-e : tie.Need-overflow_add-e
-add-e c = let a = c in omega (arith, (starting a.before.before).room, a.well_formed.1.1.0.1)
+add-e c = let a = c in omega (arith, (starting search).room, a.well_formed.1.1.0.1)
 
 add-f : tie.Need-overflow_add-f
-add-f c = let a = c in omega (arith, (plain a.before.before).room, a.well_formed.1.1.1.0.1)
+add-f c = let a = c in omega (arith, (plain search).room, a.well_formed.1.1.1.0.1)
 
 mul-take-ones : tie.Need-offset_bounds-src-c
-mul-take-ones c = let a = c in omega (arith, (first a.before.before).below, a.well_formed.1.0.1)
+mul-take-ones c = let a = c in omega (arith, (first search).below, a.well_formed.1.0.1)
 
 sub-take-ones : tie.Need-slice_bounds-take_ones-count
-sub-take-ones c = let a = c in omega (arith, (first a.before.before).below)
+sub-take-ones c = let a = c in omega (arith, (first search).below)
 
 part-take-ones-start : tie.Need-slice_bounds-take_ones-start
-part-take-ones-start c = let a = c in omega (arith, (first a.before.before).below)
+part-take-ones-start c = let a = c in omega (arith, (first search).below)
 
 part-take-ones-end : tie.Need-slice_bounds-take_ones-end
 part-take-ones-end c = search rules
 
 mul-take-ones-2 : tie.Need-offset_bounds-starts-a
-mul-take-ones-2 c = let a = c in omega (arith, (starting a.before.before.before).room, a.well_formed.1.1.0.1)
+mul-take-ones-2 c = let a = c in omega (arith, (starting search).room, a.well_formed.1.1.0.1)
 
 sub-take-ones-2 : tie.Need-slice_bounds-take_ones-count-2
 sub-take-ones-2 c = search rules
@@ -69,10 +69,10 @@ part-take-ones-start-2 : tie.Need-slice_bounds-take_ones-start-2
 part-take-ones-start-2 c = search rules
 
 part-take-ones-end-2 : tie.Need-slice_bounds-take_ones-end-2
-part-take-ones-end-2 c = let a = c in (starting a.before.before.before).room
+part-take-ones-end-2 c = let a = c in (starting search).room
 
 mul-take-ones-3 : tie.Need-offset_bounds-dst-b
-mul-take-ones-3 c = let a = c in omega (arith, (plain a.before.before.before.before).room, a.well_formed.1.1.1.0.1)
+mul-take-ones-3 c = let a = c in omega (arith, (plain search).room, a.well_formed.1.1.1.0.1)
 
 sub-take-ones-3 : tie.Need-slice_bounds-take_ones-count-3
 sub-take-ones-3 c = search rules
@@ -81,7 +81,7 @@ part-take-ones-start-3 : tie.Need-slice_bounds-take_ones-start-3
 part-take-ones-start-3 c = search rules
 
 part-take-ones-end-3 : tie.Need-slice_bounds-take_ones-end-3
-part-take-ones-end-3 c = let a = c in (plain a.before.before.before.before).room
+part-take-ones-end-3 c = let a = c in (plain search).room
 
 take-ones-requires : tie.Need-take_ones-requires
 take-ones-requires c κs =
@@ -89,7 +89,7 @@ take-ones-requires c κs =
     let x : ℕ = nat_abs (read a.args.t) in
     let y : ℕ = nat_abs (read a.args.d) in
     let u : ℕ = nat_abs (read a.args.base) in
-    ones-ask a.args.starts.now _ _ _ _ _ _ _ a.requires.1 x (x + a.args.n - x) (omega arith) (starting a.before.before.before.before.before).is u (length a.args.src.now - u) (first a.before.before.before.before.before).is refl a.args.dst.now y (y + a.args.n - y) a.args.src.now (omega arith) (starting a.before.before.before.before.before).room (plain a.before.before.before.before.before).room refl
+    ones-ask a.args.starts.now _ _ _ _ _ _ _ a.requires.1 x (x + a.args.n - x) (omega arith) (starting search).is u (length a.args.src.now - u) (first search).is refl a.args.dst.now y (y + a.args.n - y) a.args.src.now (omega arith) (starting search).room (plain search).room refl
 
 same_length : tie.Need-shape_of-dst
 same_length c = search rules
@@ -101,7 +101,7 @@ returns c =
     let x : ℕ = nat_abs (read a.args.t) in
     let y : ℕ = nat_abs (read a.args.d) in
     let u : ℕ = nat_abs (read a.args.base) in
-    (part-take nan (rule_f64 R.Replace) (take (length a.args.src.now - u) (drop u a.args.src.now)) a.args.src.now a.args.dst.now _ (one_at (take (x + a.args.n - x) (drop x a.args.starts.now)) (to_z w64 a.args.limit)) (clamped_at a.args.starts.now (line a.args.t (pos 1)) a.args.base (pos 1) a.args.limit) a.args.d y a.args.n (y + a.args.n - y) (omega arith) (plain a.before.before.before.before.before.before.before.before).is (plain a.before.before.before.before.before.before.before.before).room (part-read a.args.starts.now _ _ _ _ _ _ _ a.requires.1 x (x + a.args.n - x) (omega arith) (starting a.before.before.before.before.before.before.before.before).is u (length a.args.src.now - u) (first a.before.before.before.before.before.before.before.before).is refl _ a.args.src.now) t.take_ones.ensures.0, so-counted a.args.counts a.args.counts _ _ _ refl (parts-count a.args.starts.now _ _ _ _ _ _ _ a.requires.1 x (x + a.args.n - x) (omega arith) (starting a.before.before.before.before.before.before.before.before).is u (length a.args.src.now - u) (first a.before.before.before.before.before.before.before.before).is refl a.args.dst.now y (y + a.args.n - y) _ (omega arith) (plain a.before.before.before.before.before.before.before.before).room refl) t.take_ones.ensures.1)
+    (part-take nan (rule_f64 R.Replace) (take (length a.args.src.now - u) (drop u a.args.src.now)) a.args.src.now a.args.dst.now _ (one_at (take (x + a.args.n - x) (drop x a.args.starts.now)) (to_z w64 a.args.limit)) (clamped_at a.args.starts.now (line a.args.t (pos 1)) a.args.base (pos 1) a.args.limit) a.args.d y a.args.n (y + a.args.n - y) (omega arith) (plain search).is (plain search).room (part-read a.args.starts.now _ _ _ _ _ _ _ a.requires.1 x (x + a.args.n - x) (omega arith) (starting search).is u (length a.args.src.now - u) (first search).is refl _ a.args.src.now) t.take_ones.ensures.0, so-counted a.args.counts a.args.counts _ _ _ refl (parts-count a.args.starts.now _ _ _ _ _ _ _ a.requires.1 x (x + a.args.n - x) (omega arith) (starting search).is u (length a.args.src.now - u) (first search).is refl a.args.dst.now y (y + a.args.n - y) _ (omega arith) (plain search).room refl) t.take_ones.ensures.1)
 
 pub take_row_spec : {M : Type 1} → statement M
 take_row_spec =

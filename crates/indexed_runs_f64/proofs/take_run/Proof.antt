@@ -1,7 +1,7 @@
 -- Written by tests/twins from crates/indexed_runs/proofs/take_run/Proof.antt.
 use mathlib.Core.Path.{refl}
 use borrow.Author.Rules.{rules}
-use lib.Ieee.{nan}
+use Rattle.std.specs.Float.{nan}
 use Rattle.rules.specs.Rules.{rule_f64}
 use Rattle.rules.specs.declared.RuleF64.TheVariants as R
 use Rattle.runs.proofs.Turns.{none}
@@ -43,7 +43,7 @@ returns-3 : tie.Need-returns
 returns-3 c =
     let t = c in
     let a = c in
-    (take-end nan (rule_f64 R.Replace) a.args.src.now a.args.starts.now a.args.t a.args.ts a.args.base a.args.stride a.args.d a.args.ds a.args.limit a.args.n a.args.n a.args.dst.now t.take_strided.last.1.1.1.0 a.ranges.t a.ranges.ts a.ranges.base a.ranges.stride a.ranges.d a.ranges.ds refl t.take_strided.ensures.0, so-counted a.args.counts a.args.counts _ _ _ refl (moves-end a.args.starts.now a.args.t a.args.ts a.args.n a.args.n _ a.ranges.t a.ranges.ts refl a.args.limit refl) t.take_strided.ensures.1)
+    (take-end nan (rule_f64 R.Replace) a.args.src.now a.args.starts.now a.args.t a.args.ts a.args.base a.args.stride a.args.d a.args.ds a.args.limit a.args.n a.args.n a.args.dst.now t.take_strided.new.dst a.ranges.t a.ranges.ts a.ranges.base a.ranges.stride a.ranges.d a.ranges.ds refl t.take_strided.ensures.0, so-counted a.args.counts a.args.counts _ _ _ refl (moves-end a.args.starts.now a.args.t a.args.ts a.args.n a.args.n _ a.ranges.t a.ranges.ts refl a.args.limit refl) t.take_strided.ensures.1)
 
 pub take_run_spec : {M : Type 1} → statement M
 take_run_spec =

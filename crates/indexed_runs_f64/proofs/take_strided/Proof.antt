@@ -2,7 +2,7 @@
 use mathlib.Core.Path.{refl}
 use mathlib.Core.Bool.{true, false}
 use borrow.Author.Rules.{rules}
-use lib.Ieee.{nan}
+use Rattle.std.specs.Float.{nan}
 use Rattle.rules.specs.Rules.{rule_f64}
 use Rattle.rules.specs.declared.RuleF64.TheVariants as R
 use Rattle.indexed_runs.proofs.Places.{take-end}

@@ -4,11 +4,11 @@ use mathlib.Core.Bool.{Bool, cond, ◌&&◌}
 use Prim.Native.Nat.{ℕ, ◌-◌, ◌≤◌}
 use native.Mathlib.Omega.{arith}
 use borrow.Author.Rules.{sfits_of}
-use lib.Ieee.{nan}
 use lib.ListN.{length, length-set}
 use lib.IntN.{pos, nat_abs}
 use mir.Syntax.{w64}
 use mir.Val.{to_z}
+use Rattle.std.specs.Float.{nan}
 use Rattle.indexing.specs.Loops.{in_order}
 use Rattle.indexing.specs.Slid.{how_many}
 use Rattle.indexing.specs.Counting.{many-none, many_more}
@@ -29,23 +29,20 @@ invariant-loop counts src starts dst₀ n t ts base stride limit d ds slid₀ i�
 abbrev decreases-loop : tie.decreases-loop-i
 decreases-loop counts src starts dst₀ n t ts base stride limit d ds slid₀ i₀ dst slid i = n - i
 
-abbrev start : tie.In-loop-i invariant-loop decreases-loop → tie.Start invariant-loop decreases-loop
-start d = search
+starts-at : (d : tie.In-loop-i invariant-loop decreases-loop) → Step d.args.t d.args.ts d.loop-i.i (length d.args.starts.now)
+starts-at d = let a = d in start-step _ _ _ _ _ _ _ _ _ _ _ a.requires a.ranges.t a.ranges.ts (omega (arith, a.well_formed.1.1.0.1)) _ d.loop-i-test.true
 
-starts-at : (d : tie.In-loop-i invariant-loop decreases-loop) → Step (start d).args.t (start d).args.ts d.loop-i.i (length (start d).args.starts.now)
-starts-at d = let a = start d in start-step _ _ _ _ _ _ _ _ _ _ _ a.pre a.fits.t a.fits.ts (omega (arith, a.good.1.1.0.1)) _ d.loop-i-test.true
-
-plain_at : (d : tie.In-loop-i invariant-loop decreases-loop) → Step (start d).args.d (start d).args.ds d.loop-i.i (length (start d).args.dst.now)
-plain_at d = let a = start d in plain_step _ _ _ _ _ _ _ _ _ _ _ a.pre a.fits.d a.fits.ds (omega (arith, a.good.1.1.1.0.1)) _ d.loop-i-test.true
+plain_at : (d : tie.In-loop-i invariant-loop decreases-loop) → Step d.args.d d.args.ds d.loop-i.i (length d.args.dst.now)
+plain_at d = let a = d in plain_step _ _ _ _ _ _ _ _ _ _ _ a.requires a.ranges.d a.ranges.ds (omega (arith, a.well_formed.1.1.1.0.1)) _ d.loop-i-test.true
 
 module _ (c : tie.After-clamp_window_start-y invariant-loop decreases-loop) where
-  clamped-at : Step (start c.before.before).args.base (start c.before.before).args.stride c.clamp-window-start.result.start (length (start c.before.before).args.src.now)
-  clamped-at = let a = start c.before.before in clamped-step _ _ _ _ _ _ _ _ _ _ _ a.pre a.fits.t a.fits.ts a.fits.base a.fits.stride (omega (arith, a.good.1.0.1)) _ c.before.before.loop-test.true (starts-at c.before.before) (sfits_of c.before.x.given) _ c.clamp-window-start.ensures.0
+  clamped-at : Step c.args.base c.args.stride c.clamp_window_start-y.result.start (length c.args.src.now)
+  clamped-at = let a = c in clamped-step _ _ _ _ _ _ _ _ _ _ _ a.requires a.ranges.t a.ranges.ts a.ranges.base a.ranges.stride (omega (arith, a.well_formed.1.0.1)) _ c.loop-i-test.true (starts-at search) (sfits_of c.x-1.given) _ c.clamp_window_start-y.ensures.0
 
-  -- the place is by the start
-  by-start : pos (nat_abs (machine (start c.before.before).args.base (start c.before.before).args.stride c.clamp-window-start.result.start))
-      ≡ clamped_at (start c.before.before).args.starts.now (line (read (start c.before.before).args.t) (read (start c.before.before).args.ts)) (read (start c.before.before).args.base) (read (start c.before.before).args.stride) (start c.before.before).args.limit c.before.before.before.loop.i
-  by-start = let a = start c.before.before in clamped-is a.args.starts.now a.args.t a.args.ts a.args.base a.args.stride a.args.limit _ _ _ _ (starts-at c.before.before) (sfits_of c.before.x.given) clamped-at c.clamp-window-start.ensures.0
+  -- the place is by the c
+  by-start : pos (nat_abs (machine c.args.base c.args.stride c.clamp_window_start-y.result.start))
+      ≡ clamped_at c.args.starts.now (line (read c.args.t) (read c.args.ts)) (read c.args.base) (read c.args.stride) c.args.limit c.loop-i.i
+  by-start = let a = c in clamped-is a.args.starts.now a.args.t a.args.ts a.args.base a.args.stride a.args.limit _ _ _ _ (starts-at search) (sfits_of c.x-1.given) clamped-at c.clamp_window_start-y.ensures.0
 
 loop-holds : tie.Need-loop-i-init invariant-loop decreases-loop
 loop-holds c =
@@ -55,32 +52,32 @@ loop-holds c =
 cast-k : tie.Need-overflow_cast-k invariant-loop decreases-loop
 cast-k c =
     let d = c in
-    (starts-at d).count
+    (starts-at search).count
 
 mul-p : tie.Need-overflow_mul-p invariant-loop decreases-loop
 mul-p c =
     let d = c in
-    (starts-at d).multiple
+    (starts-at search).multiple
 
 add-p : tie.Need-overflow_add-p invariant-loop decreases-loop
 add-p c =
     let d = c in
-    (starts-at d).fits
+    (starts-at search).fits
 
 cast-p : tie.Need-overflow_cast-p invariant-loop decreases-loop
 cast-p c =
     let d = c in
-    (starts-at d).cast
+    (starts-at search).cast
 
 mul-x : tie.Need-offset_bounds-starts-p invariant-loop decreases-loop
 mul-x c =
     let d = c in
-    omega (arith, (starts-at d).below, (start d).good.1.1.0.1)
+    omega (arith, (starts-at search).below, d.well_formed.1.1.0.1)
 
 shared-slice-copy-out-x : tie.Need-bounds-starts-p invariant-loop decreases-loop
 shared-slice-copy-out-x c =
     let d = c in
-    (starts-at d).below
+    (starts-at search).below
 
 clamp-window-start-requires : tie.Need-clamp_window_start-y-requires invariant-loop decreases-loop
 clamp-window-start-requires c κs = tt
@@ -88,65 +85,65 @@ clamp-window-start-requires c κs = tt
 cast-c : tie.Need-overflow_cast-c invariant-loop decreases-loop
 cast-c c =
     let k = c in
-    (clamped-at k).count
+    (clamped-at search).count
 
 mul-a : tie.Need-overflow_mul-a invariant-loop decreases-loop
 mul-a c =
     let k = c in
-    (clamped-at k).multiple
+    (clamped-at search).multiple
 
 add_a : tie.Need-overflow_add-a invariant-loop decreases-loop
 add_a c =
     let k = c in
-    (clamped-at k).fits
+    (clamped-at search).fits
 
 cast-a : tie.Need-overflow_cast-a invariant-loop decreases-loop
 cast-a c =
     let k = c in
-    (clamped-at k).cast
+    (clamped-at search).cast
 
 mul-b : tie.Need-overflow_mul-b invariant-loop decreases-loop
 mul-b c =
     let d = c in
-    (plain_at d.before.before.before).multiple
+    (plain_at search).multiple
 
 add-b : tie.Need-overflow_add-b invariant-loop decreases-loop
 add-b c =
     let d = c in
-    (plain_at d.before.before.before).fits
+    (plain_at search).fits
 
 cast-b : tie.Need-overflow_cast-b invariant-loop decreases-loop
 cast-b c =
     let d = c in
-    (plain_at d.before.before.before).cast
+    (plain_at search).cast
 
 mul-dst : tie.Need-offset_bounds-src-a invariant-loop decreases-loop
 mul-dst c =
     let d = c in
     let k = c in
-    omega (arith, (clamped-at k).below, (start d).good.1.0.1)
+    omega (arith, (clamped-at search).below, d.well_formed.1.0.1)
 
-shared-slice-read-dst : tie.Need-bounds-src-a invariant-loop decreases-loop
-shared-slice-read-dst c =
+shared-slice-copy-out-dst : tie.Need-bounds-src-a invariant-loop decreases-loop
+shared-slice-copy-out-dst c =
     let l = c in
-    (clamped-at l).below
+    (clamped-at search).below
 
-mul-dst-2 : tie.Need-offset_bounds-dst-b invariant-loop decreases-loop
-mul-dst-2 c =
+mul-t32 : tie.Need-offset_bounds-dst-b invariant-loop decreases-loop
+mul-t32 c =
     let d = c in
-    omega (arith, (plain_at d.before.before.before.before).below, (start d).good.1.1.1.0.1)
+    omega (arith, (plain_at search).below, d.well_formed.1.1.1.0.1)
 
-slice-write-dst : tie.Need-bounds-dst-b invariant-loop decreases-loop
-slice-write-dst c =
+slice-set-from-dst : tie.Need-bounds-dst-b invariant-loop decreases-loop
+slice-set-from-dst c =
     let d = c in
     let h = c in
-    omega (arith, (plain_at d.before.before.before.before).below, h.loop-i.invariant.1)
+    omega (arith, (plain_at search).below, h.loop-i.invariant.1)
 
 add-slid : tie.Need-overflow_add-slid invariant-loop decreases-loop
 add-slid c =
     let q = c in
     let h = c in
-    let a = start q.before.before in
+    let a = q in
     omega (arith, one_below h.loop-i.i _ _ _ (a.args.counts && q.clamp_window_start-y.result.moved) h.loop-i.invariant.3 (one-counts a.args.counts _ _ _ c.count_if-one.ensures c.count_if-more.ensures))
 
 add-i : tie.Need-overflow_add-i invariant-loop decreases-loop
@@ -158,15 +155,15 @@ loop-less c = omega arith
 loop-again : tie.Need-loop-i-preserved invariant-loop decreases-loop
 loop-again c =
     let q = c in
-    let d = q.before.before in
-    let h = d.before in
-    let a = start d in (
+    let d = q in
+    let h = d in
+    let a = d in (
       omega arith,
-      length-set h.loop.dst _ _ ∙ h.loop.inv.1,
-      cell-more nan (rule_f64 R.Replace) a.args.src.now (clamped_at a.args.starts.now (line (read a.args.t) (read a.args.ts)) (read a.args.base) (read a.args.stride) a.args.limit) (line (read a.args.d) (read a.args.ds)) a.args.dst.now h.loop.dst h.loop.i (nat_abs (machine a.args.base a.args.stride q.clamp_window_start-y.result.start)) (nat_abs (machine a.args.d a.args.ds h.loop.i)) _ h.loop.inv.2 (by-start q) (plain_at d).index_is refl,
-      many_more h.loop.i (λ k. a.args.counts && moves_at a.args.starts.now (line (read a.args.t) (read a.args.ts)) a.args.limit k) _ _ (a.args.counts && q.clamp_window_start-y.result.moved) h.loop.inv.3
+      length-set h.loop-i.dst _ _ ∙ h.loop-i.invariant.1,
+      cell-more nan (rule_f64 R.Replace) a.args.src.now (clamped_at a.args.starts.now (line (read a.args.t) (read a.args.ts)) (read a.args.base) (read a.args.stride) a.args.limit) (line (read a.args.d) (read a.args.ds)) a.args.dst.now h.loop-i.dst h.loop-i.i (nat_abs (machine a.args.base a.args.stride q.clamp_window_start-y.result.start)) (nat_abs (machine a.args.d a.args.ds h.loop-i.i)) _ h.loop-i.invariant.2 (by-start search) (plain_at search).index_is refl,
+      many_more h.loop-i.i (λ k. a.args.counts && moves_at a.args.starts.now (line (read a.args.t) (read a.args.ts)) a.args.limit k) _ _ (a.args.counts && q.clamp_window_start-y.result.moved) h.loop-i.invariant.3
           (one-counts a.args.counts _ _ _ c.count_if-one.ensures c.count_if-more.ensures)
-          (ap (λ (b : Bool). a.args.counts && b) (moves-is a.args.starts.now _ _ a.args.limit _ _ (starts-at d) (sfits_of q.x-1.given) _ q.clamp_window_start-y.ensures.1)),
+          (ap (λ (b : Bool). a.args.counts && b) (moves-is a.args.starts.now _ _ a.args.limit _ _ (starts-at search) (sfits_of q.x-1.given) _ q.clamp_window_start-y.ensures.1)),
     )
 
 same_length : tie.Need-shape_of-dst invariant-loop decreases-loop
@@ -204,9 +201,9 @@ take_strided_by_spec =
     add-b
     cast-b
     mul-dst
-    shared-slice-read-dst
-    mul-dst-2
-    slice-write-dst
+    shared-slice-copy-out-dst
+    mul-t32
+    slice-set-from-dst
     (λ c κs. tt)
     (λ c κs. tt)
     add-slid

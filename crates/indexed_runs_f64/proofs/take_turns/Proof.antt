@@ -4,10 +4,10 @@ use mathlib.Core.Bool.{cond, ◌&&◌}
 use mathlib.Core.List.{List}
 use Prim.Native.Nat.{ℕ, ◌+◌, ◌*◌, ◌-◌, ◌≤◌}
 use native.Mathlib.Omega.{arith}
-use lib.Ieee.{Float, nan}
 use lib.ListN.{length}
 use lib.IntN.{pos, nat_abs}
 use mir.Syntax.{w64}
+use Rattle.std.specs.Float.{Float, nan}
 use Rattle.integer.specs.Z.{only, known, zfacts}
 use mir.Val.{to_z}
 use Rattle.indexing.specs.Loops.{in_order}
@@ -33,14 +33,11 @@ abbrev decreases-loop : tie.decreases-loop-left
 decreases-loop counts src starts dst₀ limit over turns width slid₀ i₀ left₀ dst slid i left = left
 
 module _ (d : tie.In-loop-left invariant-loop decreases-loop) where
-  abbrev start : tie.Start invariant-loop decreases-loop
-  start = search
-
   -- the turn, and those that are left after it
-  turn : d.before.loop.i + start.args.width + start.args.width * (d.before.loop.left - 1) ≡ length start.args.starts.now
-  turn = turn-left d.before.loop.i start.args.width d.before.loop.left (length start.args.starts.now) d.before.loop.inv.0 d.loop-test.taken
+  turn : d.loop-left.i + d.args.width + d.args.width * (d.loop-left.left - 1) ≡ length d.args.starts.now
+  turn = turn-left d.loop-left.i d.args.width d.loop-left.left (length d.args.starts.now) d.loop-left.invariant.0 d.loop-left-test.true
 
-  fits : d.before.loop.i + start.args.width ≤ length start.args.starts.now
+  fits : d.loop-left.i + d.args.width ≤ length d.args.starts.now
   fits = omega (arith, turn)
 
 returns : tie.Need-returns-then-limit-lt0 invariant-loop decreases-loop
@@ -60,22 +57,22 @@ loop-holds c =
     (a.requires.0 ∙ sym a.requires.1.each, refl, (λ x e. e), many-first a.args.over (λ k. a.args.counts && moves_at a.args.starts.now pos (nat_abs (read a.args.limit)) k) _ f.take_few-slid.ensures.1)
 
 add-e : tie.Need-overflow_add-e invariant-loop decreases-loop
-add-e c = omega (arith, fits c, (start c).well-formed.1.1.0.1)
+add-e c = omega (arith, fits search, c.well_formed.1.1.0.1)
 
 take-few-requires-2 : tie.Need-take_few-few-requires invariant-loop decreases-loop
 take-few-requires-2 c κs =
     let d = c in
     let h = c in
     let f = c in
-    let k = h.loop-left.invariant.1 ∙ f.take_few-slid.kept.1.1.1.0 in
-    (omega arith, omega (arith, fits d, (start d).pre.1.each, k), ones-left _ _ _ _ _ _ (start d).fits.limit (start d).pre.1 k refl)
+    let k = h.loop-left.invariant.1 ∙ f.take_few-slid.auto.dst in
+    (omega arith, omega (arith, fits search, d.requires.1.each, k), ones-left _ _ _ _ _ _ d.ranges.limit d.requires.1 k refl)
 
 add-slid : tie.Need-overflow_add-slid invariant-loop decreases-loop
 add-slid c =
     let p = c in
     let d = c in
     let h = c in
-    omega (arith, few-below h.loop-left.i (h.loop-left.i + (start d).args.width) _ _ _ _ (omega arith) h.loop-left.invariant.3 p.take_few-few.ensures.1, fits d, (start d).good.1.1.0.1)
+    omega (arith, few-below h.loop-left.i (h.loop-left.i + d.args.width) _ _ _ _ (omega arith) h.loop-left.invariant.3 p.take_few-few.ensures.1, fits search, d.well_formed.1.1.0.1)
 
 sub-left : tie.Need-overflow_sub-left invariant-loop decreases-loop
 sub-left c = let d = c in omega (arith, d.loop-left-test.true)
@@ -88,9 +85,9 @@ loop-again c =
     let p = c in
     let d = c in
     let h = c in
-    let a = start d in (
-      turn d,
-      p.take_few-few.kept.1.1.1.0 ∙ h.loop-left.invariant.1,
+    let a = d in (
+      turn search,
+      p.take_few-few.auto.dst ∙ h.loop-left.invariant.1,
       λ x e. turns-on (cell_at nan (rule_f64 R.Replace) a.args.src.now (one_at a.args.starts.now (read a.args.limit)) pos) h.loop-left.i (h.loop-left.i + a.args.width) x h.loop-left.dst _ (omega arith) (h.loop-left.invariant.2 x e) p.take_few-few.ensures.0,
       many-on h.loop-left.i (h.loop-left.i + a.args.width) (λ k. a.args.counts && moves_at a.args.starts.now pos (nat_abs (read a.args.limit)) k) _ _ (omega arith) h.loop-left.invariant.3 p.take_few-few.ensures.1,
     )
@@ -98,18 +95,18 @@ loop-again c =
 same_length : tie.Need-shape_of-dst invariant-loop decreases-loop
 same_length c =
     let f = c in
-    c.loop-left.invariant.1 ∙ f.take_few-slid.kept.1.1.1.0
+    c.loop-left.invariant.1 ∙ f.take_few-slid.auto.dst
 
 returns-2 : tie.Need-returns invariant-loop decreases-loop
 returns-2 c =
     let f = c in
     let h = c in
     let a = c in (
-      take-ones-end nan (rule_f64 R.Replace) a.args.src.now a.args.starts.now a.args.limit h.loop-left.i _ a.args.dst.now h.loop-left.dst a.ranges.limit (none_left h.loop-left.i a.args.width h.loop-left.false _ (h.loop-left.invariant.0 ∙ a.requires.1.each) (omega (arith, c.loop-left-test.false)))
+      take-ones-end nan (rule_f64 R.Replace) a.args.src.now a.args.starts.now a.args.limit h.loop-left.i _ a.args.dst.now h.loop-left.dst a.ranges.limit (none_left h.loop-left.i a.args.width h.loop-left.left _ (h.loop-left.invariant.0 ∙ a.requires.1.each) (omega (arith, c.loop-left-test.false)))
           (h.loop-left.invariant.2 a.args.dst.now (turns-on (cell_at nan (rule_f64 R.Replace) a.args.src.now (one_at a.args.starts.now (read a.args.limit)) pos) 0 _ a.args.dst.now a.args.dst.now _ (omega arith) (none _ 0 a.args.dst.now refl) f.take_few-slid.ensures.0)),
       h.loop-left.invariant.3
           ∙ all-or-none a.args.counts h.loop-left.i (moves_at a.args.starts.now pos (nat_abs (read a.args.limit)))
-          ∙ ap (λ (m : ℕ). cond a.args.counts m 0) (ones-count a.args.starts.now a.args.limit h.loop-left.i _ _ a.ranges.limit (none_left h.loop-left.i a.args.width h.loop-left.false _ (h.loop-left.invariant.0 ∙ a.requires.1.each) (omega (arith, c.loop-left-test.false))) refl),
+          ∙ ap (λ (m : ℕ). cond a.args.counts m 0) (ones-count a.args.starts.now a.args.limit h.loop-left.i _ _ a.ranges.limit (none_left h.loop-left.i a.args.width h.loop-left.left _ (h.loop-left.invariant.0 ∙ a.requires.1.each) (omega (arith, c.loop-left-test.false))) refl),
     )
 
 pub take_turns_spec : {M : Type 1} → statement M
