@@ -50,7 +50,7 @@ loop-again c =
     let d = c in
     let l = c in
     let s = c in
-    let f : ℕ → ℕ = entry s.args.offset-dims.now s.args.extents in
+    let f : ℕ → ℕ = entry s.args.offset_dims.now s.args.extents in
     let h = d.loop-a-test.true in
     let n = length-tabulate rank_limit f in (
       omega (arith, h),
@@ -62,7 +62,7 @@ returns : tie.Need-returns invariant-loop decreases-loop
 returns c =
     let l = c in
     let s = c in
-    let f : ℕ → ℕ = entry s.args.offset-dims.now s.args.extents in
+    let f : ℕ → ℕ = entry s.args.offset_dims.now s.args.extents in
     let n = length-tabulate rank_limit f in
     l.loop-a.invariant.1 ∙ all-written 1 (tabulate rank_limit f) l.loop-a.a (omega (arith, n, c.loop-a-test.false)) (omega (arith, n)) ∙ full 1 (tabulate rank_limit f) n
 

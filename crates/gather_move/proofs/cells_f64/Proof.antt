@@ -32,10 +32,10 @@ add-end : tie.Need-overflow_add-end
 add-end c = let s = c in omega (arith, high-in s.args.p s.args.low s.args.high (length s.args.source.now) s.args.starts.now (length s.args.into.now) s.requires, dest-room s.before.before)
 
 cast-from : tie.Need-overflow_cast-from
-cast-from c = let s = c in low_fits s.args.p s.args.low s.args.high (length s.args.source.now) s.args.starts.now (length s.args.into.now) s.requires (dest-room s.before.before)
+cast-from c = let s = c in low_fits s.args.p s.args.low s.args.high (length s.args.source.now) s.args.starts.now (length s.args.into.now) s.requires (dest-room search)
 
 sub_at : tie.Need-overflow_sub-at
-sub_at c = let s = c in sub-fits s.args.p s.args.low s.args.high (length s.args.source.now) s.args.starts.now (length s.args.into.now) s.requires (dest-fits s.before.before.before.before) (dest-room s.before.before.before.before)
+sub_at c = let s = c in sub-fits s.args.p s.args.low s.args.high (length s.args.source.now) s.args.starts.now (length s.args.into.now) s.requires (dest-fits search) (dest-room search)
 
 mul-run-f64 : tie.Need-offset_bounds-into-low
 mul-run-f64 c = let s = c in omega (arith, low-high s.args.p s.args.low s.args.high (length s.args.source.now) s.args.starts.now (length s.args.into.now) s.requires, high-in s.args.p s.args.low s.args.high (length s.args.source.now) s.args.starts.now (length s.args.into.now) s.requires, s.well_formed.1.1.1.0.1)
@@ -54,8 +54,8 @@ run-f64-requires c κs =
     let s = c in
     let w = s.args.p.numbers in (
       subst (Gathering s.args.starts.now w.offsets w.strides w.limits w.count s.args.p.operand s.args.p.index (read (read s.args.p.dest -ℤ to_z w64 s.args.low)) w.extents w.window_steps w.batch_steps w.dest_steps w.rank (length s.args.source.now))
-          (sym (part_length s.before.before.before.before.before))
-          (part-asks s.args.p s.args.low s.args.high (length s.args.source.now) s.args.starts.now (length s.args.into.now) s.requires _ refl _ (place_is s.args.p s.args.low s.args.high (length s.args.source.now) s.args.starts.now (length s.args.into.now) s.requires (dest-fits s.before.before.before.before.before) (dest-room s.before.before.before.before.before)) (starts-room s.before.before.before.before.before)),
+          (sym (part_length search))
+          (part-asks s.args.p s.args.low s.args.high (length s.args.source.now) s.args.starts.now (length s.args.into.now) s.requires _ refl _ (place_is s.args.p s.args.low s.args.high (length s.args.source.now) s.args.starts.now (length s.args.into.now) s.requires (dest-fits search) (dest-room search)) (starts-room search)),
       part-batched s.args.p s.args.low s.args.high (length s.args.source.now) s.args.starts.now (length s.args.into.now) s.requires,
     )
 
@@ -66,7 +66,7 @@ returns : tie.Need-returns
 returns c =
     let q = c in
     let s = c in
-    λ k. (part-leaves s.args.p s.args.low s.args.high (length s.args.source.now) s.args.starts.now (length s.args.into.now) k _ refl _ (place_is s.args.p s.args.low s.args.high (length s.args.source.now) s.args.starts.now (length s.args.into.now) k (dest-fits s.before.before.before.before.before.before.before.before) (dest-room s.before.before.before.before.before.before.before.before)) nan (rule_f64 F.Replace) (λ x u. refl) s.args.source.now s.args.into.now refl _ q.run_f64.ensures.0, part-slid s.args.p s.args.low s.args.high (length s.args.source.now) s.args.starts.now (length s.args.into.now) k _ q.run_f64.ensures.1)
+    λ k. (part-leaves s.args.p s.args.low s.args.high (length s.args.source.now) s.args.starts.now (length s.args.into.now) k _ refl _ (place_is s.args.p s.args.low s.args.high (length s.args.source.now) s.args.starts.now (length s.args.into.now) k (dest-fits search) (dest-room search)) nan (rule_f64 F.Replace) (λ x u. refl) s.args.source.now s.args.into.now refl _ q.run_f64.ensures.0, part-slid s.args.p s.args.low s.args.high (length s.args.source.now) s.args.starts.now (length s.args.into.now) k _ q.run_f64.ensures.1)
 
 pub cells_f64_spec : {M : Type 1} → statement M
 cells_f64_spec =

@@ -22,7 +22,7 @@ bases s = (search rules, search rules)
 gather-window-requires : tie.Need-gather_window-requires
 gather-window-requires c κs =
     let s = c in
-    (simp (back (bases s.before.before.before.before.before.before.before.before.before.before.before.before.before.before.before.before.before.before.before.before.before.before).0, back (bases s.before.before.before.before.before.before.before.before.before.before.before.before.before.before.before.before.before.before.before.before.before.before).1, back s.ranges.at) s.requires.0, s.requires.1)
+    (simp (back (bases search).0, back (bases search).1, back s.ranges.at) s.requires.0, s.requires.1)
 
 same_length : tie.Need-shape_of-into
 same_length c = search rules
@@ -32,7 +32,7 @@ returns c =
     let g = c in
     let s = c in
     let w = s.args.p.numbers in
-    (back_end nan (rule_f64 F.Replace) s.args.source.now s.args.starts.now w.offsets w.strides w.limits w.count s.args.p.operand s.args.p.index s.args.at w.extents w.window_steps w.batch_steps w.dest_steps w.rank s.args.into.now _ (bases s.before.before.before.before.before.before.before.before.before.before.before.before.before.before.before.before.before.before.before.before.before.before.before.before.before).0 (bases s.before.before.before.before.before.before.before.before.before.before.before.before.before.before.before.before.before.before.before.before.before.before.before.before.before).1 s.ranges.at g.gather_window.ensures.0, g.gather_window.ensures.1 ∙ ap (λ (z : ℤ). slid_of (product (take w.rank w.extents)) (starts_moved s.args.starts.now w.offsets w.limits w.count (product (take w.rank w.batch_extents)) (place_at z w.batch_extents w.batch_steps w.rank))) (back (bases s.before.before.before.before.before.before.before.before.before.before.before.before.before.before.before.before.before.before.before.before.before.before.before.before.before).1))
+    (back_end nan (rule_f64 F.Replace) s.args.source.now s.args.starts.now w.offsets w.strides w.limits w.count s.args.p.operand s.args.p.index s.args.at w.extents w.window_steps w.batch_steps w.dest_steps w.rank s.args.into.now _ (bases search).0 (bases search).1 s.ranges.at g.gather_window.ensures.0, g.gather_window.ensures.1 ∙ ap (λ (z : ℤ). slid_of (product (take w.rank w.extents)) (starts_moved s.args.starts.now w.offsets w.limits w.count (product (take w.rank w.batch_extents)) (place_at z w.batch_extents w.batch_steps w.rank))) (back (bases search).1))
 
 pub run_f64_spec : {M : Type 1} → statement M
 run_f64_spec = tie.close (tie.spec gather-window-requires same_length returns)
