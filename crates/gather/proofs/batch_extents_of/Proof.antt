@@ -23,7 +23,7 @@ part-batch-extents-end : tie.Need-slice_bounds-batch_extents-end
 part-batch-extents-end c =
     let n = c in
     let s = c in
-    part-fits n.axis_count-n.result s.args.dims.count s.args.dims.entries n.axis_count-n.ensures (held s.before.before)
+    part-fits n.axis_count-n.result s.args.dims.count s.args.dims.entries n.axis_count-n.ensures (held search)
 
 returns : tie.Need-returns
 returns c =
@@ -31,7 +31,7 @@ returns c =
     let n = c in
     let s = c in
     b.batch_extents.ensures
-    ∙ ap (λ (l : List ℕ). tabulate rank_limit (λ a. cond (has l a) 1 (get_or s.args.extents a 0))) (part-read n.axis_count-n.result s.args.dims.count s.args.dims.entries n.axis_count-n.ensures (held s.before.before.before.before))
+    ∙ ap (λ (l : List ℕ). tabulate rank_limit (λ a. cond (has l a) 1 (get_or s.args.extents a 0))) (part-read n.axis_count-n.result s.args.dims.count s.args.dims.entries n.axis_count-n.ensures (held search))
 
 pub batch_extents_of_spec : {M : Type 1} → statement M
 batch_extents_of_spec = tie.close (tie.spec (λ c κs. tt) sub-batch-extents part-batch-extents-start part-batch-extents-end (λ c κs. tt) returns)

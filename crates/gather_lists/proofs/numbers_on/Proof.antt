@@ -15,23 +15,12 @@ use Rattle.gather_lists.proofs.Lent.{numbers-are}
 use Rattle.gather_lists.proofs.numbers_on.Statement.{statement}
 use Rattle.gather_lists.proofs.numbers_on.Tie as tie
 
-abbrev start : tie.After-stride_at-stride → tie.Start
-start v = search
-
 returns : tie.Need-returns
 returns c =
-    let d = c in
-    let b = c in
-    let e = c in
-    let u = c in
-    let l = c in
-    let k = c in
-    let o = c in
-    let v = c in
-    let s = start v in
-    let f : SFits w64 v.stride_at-stride.result = search rules in
-    let q = o.index_component_offsets-index_component_offsets.ensures ∙ ap (λ (z : ℤ). held_steps (tabulate (min (length s.args.start-index-map.now) rank_limit) (offset_or z))) (back f ∙ v.stride_at-stride.ensures) in
-    numbers-are (gather_from s.args.operand-extents.now s.args.operand-strides.now s.args.index-extents.now s.args.index-strides.now s.args.dest-extents.now s.args.dest-strides.now s.args.offset-dims.now s.args.collapsed-slice-dims.now s.args.start-index-map.now s.args.index-vector-dim s.args.slice-sizes.now) s.args.window s.args.batch s.pre _ _ _ _ _ _ _ q k.strides_on-strides.ensures l.limits_on-limits.ensures u.unless_none-stepped.ensures e.padded_extents-extents.ensures b.batch_extents-batch_extents.ensures d.padded_strides-dest_steps.ensures
+    let s = c in
+    let f : SFits w64 c.stride_at-stride.result = search rules in
+    let q = c.index_component_offsets-index_component_offsets.ensures ∙ ap (λ (z : ℤ). held_steps (tabulate (min (length s.args.start_index_map.now) rank_limit) (offset_or z))) (back f ∙ c.stride_at-stride.ensures) in
+    numbers-are (gather_from s.args.operand_extents.now s.args.operand_strides.now s.args.index_extents.now s.args.index_strides.now s.args.dest_extents.now s.args.dest_strides.now s.args.offset_dims.now s.args.collapsed_slice_dims.now s.args.start_index_map.now s.args.index_vector_dim s.args.slice_sizes.now) s.args.window s.args.batch c.requires _ _ _ _ _ _ _ q c.strides_on-strides.ensures c.limits_on-limits.ensures c.unless_none-stepped.ensures c.padded_extents-extents.ensures c.batch_extents-batch_extents.ensures c.padded_strides-dest_steps.ensures
 
 pub numbers_on_spec : {M : Type 1} → statement M
 numbers_on_spec =

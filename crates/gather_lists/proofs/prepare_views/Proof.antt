@@ -10,12 +10,12 @@ use Rattle.gather_lists.proofs.prepare_views.Tie as tie
 returns : tie.Need-returns-then-same
 returns c =
     let s = c in
-    same-views (gather_from s.args.operand-extents.now s.args.operand-strides.now s.args.index-extents.now s.args.index-strides.now s.args.dest-extents.now s.args.dest-strides.now s.args.offset-dims.now s.args.collapsed-slice-dims.now s.args.start-index-map.now s.args.index-vector-dim s.args.slice-sizes.now) (view_with s.args.operand-view-extents.now s.args.operand-view-strides.now s.args.operand-offset) (view_with s.args.index-view-extents.now s.args.index-view-strides.now s.args.index-offset) (view_with s.args.dest-view-extents.now s.args.dest-view-strides.now s.args.dest-offset) s.args.operand-len s.args.starts-len s.args.dest-len _ (c.both-same.ensures ∙ ap₂ ◌&&◌ c.same_view-first.ensures (c.both.ensures ∙ ap₂ ◌&&◌ c.same_view-second.ensures c.same_view-third.ensures)) c.if-same.true (simp (back s.ranges.operand-offset, back s.ranges.index-offset, back s.ranges.dest-offset) at c.prepare.ensures)
+    same-views (gather_from s.args.operand_extents.now s.args.operand_strides.now s.args.index_extents.now s.args.index_strides.now s.args.dest_extents.now s.args.dest_strides.now s.args.offset_dims.now s.args.collapsed_slice_dims.now s.args.start_index_map.now s.args.index_vector_dim s.args.slice_sizes.now) (view_with s.args.operand_view_extents.now s.args.operand_view_strides.now s.args.operand_offset) (view_with s.args.index_view_extents.now s.args.index_view_strides.now s.args.index_offset) (view_with s.args.dest_view_extents.now s.args.dest_view_strides.now s.args.dest_offset) s.args.operand_len s.args.starts_len s.args.dest_len _ (c.both-same.ensures ∙ ap₂ ◌&&◌ c.same_view-first.ensures (c.both.ensures ∙ ap₂ ◌&&◌ c.same_view-second.ensures c.same_view-third.ensures)) c.if-same.true (simp (back s.ranges.operand_offset, back s.ranges.index_offset, back s.ranges.dest_offset) at c.prepare.ensures)
 
 returns-2 : tie.Need-returns
 returns-2 c =
     let s = c in
-    other-views (gather_from s.args.operand-extents.now s.args.operand-strides.now s.args.index-extents.now s.args.index-strides.now s.args.dest-extents.now s.args.dest-strides.now s.args.offset-dims.now s.args.collapsed-slice-dims.now s.args.start-index-map.now s.args.index-vector-dim s.args.slice-sizes.now) (view_with s.args.operand-view-extents.now s.args.operand-view-strides.now s.args.operand-offset) (view_with s.args.index-view-extents.now s.args.index-view-strides.now s.args.index-offset) (view_with s.args.dest-view-extents.now s.args.dest-view-strides.now s.args.dest-offset) s.args.operand-len s.args.starts-len s.args.dest-len _ (c.both-same.ensures ∙ ap₂ ◌&&◌ c.same_view-first.ensures (c.both.ensures ∙ ap₂ ◌&&◌ c.same_view-second.ensures c.same_view-third.ensures)) c.if-same.false c.gather_refusal-refusal.ensures c.or_else-answer.ensures c.refused.ensures
+    other-views (gather_from s.args.operand_extents.now s.args.operand_strides.now s.args.index_extents.now s.args.index_strides.now s.args.dest_extents.now s.args.dest_strides.now s.args.offset_dims.now s.args.collapsed_slice_dims.now s.args.start_index_map.now s.args.index_vector_dim s.args.slice_sizes.now) (view_with s.args.operand_view_extents.now s.args.operand_view_strides.now s.args.operand_offset) (view_with s.args.index_view_extents.now s.args.index_view_strides.now s.args.index_offset) (view_with s.args.dest_view_extents.now s.args.dest_view_strides.now s.args.dest_offset) s.args.operand_len s.args.starts_len s.args.dest_len _ (c.both-same.ensures ∙ ap₂ ◌&&◌ c.same_view-first.ensures (c.both.ensures ∙ ap₂ ◌&&◌ c.same_view-second.ensures c.same_view-third.ensures)) c.if-same.false c.gather_refusal-refusal.ensures c.or_else-answer.ensures c.refused.ensures
 
 pub prepare_views_spec : {M : Type 1} → statement M
 prepare_views_spec =
