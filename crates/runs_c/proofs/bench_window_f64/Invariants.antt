@@ -1,0 +1,13 @@
+-- Written by tests/twins from crates/runs_c/proofs/bench_window_i32/Invariants.antt.
+use Rattle.std.proofs.Common.{◌≡◌, ◌-◌, ◌≤◌}
+use Rattle.std.specs.Float.{nan}
+use Rattle.indexing.specs.Loops.{in_order}
+use Rattle.rules.specs.Rules.{rule_f64}
+use Rattle.windows.specs.Windows.{windowed}
+use Rattle.runs_c.proofs.bench_window_f64.Given as goal
+
+abbrev pub invariant-loop-i : goal.invariant-loop-i
+invariant-loop-i l = (l.i ≤ l.times) × (l.dst ≡ in_order (λ _ x. windowed nan (rule_f64 l.rule) l.src l.s l.d l.extents l.ss l.ds l.rank x) l.i l.fn.dst)
+
+abbrev pub decreases-loop-i : goal.decreases-loop-i
+decreases-loop-i l = l.times - l.i

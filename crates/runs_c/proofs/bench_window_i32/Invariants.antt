@@ -1,0 +1,11 @@
+use Rattle.std.proofs.Common.{◌≡◌, ◌-◌, ◌≤◌, pos}
+use Rattle.indexing.specs.Loops.{in_order}
+use Rattle.rules.specs.Rules.{rule_i32}
+use Rattle.windows.specs.Windows.{windowed}
+use Rattle.runs_c.proofs.bench_window_i32.Given as goal
+
+abbrev pub invariant-loop-i : goal.invariant-loop-i
+invariant-loop-i l = (l.i ≤ l.times) × (l.dst ≡ in_order (λ _ x. windowed (pos 0) (rule_i32 l.rule) l.src l.s l.d l.extents l.ss l.ds l.rank x) l.i l.fn.dst)
+
+abbrev pub decreases-loop-i : goal.decreases-loop-i
+decreases-loop-i l = l.times - l.i
