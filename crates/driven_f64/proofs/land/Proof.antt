@@ -2,8 +2,8 @@
 use Prim.Native.Nat.{◌<◌, ◌^◌}
 use native.Mathlib.Omega.{arith}
 use borrow.Author.Rules.{rules}
-use lib.Ieee.{nan}
 use lib.ListN.{length}
+use Rattle.std.specs.Float.{nan}
 use Rattle.rules.specs.Rules.{rule_f64}
 use Rattle.driven.proofs.Landed.{start-asks, window-asks, window-end, flag-end}
 use Rattle.driven_f64.proofs.land.Statement.{statement}
@@ -15,13 +15,13 @@ dst-room a = omega (arith, a.well_formed.1.1.1.0.1)
 started-requires : tie.Need-started-m-requires
 started-requires c κs =
     let a = c in
-    start-asks _ _ _ _ _ _ _ _ _ _ _ _ _ _ _ a.requires a.ranges.t a.ranges.u a.ranges.d (dst-room a.before.before)
+    start-asks _ _ _ _ _ _ _ _ _ _ _ _ _ _ _ a.requires a.ranges.t a.ranges.u a.ranges.d (dst-room search)
 
 axes-requires : tie.Need-axes-requires
 axes-requires c κs =
     let s = c in
     let a = c in
-    window-asks _ _ _ _ _ _ _ _ _ _ _ _ _ _ _ a.requires a.ranges.t a.ranges.u a.ranges.d (dst-room a.before.before.before.before.before) _ s.started-m.ensures.0
+    window-asks _ _ _ _ _ _ _ _ _ _ _ _ _ _ _ a.requires a.ranges.t a.ranges.u a.ranges.d (dst-room search) _ s.started-m.ensures.0
 
 same_length : tie.Need-shape_of-dst
 same_length c = search rules
@@ -32,7 +32,7 @@ returns c =
     let x = c in
     let n = c in
     let a = c in (
-      window-end _ _ _ _ _ _ _ _ _ _ _ _ _ _ _ a.requires a.ranges.t a.ranges.u a.ranges.d (dst-room a.before.before.before.before.before.before.before.before.before) _ s.started-m.ensures.0 nan (rule_f64 a.args.rule) a.args.src.now a.args.dst.now _ x.axes.ensures,
+      window-end _ _ _ _ _ _ _ _ _ _ _ _ _ _ _ a.requires a.ranges.t a.ranges.u a.ranges.d (dst-room search) _ s.started-m.ensures.0 nan (rule_f64 a.args.rule) a.args.src.now a.args.dst.now _ x.axes.ensures,
       flag-end a.args.starts.now a.args.offsets.now a.args.limits.now a.args.count a.args.t a.ranges.t _ _ s.started-m.ensures.1 n.count_if.ensures,
     )
 

@@ -4,11 +4,11 @@ use mathlib.Core.Bool.{Bool}
 use Prim.Native.Nat.{ℕ, ◌-◌, ◌≤◌}
 use native.Mathlib.Omega.{arith}
 use borrow.Author.Rules.{rules}
-use lib.Ieee.{nan}
 use lib.IntN.{ℤ}
 use lib.ListN.{length}
 use mir.Syntax.{w64}
 use mir.Val.{to_z}
+use Rattle.std.specs.Float.{nan}
 use Rattle.indexing.specs.Loops.{in_order}
 use Rattle.indexing.specs.Counting.{many-none}
 use Rattle.layout.specs.Layouts.{rank_limit}
@@ -54,21 +54,21 @@ start-requires c κs = tt
 loop-holds : tie.Need-loop-b-init invariant-loop decreases-loop
 loop-holds c =
     let s = c in
-    let a = c in (omega arith, refl, begun (Asked a) _ _ _ _ _ _ _ a.requires a.ranges.t a.ranges.u a.ranges.d (shape-full a) (rows-full a) _ s.start-state.ensures, none _ 0 _ refl, many-none 0 _ refl)
+    let a = c in (omega arith, refl, begun (Asked search) _ _ _ _ _ _ _ a.requires a.ranges.t a.ranges.u a.ranges.d (shape-full search) (rows-full search) _ s.start-state.ensures, none _ 0 _ refl, many-none 0 _ refl)
 
 land-requires : tie.Need-land-one-requires invariant-loop decreases-loop
 land-requires c κs =
     let g = c in
-    let h = g.before in
+    let h = g in
     let a = c in
-    subst (λ (m : ℕ). Landing a.args.starts.now a.args.offsets.now a.args.strides.now a.args.limits.now a.args.count (read a.args.d) a.args.wextents.now a.args.ws.now a.args.ds.now a.args.low a.args.wrank (length a.args.src.now) m (read h.loop.state.source_offset) (read h.loop.state.dest_offset)) (sym h.loop.inv.1)
-    (body-asks (Asked a) _ _ _ _ _ _ _ a.requires a.ranges.t a.ranges.u a.ranges.d (shape-full a) (rows-full a) h.loop.b h.loop.state h.loop.inv.2 g.loop-b-test.true)
+    subst (λ (m : ℕ). Landing a.args.starts.now a.args.offsets.now a.args.strides.now a.args.limits.now a.args.count (read a.args.d) a.args.wextents.now a.args.ws.now a.args.ds.now a.args.low a.args.wrank (length a.args.src.now) m (read h.loop-b.state.source_offset) (read h.loop-b.state.dest_offset)) (sym h.loop-b.invariant.1)
+    (body-asks (Asked search) _ _ _ _ _ _ _ a.requires a.ranges.t a.ranges.u a.ranges.d (shape-full search) (rows-full search) h.loop-b.b h.loop-b.state h.loop-b.invariant.2 g.loop-b-test.true)
 
 moved-requires : tie.Need-moved-state-requires invariant-loop decreases-loop
 moved-requires c κs =
     let h = c in
     let a = c in
-    step-asks (Asked a) _ _ _ _ _ _ _ a.requires a.ranges.t a.ranges.u a.ranges.d (shape-full a) (rows-full a) h.loop-b.b h.loop-b.state h.loop-b.invariant.2
+    step-asks (Asked search) _ _ _ _ _ _ _ a.requires a.ranges.t a.ranges.u a.ranges.d (shape-full search) (rows-full search) h.loop-b.b h.loop-b.state h.loop-b.invariant.2
 
 add-slid : tie.Need-overflow_add-slid invariant-loop decreases-loop
 add-slid c =
@@ -76,7 +76,7 @@ add-slid c =
     let l = c in
     let h = c in
     let a = c in
-    omega (arith, one_below h.loop-b.b _ _ _ (flag a (read h.loop-b.state.source_offset)) h.loop-b.invariant.4 l.land-one.ensures.1, g.loop-b-test.true)
+    omega (arith, one_below h.loop-b.b _ _ _ (flag (search) (read h.loop-b.state.source_offset)) h.loop-b.invariant.4 l.land-one.ensures.1, g.loop-b-test.true)
 
 add-b : tie.Need-overflow_add-b invariant-loop decreases-loop
 add-b c = omega arith
@@ -92,10 +92,10 @@ loop-again c =
     let h = c in
     let a = c in (
       omega (arith, d.loop-b-test.true),
-      l.land-one.kept.1.1.1.0 ∙ h.loop-b.invariant.1,
-      step_gives (Asked a) _ _ _ _ _ _ _ a.requires a.ranges.t a.ranges.u a.ranges.d (shape-full a) (rows-full a) h.loop-b.b h.loop-b.state h.loop-b.invariant.2 _ m.moved-state.ensures,
-      body-gives (Asked a) _ _ _ _ _ _ _ a.requires a.ranges.t a.ranges.u a.ranges.d (shape-full a) (rows-full a) (land nan (rule_f64 a.args.rule) a.args.src.now a.args.starts.now a.args.offsets.now a.args.strides.now a.args.limits.now a.args.count a.args.wextents.now a.args.ws.now a.args.ds.now a.args.wrank) h.loop-b.b h.loop-b.state h.loop-b.invariant.2 a.args.dst.now h.loop-b.dst _ h.loop-b.invariant.3 l.land-one.ensures.0,
-      body-counts (Asked a) _ _ _ _ _ _ _ a.requires a.ranges.t a.ranges.u a.ranges.d (shape-full a) (rows-full a) (flag a) h.loop-b.b h.loop-b.state h.loop-b.invariant.2 _ _ h.loop-b.invariant.4 l.land-one.ensures.1,
+      l.land-one.auto.dst ∙ h.loop-b.invariant.1,
+      step_gives (Asked search) _ _ _ _ _ _ _ a.requires a.ranges.t a.ranges.u a.ranges.d (shape-full search) (rows-full search) h.loop-b.b h.loop-b.state h.loop-b.invariant.2 _ m.moved-state.ensures,
+      body-gives (Asked search) _ _ _ _ _ _ _ a.requires a.ranges.t a.ranges.u a.ranges.d (shape-full search) (rows-full search) (land nan (rule_f64 a.args.rule) a.args.src.now a.args.starts.now a.args.offsets.now a.args.strides.now a.args.limits.now a.args.count a.args.wextents.now a.args.ws.now a.args.ds.now a.args.wrank) h.loop-b.b h.loop-b.state h.loop-b.invariant.2 a.args.dst.now h.loop-b.dst _ h.loop-b.invariant.3 l.land-one.ensures.0,
+      body-counts (Asked search) _ _ _ _ _ _ _ a.requires a.ranges.t a.ranges.u a.ranges.d (shape-full search) (rows-full search) (flag search) h.loop-b.b h.loop-b.state h.loop-b.invariant.2 _ _ h.loop-b.invariant.4 l.land-one.ensures.1,
     )
 
 same_length : tie.Need-shape_of-dst invariant-loop decreases-loop
@@ -105,8 +105,8 @@ returns : tie.Need-returns invariant-loop decreases-loop
 returns c =
     let h = c in
     let a = c in (
-      ended (Asked a) _ _ _ _ _ _ _ a.requires a.ranges.t a.ranges.u a.ranges.d (shape-full a) (rows-full a) (land nan (rule_f64 a.args.rule) a.args.src.now a.args.starts.now a.args.offsets.now a.args.strides.now a.args.limits.now a.args.count a.args.wextents.now a.args.ws.now a.args.ds.now a.args.wrank) h.loop-b.b a.args.dst.now h.loop-b.dst (omega arith) h.loop-b.invariant.3,
-      ended-count (Asked a) _ _ _ _ _ _ _ a.requires a.ranges.t a.ranges.u a.ranges.d (shape-full a) (rows-full a) (flag a) h.loop-b.b _ (omega arith) h.loop-b.invariant.4,
+      ended (Asked search) _ _ _ _ _ _ _ a.requires a.ranges.t a.ranges.u a.ranges.d (shape-full search) (rows-full search) (land nan (rule_f64 a.args.rule) a.args.src.now a.args.starts.now a.args.offsets.now a.args.strides.now a.args.limits.now a.args.count a.args.wextents.now a.args.ws.now a.args.ds.now a.args.wrank) h.loop-b.b a.args.dst.now h.loop-b.dst (omega arith) h.loop-b.invariant.3,
+      ended-count (Asked search) _ _ _ _ _ _ _ a.requires a.ranges.t a.ranges.u a.ranges.d (shape-full search) (rows-full search) (flag search) h.loop-b.b _ (omega arith) h.loop-b.invariant.4,
     )
 
 pub scatter_driven_spec : {M : Type 1} → statement M

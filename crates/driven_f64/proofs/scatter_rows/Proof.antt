@@ -2,8 +2,8 @@
 use mathlib.Core.Path.{sym, ◌∙◌}
 use Prim.Native.Nat.{◌<◌, ◌^◌}
 use native.Mathlib.Omega.{arith}
-use lib.Ieee.{nan}
 use lib.ListN.{take}
+use Rattle.std.specs.Float.{nan}
 use Rattle.layout.specs.Laws.{no_cells, some-cells}
 use Rattle.indexing.specs.Coordinates.{product}
 use Rattle.indexing.specs.Odometer.{AllPos}
@@ -23,23 +23,20 @@ use Rattle.driven_f64.proofs.scatter_rows.Tie as tie
 
 -- where both tests for zeros have failed
 module _ (o : tie.After-one_cell) where
-  abbrev start : tie.Start
-  start = search
-
-  batches : AllPos (take start.args.brank start.args.bextents.now)
+  batches : AllPos (take o.args.brank o.args.bextents.now)
   batches =
       let z : tie.After-has_zero = search in
       let e : tie.Else-has_zero = search in
-      some-cells (take start.args.brank start.args.bextents.now) (sym z.has-zero.ensures ∙ e.if1.left)
+      some-cells (take o.args.brank o.args.bextents.now) (sym z.has_zero.ensures ∙ e.if-has_zero.false)
 
-  cells : AllPos (take start.args.wrank start.args.wextents.now)
+  cells : AllPos (take o.args.wrank o.args.wextents.now)
   cells =
       let z : tie.After-has_zero-2 = search in
       let e : tie.Else-has_zero-2 = search in
-      some-cells (take start.args.wrank start.args.wextents.now) (sym z.has-zero2.ensures ∙ e.if2.left)
+      some-cells (take o.args.wrank o.args.wextents.now) (sym z.has_zero-2.ensures ∙ e.if-has_zero-2.false)
 
-  few : product (take start.args.brank start.args.bextents.now) < 2 ^ 64
-  few = omega (arith, start.pre.1.whole, start.fits.batches)
+  few : product (take o.args.brank o.args.bextents.now) < 2 ^ 64
+  few = omega (arith, o.requires.1.whole, o.ranges.batches)
 
 returns : tie.Need-returns-then-has_zero
 returns c =
@@ -65,8 +62,8 @@ one-cell-requires c κs = search rules
 scatter-each-requires : tie.Need-scatter_each-requires
 scatter-each-requires c κs =
     let o = c in
-    let a = start o in
-    each-asks _ _ _ _ _ _ _ _ _ _ _ _ _ _ _ _ _ _ a.pre.0 (few o) (batches o) (cells o) a.fits.t a.fits.u a.fits.d
+    let a = o in
+    each-asks _ _ _ _ _ _ _ _ _ _ _ _ _ _ _ _ _ _ a.requires.0 (few search) (batches search) (cells search) a.ranges.t a.ranges.u a.ranges.d
 
 same_length : tie.Need-shape_of-dst-then-one_cell
 same_length c = search rules
@@ -76,25 +73,25 @@ returns-3 c =
     let o = c in
     let t = c in
     let e = c in
-    let a = start o in (
-      each-end _ _ _ _ _ _ _ _ _ _ _ _ _ _ _ _ _ _ a.pre.0 (few o) (batches o) (cells o) a.fits.t a.fits.u a.fits.d nan (rule_f64 a.args.rule) a.args.src.now a.args.dst.now _ (o.one_cell.ensures.yes t.if-one_cell.true) e.scatter_each.ensures.0,
-      counted_back (λ x. start_moved a.args.starts.now a.args.offsets.now a.args.limits.now x a.args.count) a.args.bextents.now a.args.ts.now a.args.t a.args.brank _ a.fits.t e.scatter_each.ensures.1
-          ∙ slid-some _ _ (product-pos (take a.args.wrank a.args.wextents.now) (cells o)),
+    let a = o in (
+      each-end _ _ _ _ _ _ _ _ _ _ _ _ _ _ _ _ _ _ a.requires.0 (few search) (batches search) (cells search) a.ranges.t a.ranges.u a.ranges.d nan (rule_f64 a.args.rule) a.args.src.now a.args.dst.now _ (o.one_cell.ensures.yes t.if-one_cell.true) e.scatter_each.ensures.0,
+      counted_back (λ x. start_moved a.args.starts.now a.args.offsets.now a.args.limits.now x a.args.count) a.args.bextents.now a.args.ts.now a.args.t a.args.brank _ a.ranges.t e.scatter_each.ensures.1
+          ∙ slid-some _ _ (product-pos (take a.args.wrank a.args.wextents.now) (cells search)),
     )
 
 run-axis-requires : tie.Need-run_axis-low-requires
 run-axis-requires c κs =
     let o = c in
-    let a = start o in
-    (not_none a.args.wextents.now a.args.wrank (o.one_cell.ensures.no c.if-one_cell.false), a.pre.0.window-small)
+    let a = o in
+    (not_none a.args.wextents.now a.args.wrank (o.one_cell.ensures.no c.if-one_cell.false), a.requires.0.window-small)
 
 scatter-driven-requires : tie.Need-scatter_driven-requires
 scatter-driven-requires c κs =
     let o = c in
     let r = c in
-    let a = start o in
-    rows-drive _ _ _ _ _ _ _ _ _ _ _ _ _ _ _ _ _ _ (rowed-back _ _ _ _ _ _ _ _ _ _ _ a.fits.t a.fits.u a.pre.1) _ _ _ (cells o)
-    (axes-asks _ _ _ _ _ _ _ _ _ _ _ _ _ _ _ _ _ _ a.pre.0 (few o) (batches o) (cells o) a.fits.t a.fits.u a.fits.d r.run_axis-low.result r.run_axis-low.ensures.below r.run_axis-low.ensures.units)
+    let a = o in
+    rows-drive _ _ _ _ _ _ _ _ _ _ _ _ _ _ _ _ _ _ (rowed-back _ _ _ _ _ _ _ _ _ _ _ a.ranges.t a.ranges.u a.requires.1) _ _ _ (cells search)
+    (axes-asks _ _ _ _ _ _ _ _ _ _ _ _ _ _ _ _ _ _ a.requires.0 (few search) (batches search) (cells search) a.ranges.t a.ranges.u a.ranges.d r.run_axis-low.result r.run_axis-low.ensures.below r.run_axis-low.ensures.units)
 
 same-length-2 : tie.Need-shape_of-dst
 same-length-2 c = search rules
@@ -103,12 +100,12 @@ returns-4 : tie.Need-returns
 returns-4 c =
     let o = c in
     let s = c in
-    let a = start o in (
-      axes-end _ _ _ _ _ _ _ _ _ _ _ _ _ _ _ _ _ _ a.pre.0 (few o) (batches o) (cells o) a.fits.t a.fits.u a.fits.d nan (rule_f64 a.args.rule) a.args.src.now a.args.dst.now _
-          (s.scatter_driven.ensures.0 ∙ rows-leave a.args.starts.now a.args.offsets.now a.args.strides.now a.args.limits.now _ _ (read a.args.d) _ _ _ _ _ _ _ a.args.wextents.now a.args.ws.now a.args.ds.now a.args.wrank (rowed-back _ _ _ _ _ _ _ _ _ _ _ a.fits.t a.fits.u a.pre.1) nan (rule_f64 a.args.rule) a.args.src.now a.args.dst.now),
-      counted_back (λ x. start_moved a.args.starts.now a.args.offsets.now a.args.limits.now x a.args.count) a.args.bextents.now a.args.ts.now a.args.t a.args.brank _ a.fits.t
-          (s.scatter_driven.ensures.1 ∙ rows-count a.args.starts.now a.args.offsets.now a.args.strides.now a.args.limits.now _ _ (read a.args.d) _ _ _ _ _ _ _ a.args.wextents.now a.args.ws.now a.args.ds.now a.args.wrank (rowed-back _ _ _ _ _ _ _ _ _ _ _ a.fits.t a.fits.u a.pre.1))
-          ∙ slid-some _ _ (product-pos (take a.args.wrank a.args.wextents.now) (cells o)),
+    let a = o in (
+      axes-end _ _ _ _ _ _ _ _ _ _ _ _ _ _ _ _ _ _ a.requires.0 (few search) (batches search) (cells search) a.ranges.t a.ranges.u a.ranges.d nan (rule_f64 a.args.rule) a.args.src.now a.args.dst.now _
+          (s.scatter_driven.ensures.0 ∙ rows-leave a.args.starts.now a.args.offsets.now a.args.strides.now a.args.limits.now _ _ (read a.args.d) _ _ _ _ _ _ _ a.args.wextents.now a.args.ws.now a.args.ds.now a.args.wrank (rowed-back _ _ _ _ _ _ _ _ _ _ _ a.ranges.t a.ranges.u a.requires.1) nan (rule_f64 a.args.rule) a.args.src.now a.args.dst.now),
+      counted_back (λ x. start_moved a.args.starts.now a.args.offsets.now a.args.limits.now x a.args.count) a.args.bextents.now a.args.ts.now a.args.t a.args.brank _ a.ranges.t
+          (s.scatter_driven.ensures.1 ∙ rows-count a.args.starts.now a.args.offsets.now a.args.strides.now a.args.limits.now _ _ (read a.args.d) _ _ _ _ _ _ _ a.args.wextents.now a.args.ws.now a.args.ds.now a.args.wrank (rowed-back _ _ _ _ _ _ _ _ _ _ _ a.ranges.t a.ranges.u a.requires.1))
+          ∙ slid-some _ _ (product-pos (take a.args.wrank a.args.wextents.now) (cells search)),
     )
 
 pub scatter_rows_spec : {M : Type 1} → statement M

@@ -1,5 +1,5 @@
 -- Written by tests/twins from crates/scatter_windows/proofs/scatter_each/Proof.antt.
-use lib.Ieee.{nan}
+use Rattle.std.specs.Float.{nan}
 use Rattle.rules.specs.Rules.{rule_f64}
 use Rattle.indexed_runs.specs.IndexedRuns.{start_moved}
 use Rattle.scatter_windows.proofs.Counted.{counted-one, counted_back}

@@ -2,7 +2,7 @@
 use mathlib.Core.Path.{refl}
 use native.Mathlib.Omega.{arith}
 use borrow.Author.Rules.{rules, sfits_of}
-use lib.Ieee.{nan}
+use Rattle.std.specs.Float.{nan}
 use Rattle.indexing.specs.Counting.{many-none}
 use Rattle.rules.specs.Rules.{rule_f64}
 use Rattle.runs.specs.Runs.{line}
