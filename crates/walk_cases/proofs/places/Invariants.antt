@@ -1,4 +1,4 @@
-use Rattle.std.proofs.Common.{◌≡◌, ◌≤◌, ◌-◌}
+use Rattle.std.proofs.Common.{◌≡◌, ◌-◌}
 use Rattle.walk.specs.Walks.{state_at}
 use Rattle.walk_cases.proofs.places.Given as goal
 
