@@ -1,5 +1,5 @@
 -- A job by value that is not refused: what is stored of it is a job that was made, and has the same bytes. Assumes nothing.
-use mathlib.Core.Path.{◌≡◌, refl, sym, ap, ap₂, ◌∙◌}
+use mathlib.Core.Path.{◌≡◌, refl, sym, ap, ◌∙◌}
 use mathlib.Core.Bool.{true}
 use mathlib.Core.List.{List, [], ◌∷◌, ◌++◌, map}
 use Prim.Native.Nat.{ℕ, zero, suc, ◌≤◌, min}
@@ -9,7 +9,7 @@ use lib.Seq.{length-take-le}
 use lib.IntN.{ℤ}
 use Rattle.layout.specs.declared.View.{View}
 use Rattle.layout.specs.Answers.{is_done}
-use Rattle.layout.specs.Layouts.{rank_limit, extents_of, strides_of}
+use Rattle.layout.specs.Layouts.{extents_of, strides_of}
 use Rattle.job_bytes.specs.Fields.{bytes_of, words_of, word_of}
 use Rattle.job_bytes.specs.Version.{stored_rank_limit, list_limit, stored-held}
 use Rattle.job_bytes.specs.Below.{AllFit, fit_none, fit-more}
@@ -19,7 +19,7 @@ use Rattle.job.specs.declared.Kind.TheVariants as K
 use Rattle.job.specs.declared.List16.{List16}
 use Rattle.job.specs.declared.Job.{Job}
 use Rattle.job.specs.Jobs.{held_list, entries_of, stored_sizes, job_refusal}
-use Rattle.job.specs.Format.{view_bytes, list_bytes, sizes_bytes, spec_bytes, views_bytes, body_bytes, encoded, job_at}
+use Rattle.job.specs.Format.{view_bytes, list_bytes, sizes_bytes, spec_bytes, views_bytes, body_bytes, encoded}
 use Rattle.job.specs.Made.{MadeView, MadeList, MadeSizes, Made, stored_view, stored_job, ViewValue, ListValue, JobValue}
 use Rattle.job.proofs.PartsBack.{list-bytes, view-bytes}
 use Rattle.job.proofs.Making.{Counted, counted}

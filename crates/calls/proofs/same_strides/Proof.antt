@@ -4,7 +4,6 @@ use Prim.Native.Nat.{◌-◌, ◌≤◌, zero-le}
 use native.Mathlib.Numerals.{add-one}
 use native.Mathlib.Omega.{arith}
 use borrow.Author.Rules.{rules}
-use borrow.Author.Tests.{not-true, not-false}
 use lib.ListN.{length, take, get_or}
 use lib.Seq.{take-suc, take_all}
 use lib.IntN.{ℤ, pos}

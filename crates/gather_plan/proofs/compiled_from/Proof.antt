@@ -1,5 +1,4 @@
 use mathlib.Core.Path.{sym, ◌∙◌}
-use borrow.Author.Tests.{not-true, not-false}
 use Rattle.gather_plan.proofs.Compiled.{compiled-refused, compiled-done}
 use Rattle.gather_plan.proofs.compiled_from.Statement.{statement}
 use Rattle.gather_plan.proofs.compiled_from.Tie as tie

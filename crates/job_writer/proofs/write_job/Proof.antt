@@ -1,5 +1,4 @@
 use mathlib.Core.Path.{sym, ◌∙◌}
-use borrow.Author.Tests.{not-true, not-false}
 use Rattle.job_writer.proofs.Parts.{refused-whole, put_whole}
 use borrow.Author.Rules.{rules}
 use Rattle.job_writer.proofs.write_job.Statement.{statement}
