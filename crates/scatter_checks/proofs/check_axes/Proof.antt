@@ -18,24 +18,24 @@ use Rattle.scatter_checks.proofs.check_axes.Tie as tie
 
 -- the scatter of the arguments
 abbrev asked : tie.Start → Scatter
-asked s = scatter_from s.args.index-extents.now s.args.index-strides.now s.args.updates-extents.now s.args.updates-strides.now s.args.dest-extents.now s.args.dest-strides.now s.args.window.now s.args.inserted.now s.args.map.now s.args.vector
+asked s = scatter_from s.args.index_extents.now s.args.index_strides.now s.args.updates_extents.now s.args.updates_strides.now s.args.dest_extents.now s.args.dest_strides.now s.args.window.now s.args.inserted.now s.args.map.now s.args.vector
 
-counts : (c : tie.After-check_counts-b) → c.check_counts-b.result ≡ counts_refusal (asked c.before.before.before.before.before.before.before.before.before.before.before).indices.extents (asked c.before.before.before.before.before.before.before.before.before.before.before).updates.extents (asked c.before.before.before.before.before.before.before.before.before.before.before).result.extents c.args.window.now c.args.inserted.now c.args.vector
+counts : (c : tie.After-check_counts-b) → c.check_counts-b.result ≡ counts_refusal (asked search).indices.extents (asked search).updates.extents (asked search).result.extents c.args.window.now c.args.inserted.now c.args.vector
 unfolding window_dims
 counts c =
-    let s = c in
+    let s : tie.Start = search in
     let w : ℕ = length s.args.window.now in
-    let n : ℕ = length s.args.updates-extents.now in
+    let n : ℕ = length s.args.updates_extents.now in
     c.check_counts-b.ensures
     ∙ ap₂ (λ (j k : ℕ). or_else (same_count w j) (or_else (count_at_most w n) (or_else (same_count (n - w) k) (unique_axes n [] s.args.window.now)))) (ap length s.requires.kept) (start-count (asked s) _ _ _ s.requires)
 
-batches : (c : tie.After-check_batch-c) → c.check_batch-c.result ≡ batch_refusal (asked c.before.before.before.before.before.before.before.before.before.before.before.before).indices.extents (asked c.before.before.before.before.before.before.before.before.before.before.before.before).updates.extents c.args.window.now c.args.vector
+batches : (c : tie.After-check_batch-c) → c.check_batch-c.result ≡ batch_refusal (asked search).indices.extents (asked search).updates.extents c.args.window.now c.args.vector
 unfolding scatter_dims
 batches c =
-    let s = c in
-    let n : ℕ = length s.args.updates-extents.now in
+    let s : tie.Start = search in
+    let n : ℕ = length s.args.updates_extents.now in
     c.check_batch-c.ensures
-    ∙ ap₂ (λ (xs ys : List ℕ). cond (same_list (pick 0 xs s.args.updates-extents.now) ys) A.Done (A.ShapeMismatch n n)) s.requires.batches (start-extents (asked s) _ _ _ s.requires)
+    ∙ ap₂ (λ (xs ys : List ℕ). cond (same_list (pick 0 xs s.args.updates_extents.now) ys) A.Done (A.ShapeMismatch n n)) s.requires.batches (start-extents (asked s) _ _ _ s.requires)
 
 check-counts-requires : tie.Need-check_counts-b-requires
 check-counts-requires c κs = search rules
@@ -43,7 +43,7 @@ check-counts-requires c κs = search rules
 returns : tie.Need-returns
 returns c =
     c.or_else-2.ensures ∙ ap₂ or_else c.check_lists-a.ensures
-    (c.or_else.ensures ∙ ap₂ or_else (counts c.before.before.before) (batches c.before.before))
+    (c.or_else.ensures ∙ ap₂ or_else (counts search) (batches search))
 
 pub check_axes_spec : {M : Type 1} → statement M
 check_axes_spec =

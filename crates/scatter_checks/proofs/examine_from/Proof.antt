@@ -10,7 +10,7 @@ use Rattle.scatter_checks.proofs.examine_from.Tie as tie
 
 -- the scatter of the arguments
 abbrev asked : tie.Start → Scatter
-asked s = scatter_from s.args.index-extents.now s.args.index-strides.now s.args.updates-extents.now s.args.updates-strides.now s.args.dest-extents.now s.args.dest-strides.now s.args.update-window-dims.now s.args.inserted-window-dims.now s.args.scatter-dims-to-operand-dims.now s.args.index-vector-dim
+asked s = scatter_from s.args.index_extents.now s.args.index_strides.now s.args.updates_extents.now s.args.updates_strides.now s.args.dest_extents.now s.args.dest_strides.now s.args.update_window_dims.now s.args.inserted_window_dims.now s.args.scatter_dims_to_operand_dims.now s.args.index_vector_dim
 
 slice-aggregate-other-axes : tie.Need-slice_bounds-other_axes-end
 slice-aggregate-other-axes c = search rules
@@ -22,7 +22,7 @@ part-examine-axes-start : tie.Need-slice_bounds-examine_axes-start
 part-examine-axes-start c = search rules
 
 part-examine-axes-end : tie.Need-slice_bounds-examine_axes-end
-part-examine-axes-end c = let s = c in others-few (length s.args.dest-extents.now) s.args.inserted-window-dims.now c.other_axes-others.result (fitting (asked s) s.requires).dest-few c.other_axes-others.ensures
+part-examine-axes-end c = let s : tie.Start = search in others-few (length s.args.dest_extents.now) s.args.inserted_window_dims.now c.other_axes-others.result (fitting (asked s) s.requires).dest-few c.other_axes-others.ensures
 
 sub-examine-axes-2 : tie.Need-slice_bounds-examine_axes-count-2
 sub-examine-axes-2 c = search rules
@@ -31,7 +31,7 @@ part-examine-axes-start-2 : tie.Need-slice_bounds-examine_axes-start-2
 part-examine-axes-start-2 c = search rules
 
 part-examine-axes-end-2 : tie.Need-slice_bounds-examine_axes-end-2
-part-examine-axes-end-2 c = let s = c in others-few (length s.args.updates-extents.now) s.args.update-window-dims.now c.other_axes-apart.result (fitting (asked s) s.requires).updates-few c.other_axes-apart.ensures
+part-examine-axes-end-2 c = let s : tie.Start = search in others-few (length s.args.updates_extents.now) s.args.update_window_dims.now c.other_axes-apart.result (fitting (asked s) s.requires).updates-few c.other_axes-apart.ensures
 
 sub-examine-axes-3 : tie.Need-slice_bounds-examine_axes-count-3
 sub-examine-axes-3 c = search rules
@@ -40,18 +40,18 @@ part-examine-axes-start-3 : tie.Need-slice_bounds-examine_axes-start-3
 part-examine-axes-start-3 c = search rules
 
 part-examine-axes-end-3 : tie.Need-slice_bounds-examine_axes-end-3
-part-examine-axes-end-3 c = let s = c in others-few (length s.args.index-extents.now) (s.args.index-vector-dim ∷ []) c.other_axes-rest.result (fitting (asked s) s.requires).index-few c.other_axes-rest.ensures
+part-examine-axes-end-3 c = let s : tie.Start = search in others-few (length s.args.index_extents.now) (s.args.index_vector_dim ∷ []) c.other_axes-rest.result (fitting (asked s) s.requires).index-few c.other_axes-rest.ensures
 
 examine-axes-requires : tie.Need-examine_axes-requires
 unfolding window_dims scatter_dims
 examine-axes-requires c κs =
-    let s = c in
+    let s : tie.Start = search in
     let f = fitting (asked s) s.requires in
     record {
       sizes = s.requires;
-      kept = others-part (length s.args.dest-extents.now) s.args.inserted-window-dims.now c.other_axes-others.result f.dest-few c.other_axes-others.ensures;
-      batches = others-part (length s.args.updates-extents.now) s.args.update-window-dims.now c.other_axes-apart.result f.updates-few c.other_axes-apart.ensures;
-      starts = others-part (length s.args.index-extents.now) (s.args.index-vector-dim ∷ []) c.other_axes-rest.result f.index-few c.other_axes-rest.ensures;
+      kept = others-part (length s.args.dest_extents.now) s.args.inserted_window_dims.now c.other_axes-others.result f.dest-few c.other_axes-others.ensures;
+      batches = others-part (length s.args.updates_extents.now) s.args.update_window_dims.now c.other_axes-apart.result f.updates-few c.other_axes-apart.ensures;
+      starts = others-part (length s.args.index_extents.now) (s.args.index_vector_dim ∷ []) c.other_axes-rest.result f.index-few c.other_axes-rest.ensures;
     }
 
 returns : tie.Need-returns

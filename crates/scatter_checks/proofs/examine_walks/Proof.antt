@@ -14,41 +14,41 @@ use Rattle.scatter_checks.proofs.examine_walks.Tie as tie
 
 -- the scatter of the arguments
 abbrev asked : tie.Start → Scatter
-asked s = scatter_from s.args.index-extents.now s.args.index-strides.now s.args.updates-extents.now s.args.updates-strides.now s.args.dest-extents.now s.args.dest-strides.now s.args.window.now s.args.inserted.now s.args.map.now s.args.vector
+asked s = scatter_from s.args.index_extents.now s.args.index_strides.now s.args.updates_extents.now s.args.updates_strides.now s.args.dest_extents.now s.args.dest_strides.now s.args.window.now s.args.inserted.now s.args.map.now s.args.vector
 
-from-batch : (c : tie.After-walk_along-batches) → c.walk_along-batches.result ≡ batch_walk (asked c.before.before.before.before.before.before.before.before.before.before.before.before.before)
-from-batch c = let s = c in batch-walk (asked s) _ _ _ s.requires.listed c.walk_along-batches.result c.walk_along-batches.ensures
+from-batch : (c : tie.After-walk_along-batches) → c.walk_along-batches.result ≡ batch_walk (asked search)
+from-batch c = let s : tie.Start = search in batch-walk (asked s) _ _ _ s.requires.listed c.walk_along-batches.result c.walk_along-batches.ensures
 
-from_cell : (c : tie.After-walk_along-cells) → c.walk_along-cells.result ≡ window_walk (asked c.before.before.before.before.before.before.before.before.before.before.before.before.before.before)
-from_cell c = let s = c in window-walk (asked s) _ _ _ s.requires.listed c.walk_along-cells.result c.walk_along-cells.ensures
+from_cell : (c : tie.After-walk_along-cells) → c.walk_along-cells.result ≡ window_walk (asked search)
+from_cell c = let s : tie.Start = search in window-walk (asked s) _ _ _ s.requires.listed c.walk_along-cells.result c.walk_along-cells.ensures
 
-offsets : (c : tie.After-check_components-f) → c.check_components-f.result ≡ first_of (offset_fits (get_or c.args.index-strides.now c.args.vector (pos 0))) (length c.args.map.now) 0
+offsets : (c : tie.After-check_components-f) → c.check_components-f.result ≡ first_of (offset_fits (get_or c.args.index_strides.now c.args.vector (pos 0))) (length c.args.map.now) 0
 offsets c =
-    let s = c in
+    let s : tie.Start = search in
     let f : SFits w64 c.stride_at-stride.result = search rules in
     c.check_components-f.ensures ∙ ap (λ (z : ℤ). first_of (offset_fits z) (length s.args.map.now) 0) (back f ∙ c.stride_at-stride.ensures)
 
 check-windows-requires : tie.Need-check_windows-a-requires
-check-windows-requires c κs = let s = c in (sym (same-window (asked s) _ _ _ s.requires.listed s.requires.counted), (fits (asked s) _ _ _ s.requires.listed).dest-few)
+check-windows-requires c κs = let s : tie.Start = search in (sym (same-window (asked s) _ _ _ s.requires.listed s.requires.counted), (fits (asked s) _ _ _ s.requires.listed).dest-few)
 
 check-product-requires : tie.Need-check_product-b-requires
-check-product-requires c κs = let s = c in batch-few (asked s) _ _ _ s.requires.listed
+check-product-requires c κs = let s : tie.Start = search in batch-few (asked s) _ _ _ s.requires.listed
 
 check-product-requires-2 : tie.Need-check_product-c-requires
-check-product-requires-2 c κs = let s = c in window-few (asked s) _ _ _ s.requires.listed s.requires.counted
+check-product-requires-2 c κs = let s : tie.Start = search in window-few (asked s) _ _ _ s.requires.listed s.requires.counted
 
 walk-along-requires : tie.Need-walk_along-batches-requires
-walk-along-requires c κs = let s = c in (batch-few (asked s) _ _ _ s.requires.listed, same-batch (asked s) _ _ _ s.requires.listed s.requires.counted, refl)
+walk-along-requires c κs = let s : tie.Start = search in (batch-few (asked s) _ _ _ s.requires.listed, same-batch (asked s) _ _ _ s.requires.listed s.requires.counted, refl)
 
 walk-along-requires-2 : tie.Need-walk_along-cells-requires
-walk-along-requires-2 c κs = let s = c in (window-few (asked s) _ _ _ s.requires.listed s.requires.counted, refl, same-window (asked s) _ _ _ s.requires.listed s.requires.counted)
+walk-along-requires-2 c κs = let s : tie.Start = search in (window-few (asked s) _ _ _ s.requires.listed s.requires.counted, refl, same-window (asked s) _ _ _ s.requires.listed s.requires.counted)
 
 returns : tie.Need-returns
 unfolding window_shape
 returns c =
-    let s = c in
+    let s : tie.Start = search in
     walks-are (asked s) c.check_windows-a.result c.check_product-b.result c.check_product-c.result c.check_components-f.result c.or_else.result c.or_else-walks.result c.or_else-2.result c.or_else-3.result c.or_else-answer.result c.walk_along-batches.result c.walk_along-cells.result
-    (c.check_windows-a.ensures ∙ windows-are (asked s) _ _ _ s.requires.listed) (c.check_product-b.ensures ∙ batch-total (asked s) _ _ _ s.requires.listed) c.check_product-c.ensures (from-batch c.before.before.before.before.before.before.before.before) (from_cell c.before.before.before.before.before.before.before) (offsets c.before.before.before.before.before)
+    (c.check_windows-a.ensures ∙ windows-are (asked s) _ _ _ s.requires.listed) (c.check_product-b.ensures ∙ batch-total (asked s) _ _ _ s.requires.listed) c.check_product-c.ensures (from-batch search) (from_cell search) (offsets search)
     c.or_else.ensures c.or_else-walks.ensures c.or_else-2.ensures c.or_else-3.ensures c.or_else-answer.ensures
 
 pub examine_walks_spec : {M : Type 1} → statement M
