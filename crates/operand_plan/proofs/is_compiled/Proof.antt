@@ -19,7 +19,7 @@ returns c =
     let b = c in
     c.both-2.ensures
     ∙ ap₂ ◌&&◌ (d.is_done-done.ensures ∙ ap is_done z.sizes_of-sizes.ensures) (b.both.ensures ∙ ap₂ ◌&&◌ (m.same_layout-same.ensures ∙ ap (λ (l : Layout). same_layout s.args.plan.operand l) h.held_again-fresh.ensures) r.is_compiled-rest.ensures)
-    ∙ tests-are s.args.plan s.args.batch-rows s.args.window-rows
+    ∙ tests-are s.args.plan s.args.batch_rows s.args.window_rows
 
 pub is_compiled_spec : {M : Type 1} → statement M
 is_compiled_spec =

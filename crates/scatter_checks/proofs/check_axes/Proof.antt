@@ -20,7 +20,7 @@ use Rattle.scatter_checks.proofs.check_axes.Tie as tie
 abbrev asked : tie.Start → Scatter
 asked s = scatter_from s.args.index_extents.now s.args.index_strides.now s.args.updates_extents.now s.args.updates_strides.now s.args.dest_extents.now s.args.dest_strides.now s.args.window.now s.args.inserted.now s.args.map.now s.args.vector
 
-counts : (c : tie.After-check_counts-b) → c.check_counts-b.result ≡ counts_refusal (asked search).indices.extents (asked search).updates.extents (asked search).result.extents c.args.window.now c.args.inserted.now c.args.vector
+counts : (c : tie.After-check_counts-b) → c.check_counts-b.result ≡ counts_refusal (asked c.before.before.before.before.before.before.before.before.before.before.before).indices.extents (asked c.before.before.before.before.before.before.before.before.before.before.before).updates.extents (asked c.before.before.before.before.before.before.before.before.before.before.before).result.extents c.args.window.now c.args.inserted.now c.args.vector
 unfolding window_dims
 counts c =
     let s : tie.Start = search in
@@ -29,7 +29,7 @@ counts c =
     c.check_counts-b.ensures
     ∙ ap₂ (λ (j k : ℕ). or_else (same_count w j) (or_else (count_at_most w n) (or_else (same_count (n - w) k) (unique_axes n [] s.args.window.now)))) (ap length s.requires.kept) (start-count (asked s) _ _ _ s.requires)
 
-batches : (c : tie.After-check_batch-c) → c.check_batch-c.result ≡ batch_refusal (asked search).indices.extents (asked search).updates.extents c.args.window.now c.args.vector
+batches : (c : tie.After-check_batch-c) → c.check_batch-c.result ≡ batch_refusal (asked c.before.before.before.before.before.before.before.before.before.before.before.before).indices.extents (asked c.before.before.before.before.before.before.before.before.before.before.before.before).updates.extents c.args.window.now c.args.vector
 unfolding scatter_dims
 batches c =
     let s : tie.Start = search in

@@ -19,7 +19,7 @@ check-axes-requires : tie.Need-check_axes-axes-requires
 check-axes-requires c κs = search rules
 
 -- what was answered before the walks
-before-walks : (c : tie.After-or_else-answer) → c.or_else-answer.result ≡ or_else c.args.four (axes_refusal (asked search))
+before-walks : (c : tie.After-or_else-answer) → c.or_else-answer.result ≡ or_else c.args.four (axes_refusal (asked c.before.before.before.before.before.before.before.before.before.before.before))
 before-walks c = c.or_else-answer.ensures ∙ ap (or_else c.args.four) c.check_axes-axes.ensures
 
 returns : tie.Need-returns-then-not-is_done

@@ -16,10 +16,10 @@ use Rattle.scatter_checks.proofs.examine_walks.Tie as tie
 abbrev asked : tie.Start → Scatter
 asked s = scatter_from s.args.index_extents.now s.args.index_strides.now s.args.updates_extents.now s.args.updates_strides.now s.args.dest_extents.now s.args.dest_strides.now s.args.window.now s.args.inserted.now s.args.map.now s.args.vector
 
-from-batch : (c : tie.After-walk_along-batches) → c.walk_along-batches.result ≡ batch_walk (asked search)
+from-batch : (c : tie.After-walk_along-batches) → c.walk_along-batches.result ≡ batch_walk (asked c.before.before.before.before.before.before.before.before.before.before.before.before.before)
 from-batch c = let s : tie.Start = search in batch-walk (asked s) _ _ _ s.requires.listed c.walk_along-batches.result c.walk_along-batches.ensures
 
-from_cell : (c : tie.After-walk_along-cells) → c.walk_along-cells.result ≡ window_walk (asked search)
+from_cell : (c : tie.After-walk_along-cells) → c.walk_along-cells.result ≡ window_walk (asked c.before.before.before.before.before.before.before.before.before.before.before.before.before.before)
 from_cell c = let s : tie.Start = search in window-walk (asked s) _ _ _ s.requires.listed c.walk_along-cells.result c.walk_along-cells.ensures
 
 offsets : (c : tie.After-check_components-f) → c.check_components-f.result ≡ first_of (offset_fits (get_or c.args.index_strides.now c.args.vector (pos 0))) (length c.args.map.now) 0

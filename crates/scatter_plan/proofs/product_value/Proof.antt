@@ -36,10 +36,10 @@ enum_told : tie.Need-enum_told-1
 enum_told c = search rules
 
 returns : tie.Need-returns-in-Fits
-returns c = ap value_of_u (sym c.in-Fits.is ∙ total c.before.before.before)
+returns c = ap value_of_u (sym c.in-Fits.is ∙ total search)
 
 returns-2 : tie.Need-returns-in-Overflow
-returns-2 c = ap value_of_u (sym c.in-Overflow.is ∙ total c.before.before)
+returns-2 c = ap value_of_u (sym c.in-Overflow.is ∙ total search)
 
 pub product_value_spec : {M : Type 1} → statement M
 product_value_spec =

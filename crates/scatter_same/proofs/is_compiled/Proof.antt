@@ -13,7 +13,7 @@ returns c =
     let e = c.compiled_again-again.ensures in
     c.both-2.ensures
     ∙ ap₂ ◌&&◌ (c.is_done-done.ensures ∙ ap (λ (r : CompiledScatter). is_done r.answer) e)
-    (c.both.ensures ∙ ap₂ ◌&&◌ (c.same_plan-same.ensures ∙ ap (λ (r : CompiledScatter). same_plan s.args.plan r.plan) e) (c.has_rows-rows.ensures ∙ ap (λ (r : CompiledScatter). has_rows r s.args.batch-rows s.args.window-rows) e))
+    (c.both.ensures ∙ ap₂ ◌&&◌ (c.same_plan-same.ensures ∙ ap (λ (r : CompiledScatter). same_plan s.args.plan r.plan) e) (c.has_rows-rows.ensures ∙ ap (λ (r : CompiledScatter). has_rows r s.args.batch_rows s.args.window_rows) e))
 
 pub is_compiled_spec : {M : Type 1} → statement M
 is_compiled_spec =
