@@ -11,19 +11,16 @@ use Rattle.operand_copy_f64.proofs.copy_operand.Tie as tie
 
 -- the count, where it fits
 module _ (k : tie.In-Fits) where
-  abbrev start : tie.Start
-  start = search
-
-  counted : product (take start.args.rank start.args.extents) ≡ k.before.total.given.0.0
-  counted = let t : tie.After-total_len-total = search in total-told _ t.total-len.result _ t.total-len.ensures k.before.total.given.1
+  counted : product (take k.args.rank k.args.extents) ≡ k.in-Fits.n
+  counted = total-told _ k.total_len-total.result _ k.total_len-total.ensures k.in-Fits.is
 
 enum-known-total : tie.Need-enum_known-total
 enum-known-total c = search rules
 
 returns : tie.Need-returns-then-n-eq0
 returns c =
-    let a = start c.before in
-    none_end _ a.args.s a.args.d a.args.extents a.args.ss a.args.ds a.args.rank a.args.src.now a.args.dst.now (counted c.before ∙ c.if-n-eq0.true)
+    let a = c in
+    none_end _ a.args.s a.args.d a.args.extents a.args.ss a.args.ds a.args.rank a.args.src.now a.args.dst.now ((counted search) ∙ c.if-n-eq0.true)
 
 over-fused-requires : tie.Need-over_fused-requires
 over-fused-requires c κs =
@@ -31,9 +28,9 @@ over-fused-requires c κs =
     let p = c in
     let q = c in
     let f = c in
-    let a = start k in
-    cells-by _ _ _ _ _ _ a.fits.s a.fits.d _ _ _ refl refl refl _ _
-    (chosen-cells _ _ _ _ _ _ _ _ a.pre (omega (arith, counted k)) (omega (arith, counted k, pays-few a.args.rank _ _ a.args.extents (sym p.pays.ensures ∙ q.if-pays.true) (counted k))) _ f.copy_axes-f.ensures)
+    let a = k in
+    cells-by _ _ _ _ _ _ a.ranges.s a.ranges.d _ _ _ refl refl refl _ _
+    (chosen-cells _ _ _ _ _ _ _ _ a.requires (omega (arith, counted search)) (omega (arith, counted search, pays-few a.args.rank _ _ a.args.extents (sym p.pays.ensures ∙ q.if-pays.true) (counted search))) _ f.copy_axes-f.ensures)
 
 same_length : tie.Need-shape_of-dst-then-pays
 same_length c = search rules
@@ -43,17 +40,17 @@ returns-2 c =
     let k = c in
     let f = c in
     let x = c in
-    let a = start k in
-    chosen-end _ a.args.s a.args.d a.args.extents a.args.ss a.args.ds a.args.rank a.args.src.now a.args.dst.now a.fits.s a.fits.d _ _ _ a.pre _ f.copy_axes-f.ensures x.over_fused.ensures
+    let a = k in
+    chosen-end _ a.args.s a.args.d a.args.extents a.args.ss a.args.ds a.args.rank a.args.src.now a.args.dst.now a.ranges.s a.ranges.d _ _ _ a.requires _ f.copy_axes-f.ensures x.over_fused.ensures
 
 over-axes-requires : tie.Need-over_axes-requires
 over-axes-requires c κs =
     let k = c in
     let p = c in
     let q = c in
-    let a = start k in
-    cells-by _ _ _ _ _ _ a.fits.s a.fits.d _ _ _ refl refl refl _ _
-    (given-cells _ _ _ _ _ _ _ _ a.pre (pays-not a.args.rank _ _ (sym p.pays.ensures ∙ q.if-pays.false)) (omega (arith, counted k)))
+    let a = k in
+    cells-by _ _ _ _ _ _ a.ranges.s a.ranges.d _ _ _ refl refl refl _ _
+    (given-cells _ _ _ _ _ _ _ _ a.requires (pays-not a.args.rank _ _ (sym p.pays.ensures ∙ q.if-pays.false)) (omega (arith, counted search)))
 
 enum_told : tie.Need-enum_told-1
 enum_told c = search rules

@@ -1,6 +1,6 @@
 -- Written by tests/twins from crates/operand_copy/proofs/over_axes/Proof.antt.
 use mathlib.Core.Path.{refl}
-use lib.Ieee.{nan}
+use Rattle.std.specs.Float.{nan}
 use Rattle.rules.specs.Rules.{rule_f64}
 use Rattle.rules.specs.declared.RuleF64.TheVariants as R
 use Rattle.operand_copy.proofs.Windows.{cells-level, left_by}

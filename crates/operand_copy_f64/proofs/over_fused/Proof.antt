@@ -1,5 +1,5 @@
 -- Written by tests/twins from crates/operand_copy/proofs/over_fused/Proof.antt.
-use lib.Ieee.{nan}
+use Rattle.std.specs.Float.{nan}
 use Rattle.rules.specs.Rules.{rule_f64}
 use Rattle.rules.specs.declared.RuleF64.TheVariants as R
 use Rattle.operand_copy.proofs.Windows.{cells-by, left_by}
