@@ -14,27 +14,20 @@ dst-room a = omega (arith, a.well_formed.1.1.1.0.1)
 
 started-requires : tie.Need-started-m-requires
 started-requires c κs =
-    let a = c in
-    start-asks _ _ _ _ _ _ _ _ _ _ _ _ _ _ _ a.requires a.ranges.t a.ranges.u a.ranges.d (dst-room search)
+    start-asks _ _ _ _ _ _ _ _ _ _ _ _ _ _ _ c.requires c.ranges.t c.ranges.u c.ranges.d (dst-room search)
 
 axes-requires : tie.Need-axes-requires
 axes-requires c κs =
-    let s = c in
-    let a = c in
-    window-asks _ _ _ _ _ _ _ _ _ _ _ _ _ _ _ a.requires a.ranges.t a.ranges.u a.ranges.d (dst-room search) _ s.started-m.ensures.0
+    window-asks _ _ _ _ _ _ _ _ _ _ _ _ _ _ _ c.requires c.ranges.t c.ranges.u c.ranges.d (dst-room search) _ c.started-m.ensures.0
 
 same_length : tie.Need-shape_of-dst
 same_length c = search rules
 
 returns : tie.Need-returns
-returns c =
-    let s = c in
-    let x = c in
-    let n = c in
-    let a = c in (
-      window-end _ _ _ _ _ _ _ _ _ _ _ _ _ _ _ a.requires a.ranges.t a.ranges.u a.ranges.d (dst-room search) _ s.started-m.ensures.0 nan (rule_f64 a.args.rule) a.args.src.now a.args.dst.now _ x.axes.ensures,
-      flag-end a.args.starts.now a.args.offsets.now a.args.limits.now a.args.count a.args.t a.ranges.t _ _ s.started-m.ensures.1 n.count_if.ensures,
-    )
+returns c = (
+  window-end _ _ _ _ _ _ _ _ _ _ _ _ _ _ _ c.requires c.ranges.t c.ranges.u c.ranges.d (dst-room search) _ c.started-m.ensures.0 nan (rule_f64 c.args.rule) c.args.src.now c.args.dst.now _ c.axes.ensures,
+  flag-end c.args.starts.now c.args.offsets.now c.args.limits.now c.args.count c.args.t c.ranges.t _ _ c.started-m.ensures.1 c.count_if.ensures,
+)
 
 pub land_spec : {M : Type 1} → statement M
 land_spec = tie.close (tie.spec started-requires axes-requires (λ c κs. tt) same_length returns)

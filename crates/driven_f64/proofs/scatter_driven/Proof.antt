@@ -53,30 +53,20 @@ start-requires c κs = tt
 
 loop-holds : tie.Need-loop-b-init invariant-loop decreases-loop
 loop-holds c =
-    let s = c in
-    let a = c in (omega arith, refl, begun (Asked search) _ _ _ _ _ _ _ a.requires a.ranges.t a.ranges.u a.ranges.d (shape-full search) (rows-full search) _ s.start-state.ensures, none _ 0 _ refl, many-none 0 _ refl)
+    (omega arith, refl, begun (Asked search) _ _ _ _ _ _ _ c.requires c.ranges.t c.ranges.u c.ranges.d (shape-full search) (rows-full search) _ c.start-state.ensures, none _ 0 _ refl, many-none 0 _ refl)
 
 land-requires : tie.Need-land-one-requires invariant-loop decreases-loop
 land-requires c κs =
-    let g = c in
-    let h = g in
-    let a = c in
-    subst (λ (m : ℕ). Landing a.args.starts.now a.args.offsets.now a.args.strides.now a.args.limits.now a.args.count (read a.args.d) a.args.wextents.now a.args.ws.now a.args.ds.now a.args.low a.args.wrank (length a.args.src.now) m (read h.loop-b.state.source_offset) (read h.loop-b.state.dest_offset)) (sym h.loop-b.invariant.1)
-    (body-asks (Asked search) _ _ _ _ _ _ _ a.requires a.ranges.t a.ranges.u a.ranges.d (shape-full search) (rows-full search) h.loop-b.b h.loop-b.state h.loop-b.invariant.2 g.loop-b-test.true)
+    subst (λ (m : ℕ). Landing c.args.starts.now c.args.offsets.now c.args.strides.now c.args.limits.now c.args.count (read c.args.d) c.args.wextents.now c.args.ws.now c.args.ds.now c.args.low c.args.wrank (length c.args.src.now) m (read c.loop-b.state.source_offset) (read c.loop-b.state.dest_offset)) (sym c.loop-b.invariant.1)
+    (body-asks (Asked search) _ _ _ _ _ _ _ c.requires c.ranges.t c.ranges.u c.ranges.d (shape-full search) (rows-full search) c.loop-b.b c.loop-b.state c.loop-b.invariant.2 c.loop-b-test.true)
 
 moved-requires : tie.Need-moved-state-requires invariant-loop decreases-loop
 moved-requires c κs =
-    let h = c in
-    let a = c in
-    step-asks (Asked search) _ _ _ _ _ _ _ a.requires a.ranges.t a.ranges.u a.ranges.d (shape-full search) (rows-full search) h.loop-b.b h.loop-b.state h.loop-b.invariant.2
+    step-asks (Asked search) _ _ _ _ _ _ _ c.requires c.ranges.t c.ranges.u c.ranges.d (shape-full search) (rows-full search) c.loop-b.b c.loop-b.state c.loop-b.invariant.2
 
 add-slid : tie.Need-overflow_add-slid invariant-loop decreases-loop
 add-slid c =
-    let g = c in
-    let l = c in
-    let h = c in
-    let a = c in
-    omega (arith, one_below h.loop-b.b _ _ _ (flag (search) (read h.loop-b.state.source_offset)) h.loop-b.invariant.4 l.land-one.ensures.1, g.loop-b-test.true)
+    omega (arith, one_below c.loop-b.b _ _ _ (flag (search) (read c.loop-b.state.source_offset)) c.loop-b.invariant.4 c.land-one.ensures.1, c.loop-b-test.true)
 
 add-b : tie.Need-overflow_add-b invariant-loop decreases-loop
 add-b c = omega arith
@@ -85,29 +75,22 @@ loop-less : tie.Need-loop-b-smaller invariant-loop decreases-loop
 loop-less c = omega arith
 
 loop-again : tie.Need-loop-b-preserved invariant-loop decreases-loop
-loop-again c =
-    let d = c in
-    let l = c in
-    let m = c in
-    let h = c in
-    let a = c in (
-      omega (arith, d.loop-b-test.true),
-      l.land-one.auto.dst ∙ h.loop-b.invariant.1,
-      step_gives (Asked search) _ _ _ _ _ _ _ a.requires a.ranges.t a.ranges.u a.ranges.d (shape-full search) (rows-full search) h.loop-b.b h.loop-b.state h.loop-b.invariant.2 _ m.moved-state.ensures,
-      body-gives (Asked search) _ _ _ _ _ _ _ a.requires a.ranges.t a.ranges.u a.ranges.d (shape-full search) (rows-full search) (land nan (rule_f64 a.args.rule) a.args.src.now a.args.starts.now a.args.offsets.now a.args.strides.now a.args.limits.now a.args.count a.args.wextents.now a.args.ws.now a.args.ds.now a.args.wrank) h.loop-b.b h.loop-b.state h.loop-b.invariant.2 a.args.dst.now h.loop-b.dst _ h.loop-b.invariant.3 l.land-one.ensures.0,
-      body-counts (Asked search) _ _ _ _ _ _ _ a.requires a.ranges.t a.ranges.u a.ranges.d (shape-full search) (rows-full search) (flag search) h.loop-b.b h.loop-b.state h.loop-b.invariant.2 _ _ h.loop-b.invariant.4 l.land-one.ensures.1,
-    )
+loop-again c = (
+  omega (arith, c.loop-b-test.true),
+  c.land-one.auto.dst ∙ c.loop-b.invariant.1,
+  step_gives (Asked search) _ _ _ _ _ _ _ c.requires c.ranges.t c.ranges.u c.ranges.d (shape-full search) (rows-full search) c.loop-b.b c.loop-b.state c.loop-b.invariant.2 _ c.moved-state.ensures,
+  body-gives (Asked search) _ _ _ _ _ _ _ c.requires c.ranges.t c.ranges.u c.ranges.d (shape-full search) (rows-full search) (land nan (rule_f64 c.args.rule) c.args.src.now c.args.starts.now c.args.offsets.now c.args.strides.now c.args.limits.now c.args.count c.args.wextents.now c.args.ws.now c.args.ds.now c.args.wrank) c.loop-b.b c.loop-b.state c.loop-b.invariant.2 c.args.dst.now c.loop-b.dst _ c.loop-b.invariant.3 c.land-one.ensures.0,
+  body-counts (Asked search) _ _ _ _ _ _ _ c.requires c.ranges.t c.ranges.u c.ranges.d (shape-full search) (rows-full search) (flag search) c.loop-b.b c.loop-b.state c.loop-b.invariant.2 _ _ c.loop-b.invariant.4 c.land-one.ensures.1,
+)
 
 same_length : tie.Need-shape_of-dst invariant-loop decreases-loop
 same_length c = c.loop-b.invariant.1
 
 returns : tie.Need-returns invariant-loop decreases-loop
-returns c =
-    let h = c in
-    let a = c in (
-      ended (Asked search) _ _ _ _ _ _ _ a.requires a.ranges.t a.ranges.u a.ranges.d (shape-full search) (rows-full search) (land nan (rule_f64 a.args.rule) a.args.src.now a.args.starts.now a.args.offsets.now a.args.strides.now a.args.limits.now a.args.count a.args.wextents.now a.args.ws.now a.args.ds.now a.args.wrank) h.loop-b.b a.args.dst.now h.loop-b.dst (omega arith) h.loop-b.invariant.3,
-      ended-count (Asked search) _ _ _ _ _ _ _ a.requires a.ranges.t a.ranges.u a.ranges.d (shape-full search) (rows-full search) (flag search) h.loop-b.b _ (omega arith) h.loop-b.invariant.4,
-    )
+returns c = (
+  ended (Asked search) _ _ _ _ _ _ _ c.requires c.ranges.t c.ranges.u c.ranges.d (shape-full search) (rows-full search) (land nan (rule_f64 c.args.rule) c.args.src.now c.args.starts.now c.args.offsets.now c.args.strides.now c.args.limits.now c.args.count c.args.wextents.now c.args.ws.now c.args.ds.now c.args.wrank) c.loop-b.b c.args.dst.now c.loop-b.dst (omega arith) c.loop-b.invariant.3,
+  ended-count (Asked search) _ _ _ _ _ _ _ c.requires c.ranges.t c.ranges.u c.ranges.d (shape-full search) (rows-full search) (flag search) c.loop-b.b _ (omega arith) c.loop-b.invariant.4,
+)
 
 pub scatter_driven_spec : {M : Type 1} → statement M
 scatter_driven_spec = tie.close (tie.spec invariant-loop decreases-loop start-requires loop-holds land-requires moved-requires add-slid add-b loop-less loop-again same_length returns)

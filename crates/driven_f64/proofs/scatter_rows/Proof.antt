@@ -40,20 +40,16 @@ module _ (o : tie.After-one_cell) where
 
 returns : tie.Need-returns-then-has_zero
 returns c =
-    let z = c in
-    let a = c in
-    let e = sym z.has_zero.ensures ∙ c.if-has_zero.true in (
-      no-batch a.args.starts.now a.args.offsets.now a.args.strides.now a.args.limits.now a.args.count a.args.t a.args.u a.args.d a.args.bextents.now a.args.ts.now a.args.us.now a.args.brank a.args.wextents.now a.args.ws.now a.args.ds.now a.args.wrank nan (rule_f64 a.args.rule) a.args.src.now a.args.dst.now e,
-      slid-zero (product (take a.args.wrank a.args.wextents.now)) _ (many-none _ (λ b. start_moved a.args.starts.now a.args.offsets.now a.args.limits.now (place_at a.args.t a.args.bextents.now a.args.ts.now a.args.brank b) a.args.count) (no_cells (take a.args.brank a.args.bextents.now) e)),
+    let e = sym c.has_zero.ensures ∙ c.if-has_zero.true in (
+      no-batch c.args.starts.now c.args.offsets.now c.args.strides.now c.args.limits.now c.args.count c.args.t c.args.u c.args.d c.args.bextents.now c.args.ts.now c.args.us.now c.args.brank c.args.wextents.now c.args.ws.now c.args.ds.now c.args.wrank nan (rule_f64 c.args.rule) c.args.src.now c.args.dst.now e,
+      slid-zero (product (take c.args.wrank c.args.wextents.now)) _ (many-none _ (λ b. start_moved c.args.starts.now c.args.offsets.now c.args.limits.now (place_at c.args.t c.args.bextents.now c.args.ts.now c.args.brank b) c.args.count) (no_cells (take c.args.brank c.args.bextents.now) e)),
     )
 
 returns-2 : tie.Need-returns-then-has_zero-2
 returns-2 c =
-    let z = c in
-    let a = c in
-    let e = sym z.has_zero-2.ensures ∙ c.if-has_zero-2.true in (
-      no-window a.args.starts.now a.args.offsets.now a.args.strides.now a.args.limits.now a.args.count a.args.t a.args.u a.args.d a.args.bextents.now a.args.ts.now a.args.us.now a.args.brank a.args.wextents.now a.args.ws.now a.args.ds.now a.args.wrank nan (rule_f64 a.args.rule) a.args.src.now a.args.dst.now e,
-      slid-none _ _ (no_cells (take a.args.wrank a.args.wextents.now) e),
+    let e = sym c.has_zero-2.ensures ∙ c.if-has_zero-2.true in (
+      no-window c.args.starts.now c.args.offsets.now c.args.strides.now c.args.limits.now c.args.count c.args.t c.args.u c.args.d c.args.bextents.now c.args.ts.now c.args.us.now c.args.brank c.args.wextents.now c.args.ws.now c.args.ds.now c.args.wrank nan (rule_f64 c.args.rule) c.args.src.now c.args.dst.now e,
+      slid-none _ _ (no_cells (take c.args.wrank c.args.wextents.now) e),
     )
 
 one-cell-requires : tie.Need-one_cell-requires
@@ -61,52 +57,38 @@ one-cell-requires c κs = search rules
 
 scatter-each-requires : tie.Need-scatter_each-requires
 scatter-each-requires c κs =
-    let o = c in
-    let a = o in
-    each-asks _ _ _ _ _ _ _ _ _ _ _ _ _ _ _ _ _ _ a.requires.0 (few search) (batches search) (cells search) a.ranges.t a.ranges.u a.ranges.d
+    each-asks _ _ _ _ _ _ _ _ _ _ _ _ _ _ _ _ _ _ c.requires.0 (few search) (batches search) (cells search) c.ranges.t c.ranges.u c.ranges.d
 
 same_length : tie.Need-shape_of-dst-then-one_cell
 same_length c = search rules
 
 returns-3 : tie.Need-returns-then-one_cell
-returns-3 c =
-    let o = c in
-    let t = c in
-    let e = c in
-    let a = o in (
-      each-end _ _ _ _ _ _ _ _ _ _ _ _ _ _ _ _ _ _ a.requires.0 (few search) (batches search) (cells search) a.ranges.t a.ranges.u a.ranges.d nan (rule_f64 a.args.rule) a.args.src.now a.args.dst.now _ (o.one_cell.ensures.yes t.if-one_cell.true) e.scatter_each.ensures.0,
-      counted_back (λ x. start_moved a.args.starts.now a.args.offsets.now a.args.limits.now x a.args.count) a.args.bextents.now a.args.ts.now a.args.t a.args.brank _ a.ranges.t e.scatter_each.ensures.1
-          ∙ slid-some _ _ (product-pos (take a.args.wrank a.args.wextents.now) (cells search)),
-    )
+returns-3 c = (
+  each-end _ _ _ _ _ _ _ _ _ _ _ _ _ _ _ _ _ _ c.requires.0 (few search) (batches search) (cells search) c.ranges.t c.ranges.u c.ranges.d nan (rule_f64 c.args.rule) c.args.src.now c.args.dst.now _ (c.one_cell.ensures.yes c.if-one_cell.true) c.scatter_each.ensures.0,
+  counted_back (λ x. start_moved c.args.starts.now c.args.offsets.now c.args.limits.now x c.args.count) c.args.bextents.now c.args.ts.now c.args.t c.args.brank _ c.ranges.t c.scatter_each.ensures.1
+      ∙ slid-some _ _ (product-pos (take c.args.wrank c.args.wextents.now) (cells search)),
+)
 
 run-axis-requires : tie.Need-run_axis-low-requires
 run-axis-requires c κs =
-    let o = c in
-    let a = o in
-    (not_none a.args.wextents.now a.args.wrank (o.one_cell.ensures.no c.if-one_cell.false), a.requires.0.window-small)
+    (not_none c.args.wextents.now c.args.wrank (c.one_cell.ensures.no c.if-one_cell.false), c.requires.0.window-small)
 
 scatter-driven-requires : tie.Need-scatter_driven-requires
 scatter-driven-requires c κs =
-    let o = c in
-    let r = c in
-    let a = o in
-    rows-drive _ _ _ _ _ _ _ _ _ _ _ _ _ _ _ _ _ _ (rowed-back _ _ _ _ _ _ _ _ _ _ _ a.ranges.t a.ranges.u a.requires.1) _ _ _ (cells search)
-    (axes-asks _ _ _ _ _ _ _ _ _ _ _ _ _ _ _ _ _ _ a.requires.0 (few search) (batches search) (cells search) a.ranges.t a.ranges.u a.ranges.d r.run_axis-low.result r.run_axis-low.ensures.below r.run_axis-low.ensures.units)
+    rows-drive _ _ _ _ _ _ _ _ _ _ _ _ _ _ _ _ _ _ (rowed-back _ _ _ _ _ _ _ _ _ _ _ c.ranges.t c.ranges.u c.requires.1) _ _ _ (cells search)
+    (axes-asks _ _ _ _ _ _ _ _ _ _ _ _ _ _ _ _ _ _ c.requires.0 (few search) (batches search) (cells search) c.ranges.t c.ranges.u c.ranges.d c.run_axis-low.result c.run_axis-low.ensures.below c.run_axis-low.ensures.units)
 
 same-length-2 : tie.Need-shape_of-dst
 same-length-2 c = search rules
 
 returns-4 : tie.Need-returns
-returns-4 c =
-    let o = c in
-    let s = c in
-    let a = o in (
-      axes-end _ _ _ _ _ _ _ _ _ _ _ _ _ _ _ _ _ _ a.requires.0 (few search) (batches search) (cells search) a.ranges.t a.ranges.u a.ranges.d nan (rule_f64 a.args.rule) a.args.src.now a.args.dst.now _
-          (s.scatter_driven.ensures.0 ∙ rows-leave a.args.starts.now a.args.offsets.now a.args.strides.now a.args.limits.now _ _ (read a.args.d) _ _ _ _ _ _ _ a.args.wextents.now a.args.ws.now a.args.ds.now a.args.wrank (rowed-back _ _ _ _ _ _ _ _ _ _ _ a.ranges.t a.ranges.u a.requires.1) nan (rule_f64 a.args.rule) a.args.src.now a.args.dst.now),
-      counted_back (λ x. start_moved a.args.starts.now a.args.offsets.now a.args.limits.now x a.args.count) a.args.bextents.now a.args.ts.now a.args.t a.args.brank _ a.ranges.t
-          (s.scatter_driven.ensures.1 ∙ rows-count a.args.starts.now a.args.offsets.now a.args.strides.now a.args.limits.now _ _ (read a.args.d) _ _ _ _ _ _ _ a.args.wextents.now a.args.ws.now a.args.ds.now a.args.wrank (rowed-back _ _ _ _ _ _ _ _ _ _ _ a.ranges.t a.ranges.u a.requires.1))
-          ∙ slid-some _ _ (product-pos (take a.args.wrank a.args.wextents.now) (cells search)),
-    )
+returns-4 c = (
+  axes-end _ _ _ _ _ _ _ _ _ _ _ _ _ _ _ _ _ _ c.requires.0 (few search) (batches search) (cells search) c.ranges.t c.ranges.u c.ranges.d nan (rule_f64 c.args.rule) c.args.src.now c.args.dst.now _
+      (c.scatter_driven.ensures.0 ∙ rows-leave c.args.starts.now c.args.offsets.now c.args.strides.now c.args.limits.now _ _ (read c.args.d) _ _ _ _ _ _ _ c.args.wextents.now c.args.ws.now c.args.ds.now c.args.wrank (rowed-back _ _ _ _ _ _ _ _ _ _ _ c.ranges.t c.ranges.u c.requires.1) nan (rule_f64 c.args.rule) c.args.src.now c.args.dst.now),
+  counted_back (λ x. start_moved c.args.starts.now c.args.offsets.now c.args.limits.now x c.args.count) c.args.bextents.now c.args.ts.now c.args.t c.args.brank _ c.ranges.t
+      (c.scatter_driven.ensures.1 ∙ rows-count c.args.starts.now c.args.offsets.now c.args.strides.now c.args.limits.now _ _ (read c.args.d) _ _ _ _ _ _ _ c.args.wextents.now c.args.ws.now c.args.ds.now c.args.wrank (rowed-back _ _ _ _ _ _ _ _ _ _ _ c.ranges.t c.ranges.u c.requires.1))
+      ∙ slid-some _ _ (product-pos (take c.args.wrank c.args.wextents.now) (cells search)),
+)
 
 pub scatter_rows_spec : {M : Type 1} → statement M
 scatter_rows_spec =

@@ -23,17 +23,14 @@ is-outside-requires c κs = search rules
 
 returns : tie.Need-returns
 returns c =
-    let m = c in
-    let o = m in
-    let a = o in
-    let x = a.args.x in
-    let limit = a.args.limit in
-    let e : m.at_most-y.result ≡ min_ℤ x limit = m.at_most-y.ensures ∙ ap₂ min_ℤ (back a.ranges.x) (back a.ranges.limit) in
-    let fy : SFits w64 m.at_most-y.result = subst (SFits w64) (sym e) (min_ℤ-by x limit (λ z. SFits w64 z) (λ _. a.ranges.x) (λ _. a.ranges.limit)) in
-    let z : c.not_below_zero-at.result ≡ pos (min (up x) (up limit)) = c.not_below_zero-at.ensures ∙ ap (λ (v : ℤ). pos (up v)) (back fy ∙ e) ∙ ap pos (up-min x limit a.requires) in
-    let is : c.not_below_zero-at.result ≡ clamp x (nat_abs limit) 0 = clamped-by _ x limit a.requires (ap up z) (ap dn z) in
-    let fr : SFits w64 c.not_below_zero-at.result = subst (SFits w64) (sym z) (record { sfits = omega (arith, zfacts, known a.ranges.x, known a.ranges.limit, only x) }) in
-    (back fr ∙ is, o.is_outside-moved.ensures ∙ ap₂ (λ (u v : ℤ). moved u (nat_abs v) 0) (back a.ranges.x) (back a.ranges.limit))
+    let x = c.args.x in
+    let limit = c.args.limit in
+    let e : c.at_most-y.result ≡ min_ℤ x limit = c.at_most-y.ensures ∙ ap₂ min_ℤ (back c.ranges.x) (back c.ranges.limit) in
+    let fy : SFits w64 c.at_most-y.result = subst (SFits w64) (sym e) (min_ℤ-by x limit (λ z. SFits w64 z) (λ _. c.ranges.x) (λ _. c.ranges.limit)) in
+    let z : c.not_below_zero-at.result ≡ pos (min (up x) (up limit)) = c.not_below_zero-at.ensures ∙ ap (λ (v : ℤ). pos (up v)) (back fy ∙ e) ∙ ap pos (up-min x limit c.requires) in
+    let is : c.not_below_zero-at.result ≡ clamp x (nat_abs limit) 0 = clamped-by _ x limit c.requires (ap up z) (ap dn z) in
+    let fr : SFits w64 c.not_below_zero-at.result = subst (SFits w64) (sym z) (record { sfits = omega (arith, zfacts, known c.ranges.x, known c.ranges.limit, only x) }) in
+    (back fr ∙ is, c.is_outside-moved.ensures ∙ ap₂ (λ (u v : ℤ). moved u (nat_abs v) 0) (back c.ranges.x) (back c.ranges.limit))
 
 pub clamped_spec : {M : Type 1} → statement M
 clamped_spec = tie.close (tie.spec is-outside-requires (λ c κs. tt) (λ c κs. tt) returns)

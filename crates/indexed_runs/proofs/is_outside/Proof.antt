@@ -20,21 +20,17 @@ inside x limit e = moved-by x limit 0 (pos (min (up x) (limit - 0))) false (sym 
 
 returns : tie.Need-returns-then-x-lt0
 returns c =
-    let a = c in
-    outside a.args.x (nat_abs a.args.limit) (λ q. let u = ap up q in let d = ap dn q in omega (arith, zfacts, known a.ranges.x, only a.args.x))
+    outside c.args.x (nat_abs c.args.limit) (λ q. let u = ap up q in let d = ap dn q in omega (arith, zfacts, known c.ranges.x, only c.args.x))
 
 returns-2 : tie.Need-returns-then-limit-x
 returns-2 c =
-    let a = c in
-    outside a.args.x (nat_abs a.args.limit)
-    (λ q. let u = ap up q in let d = ap dn q in omega (arith, zfacts, a.requires, known a.ranges.x, known a.ranges.limit, only a.args.x, only a.args.limit, abs_is a.args.limit))
+    outside c.args.x (nat_abs c.args.limit)
+    (λ q. let u = ap up q in let d = ap dn q in omega (arith, zfacts, c.requires, known c.ranges.x, known c.ranges.limit, only c.args.x, only c.args.limit, abs_is c.args.limit))
 
 returns-3 : tie.Need-returns-else-limit-x
 returns-3 c =
-    let a = c in
-    let e = c in
-    inside a.args.x (nat_abs a.args.limit)
-    (≡-from _ a.args.x (omega (arith, zfacts, a.requires, e.if-x-lt0.false, known a.ranges.x, known a.ranges.limit, only a.args.x, only a.args.limit, abs_is a.args.limit)))
+    inside c.args.x (nat_abs c.args.limit)
+    (≡-from _ c.args.x (omega (arith, zfacts, c.requires, c.if-x-lt0.false, known c.ranges.x, known c.ranges.limit, only c.args.x, only c.args.limit, abs_is c.args.limit)))
 
 pub is_outside_spec : {M : Type 1} → statement M
 is_outside_spec = tie.close (tie.spec returns returns-2 returns-3)

@@ -37,104 +37,83 @@ module _ (a : tie.Start invariant-loop decreases-loop) where
 
 module _ (d : tie.In-loop-i invariant-loop decreases-loop) where
   from : Step d.args.s d.args.ss d.loop-i.i (length d.args.src.now)
-  from = let a = d in source-step _ _ _ _ _ _ _ _ _ _ _ _ _ a.requires.1 _ d.loop-i-test.true a.ranges.s a.ranges.ss (src-room search)
+  from = source-step _ _ _ _ _ _ _ _ _ _ _ _ _ d.requires.1 _ d.loop-i-test.true d.ranges.s d.ranges.ss (src-room search)
 
   index : Step d.args.t d.args.ts d.loop-i.i (2 ^ 63 - 1)
-  index = let a = d in index-step _ _ _ _ _ _ _ _ _ _ _ _ _ a.requires.1 _ d.loop-i-test.true a.ranges.t a.ranges.ts
+  index = index-step _ _ _ _ _ _ _ _ _ _ _ _ _ d.requires.1 _ d.loop-i-test.true d.ranges.t d.ranges.ts
 
 put-at : (c : tie.After-started-m invariant-loop decreases-loop) → Index c.started-m.result.at (length c.args.dst.now)
-put-at c = let a = c in place-index _ _ _ _ _ _ _ _ _ _ _ _ _ a.requires.1 _ c.loop-i-test.true (index search) a.ranges.d (dst-room search) _ c.started-m.ensures.0
+put-at c = place-index _ _ _ _ _ _ _ _ _ _ _ _ _ c.requires.1 _ c.loop-i-test.true (index search) c.ranges.d (dst-room search) _ c.started-m.ensures.0
 
 returns : tie.Need-returns-then-count-eq0 invariant-loop decreases-loop
 returns c =
-    let a = c in
-    absurd (omega (arith, a.requires.0, c.if-count-eq0.true))
+    absurd (omega (arith, c.requires.0, c.if-count-eq0.true))
 
 loop-holds : tie.Need-loop-i-init invariant-loop decreases-loop
 loop-holds c =
-    let a = c in
-    (omega arith, refl, none _ 0 a.args.dst.now refl, many-none 0 _ refl)
+    (omega arith, refl, none _ 0 c.args.dst.now refl, many-none 0 _ refl)
 
 cast-k : tie.Need-overflow_cast-k invariant-loop decreases-loop
 cast-k c =
-    let d = c in
     (from search).count
 
 mul-q : tie.Need-overflow_mul-q invariant-loop decreases-loop
 mul-q c =
-    let d = c in
     (index search).multiple
 
 add-q : tie.Need-overflow_add-q invariant-loop decreases-loop
 add-q c =
-    let d = c in
     (index search).fits
 
 started-requires : tie.Need-started-m-requires invariant-loop decreases-loop
 started-requires c κs =
-    let d = c in
-    let a = d in started-asks _ _ _ _ _ _ _ _ _ _ _ _ _ a.requires.1 _ c.loop-i-test.true (index search) a.ranges.d (dst-room search)
+    started-asks _ _ _ _ _ _ _ _ _ _ _ _ _ c.requires.1 _ c.loop-i-test.true (index search) c.ranges.d (dst-room search)
 
 cast-b : tie.Need-overflow_cast-b invariant-loop decreases-loop
 cast-b c =
-    let s = c in
     (put-at search).cast
 
 mul-a : tie.Need-overflow_mul-a invariant-loop decreases-loop
 mul-a c =
-    let d = c in
     (from search).multiple
 
 add_a : tie.Need-overflow_add-a invariant-loop decreases-loop
 add_a c =
-    let d = c in
     (from search).fits
 
 cast-a : tie.Need-overflow_cast-a invariant-loop decreases-loop
 cast-a c =
-    let d = c in
     (from search).cast
 
 mul_apply : tie.Need-offset_bounds-dst-b invariant-loop decreases-loop
 mul_apply c =
-    let d = c in
-    let s = c in
-    omega (arith, (put-at search).below, d.well_formed.1.1.1.0.1)
+    omega (arith, (put-at search).below, c.well_formed.1.1.1.0.1)
 
 slice-copy-out-apply : tie.Need-slice_copy_out-apply invariant-loop decreases-loop
 slice-copy-out-apply c =
-    let s = c in
-    let h = c in
-    omega (arith, (put-at search).below, h.loop-i.invariant.1)
+    omega (arith, (put-at search).below, c.loop-i.invariant.1)
 
 mul-apply-2 : tie.Need-offset_bounds-src-a invariant-loop decreases-loop
 mul-apply-2 c =
-    let d = c in
-    omega (arith, (from search).below, d.well_formed.1.0.1)
+    omega (arith, (from search).below, c.well_formed.1.0.1)
 
 shared-slice-copy-out-apply : tie.Need-bounds-src-a invariant-loop decreases-loop
-shared-slice-copy-out-apply c = let d = c in (from search).below
+shared-slice-copy-out-apply c = (from search).below
 
 apply-requires : tie.Need-apply-v-requires invariant-loop decreases-loop
 apply-requires c κs = tt
 
 mul-v : tie.Need-offset_bounds-dst-b-in-loop-i invariant-loop decreases-loop
 mul-v c =
-    let s = c in
-    let d = c in
-    omega (arith, (put-at search).below, d.well_formed.1.1.1.0.1)
+    omega (arith, (put-at search).below, c.well_formed.1.1.1.0.1)
 
 slice-set-from-v : tie.Need-bounds-dst-b invariant-loop decreases-loop
 slice-set-from-v c =
-    let s = c in
-    let h = c in
-    omega (arith, (put-at search).below, h.loop-i.invariant.1)
+    omega (arith, (put-at search).below, c.loop-i.invariant.1)
 
 add-slid : tie.Need-overflow_add-slid invariant-loop decreases-loop
 add-slid c =
-    let q = c in
-    let h = c in
-    omega (arith, one_below h.loop-i.i _ _ _ q.started-m.result.moved h.loop-i.invariant.3 c.count_if-one.ensures)
+    omega (arith, one_below c.loop-i.i _ _ _ c.started-m.result.moved c.loop-i.invariant.3 c.count_if-one.ensures)
 
 add-i : tie.Need-overflow_add-i invariant-loop decreases-loop
 add-i c = omega arith
@@ -144,33 +123,26 @@ loop-less c = omega arith
 
 loop-again : tie.Need-loop-i-preserved invariant-loop decreases-loop
 loop-again c =
-    let w = c in
-    let q = c in
-    let d = q in
-    let h = d in
-    let a = d in
-    let at = nat_abs (machine a.args.s a.args.ss h.loop-i.i) in
-    let to = nat_abs (read q.started-m.result.at) in (
+    let at = nat_abs (machine c.args.s c.args.ss c.loop-i.i) in
+    let to = nat_abs (read c.started-m.result.at) in (
       omega arith,
-      length-set h.loop-i.dst _ _ ∙ h.loop-i.invariant.1,
-      cell-more (pos 0) (rule_i32 a.args.rule) a.args.src.now (line (read a.args.s) (read a.args.ss))
-          (moved_at a.args.starts.now a.args.offsets.now a.args.strides.now a.args.limits.now a.args.count (λ _. read a.args.d) (line (read a.args.t) (read a.args.ts)))
-          a.args.dst.now h.loop-i.dst h.loop-i.i at to _ h.loop-i.invariant.2 (from search).index_is
-          (place_is _ _ _ _ _ _ _ _ _ _ _ _ _ a.requires.1 _ d.loop-i-test.true (index search) a.ranges.d (dst-room search) _ q.started-m.ensures.0) (stored a.args.rule (get_or h.loop-i.dst to (pos 0)) (get_or a.args.src.now at (pos 0)) w.apply-v.result (sfits_of w.apply-arg-1.given) (sfits_of w.apply-arg-in-loop-i-1.given) w.apply-v.ensures),
-      many_more h.loop-i.i (λ k. start_moved a.args.starts.now a.args.offsets.now a.args.limits.now (line (read a.args.t) (read a.args.ts) k) a.args.count) _ _ q.started-m.result.moved h.loop-i.invariant.3 c.count_if-one.ensures
-          (started-is a.args.starts.now a.args.offsets.now a.args.limits.now a.args.count _ _ _ _ (index search) _ q.started-m.ensures.1),
+      length-set c.loop-i.dst _ _ ∙ c.loop-i.invariant.1,
+      cell-more (pos 0) (rule_i32 c.args.rule) c.args.src.now (line (read c.args.s) (read c.args.ss))
+          (moved_at c.args.starts.now c.args.offsets.now c.args.strides.now c.args.limits.now c.args.count (λ _. read c.args.d) (line (read c.args.t) (read c.args.ts)))
+          c.args.dst.now c.loop-i.dst c.loop-i.i at to _ c.loop-i.invariant.2 (from search).index_is
+          (place_is _ _ _ _ _ _ _ _ _ _ _ _ _ c.requires.1 _ c.loop-i-test.true (index search) c.ranges.d (dst-room search) _ c.started-m.ensures.0) (stored c.args.rule (get_or c.loop-i.dst to (pos 0)) (get_or c.args.src.now at (pos 0)) c.apply-v.result (sfits_of c.apply-arg-1.given) (sfits_of c.apply-arg-in-loop-i-1.given) c.apply-v.ensures),
+      many_more c.loop-i.i (λ k. start_moved c.args.starts.now c.args.offsets.now c.args.limits.now (line (read c.args.t) (read c.args.ts) k) c.args.count) _ _ c.started-m.result.moved c.loop-i.invariant.3 c.count_if-one.ensures
+          (started-is c.args.starts.now c.args.offsets.now c.args.limits.now c.args.count _ _ _ _ (index search) _ c.started-m.ensures.1),
     )
 
 same_length : tie.Need-shape_of-dst invariant-loop decreases-loop
 same_length c = c.loop-i.invariant.1
 
 returns-2 : tie.Need-returns invariant-loop decreases-loop
-returns-2 c =
-    let h = c in
-    let a = c in (
-      puts-end (pos 0) (rule_i32 a.args.rule) a.args.src.now a.args.starts.now a.args.offsets.now a.args.strides.now a.args.limits.now a.args.count _ _ _ _ _ _ _ a.args.dst.now h.loop-i.dst a.ranges.s a.ranges.t a.ranges.d a.ranges.ss a.ranges.ts (omega arith) h.loop-i.invariant.2,
-      starts-end a.args.starts.now a.args.t a.args.ts h.loop-i.i a.args.n h.loop-i.slid a.ranges.t a.ranges.ts (omega arith) a.args.offsets.now a.args.limits.now a.args.count h.loop-i.invariant.3,
-    )
+returns-2 c = (
+  puts-end (pos 0) (rule_i32 c.args.rule) c.args.src.now c.args.starts.now c.args.offsets.now c.args.strides.now c.args.limits.now c.args.count _ _ _ _ _ _ _ c.args.dst.now c.loop-i.dst c.ranges.s c.ranges.t c.ranges.d c.ranges.ss c.ranges.ts (omega arith) c.loop-i.invariant.2,
+  starts-end c.args.starts.now c.args.t c.args.ts c.loop-i.i c.args.n c.loop-i.slid c.ranges.t c.ranges.ts (omega arith) c.args.offsets.now c.args.limits.now c.args.count c.loop-i.invariant.3,
+)
 
 pub put_cells_by_spec : {M : Type 1} → statement M
 put_cells_by_spec =

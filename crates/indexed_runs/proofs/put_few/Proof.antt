@@ -27,49 +27,37 @@ decreases-loop rule src starts dst₀ limit from to slid₀ i₀ dst slid i = to
 
 loop-holds : tie.Need-loop-i-init invariant-loop decreases-loop
 loop-holds c =
-    let a = c in
-    (omega arith, omega (arith, a.requires.0), refl, none _ (a.args.from - a.args.from) a.args.dst.now (omega arith), many-none (a.args.from - a.args.from) _ (omega arith))
+    (omega arith, omega (arith, c.requires.0), refl, none _ (c.args.from - c.args.from) c.args.dst.now (omega arith), many-none (c.args.from - c.args.from) _ (omega arith))
 
 put-one-requires : tie.Need-put_one-one-requires invariant-loop decreases-loop
 put-one-requires c κs =
-    let h = c in
-    let a = c in (omega (arith, c.loop-i-test.true, a.requires.1), ones-left _ _ _ _ _ _ a.ranges.limit a.requires.2 refl h.loop-i.invariant.2)
+    (omega (arith, c.loop-i-test.true, c.requires.1), ones-left _ _ _ _ _ _ c.ranges.limit c.requires.2 refl c.loop-i.invariant.2)
 
 add-slid : tie.Need-overflow_add-slid invariant-loop decreases-loop
 add-slid c =
-    let p = c in
-    let d = c in
-    let h = c in
-    let a = c in
-    omega (arith, one_below (h.loop-i.i - a.args.from) _ _ _ (moves_at a.args.starts.now pos (nat_abs (read a.args.limit)) h.loop-i.i) h.loop-i.invariant.4 p.put_one-one.ensures.1, d.loop-i-test.true)
+    omega (arith, one_below (c.loop-i.i - c.args.from) _ _ _ (moves_at c.args.starts.now pos (nat_abs (read c.args.limit)) c.loop-i.i) c.loop-i.invariant.4 c.put_one-one.ensures.1, c.loop-i-test.true)
 
 add-i : tie.Need-overflow_add-i invariant-loop decreases-loop
-add-i c = let d = c in omega (arith, d.loop-i-test.true)
+add-i c = omega (arith, c.loop-i-test.true)
 
 loop-less : tie.Need-loop-i-smaller invariant-loop decreases-loop
-loop-less c = let d = c in omega (arith, d.loop-i-test.true)
+loop-less c = omega (arith, c.loop-i-test.true)
 
 loop-again : tie.Need-loop-i-preserved invariant-loop decreases-loop
-loop-again c =
-    let p = c in
-    let d = c in
-    let h = c in
-    let a = c in (
-      omega (arith, h.loop-i.invariant.0),
-      omega (arith, d.loop-i-test.true),
-      p.put_one-one.auto.dst ∙ h.loop-i.invariant.2,
-      turn_more (cell_at (pos 0) (rule_i32 a.args.rule) a.args.src.now pos (one_at a.args.starts.now (read a.args.limit))) a.args.from h.loop-i.i a.args.dst.now _ _ h.loop-i.invariant.0 h.loop-i.invariant.3 p.put_one-one.ensures.0,
-      many-turn a.args.from h.loop-i.i (moves_at a.args.starts.now pos (nat_abs (read a.args.limit))) _ _ h.loop-i.invariant.0 h.loop-i.invariant.4 p.put_one-one.ensures.1,
-    )
+loop-again c = (
+  omega (arith, c.loop-i.invariant.0),
+  omega (arith, c.loop-i-test.true),
+  c.put_one-one.auto.dst ∙ c.loop-i.invariant.2,
+  turn_more (cell_at (pos 0) (rule_i32 c.args.rule) c.args.src.now pos (one_at c.args.starts.now (read c.args.limit))) c.args.from c.loop-i.i c.args.dst.now _ _ c.loop-i.invariant.0 c.loop-i.invariant.3 c.put_one-one.ensures.0,
+  many-turn c.args.from c.loop-i.i (moves_at c.args.starts.now pos (nat_abs (read c.args.limit))) _ _ c.loop-i.invariant.0 c.loop-i.invariant.4 c.put_one-one.ensures.1,
+)
 
 same_length : tie.Need-shape_of-dst invariant-loop decreases-loop
 same_length c = c.loop-i.invariant.2
 
 returns : tie.Need-returns invariant-loop decreases-loop
 returns c =
-    let h = c in
-    let a = c in
-    (put-few-end (pos 0) (rule_i32 a.args.rule) a.args.src.now a.args.starts.now a.args.limit a.args.from h.loop-i.i a.args.to a.args.dst.now h.loop-i.dst a.ranges.limit (omega (arith, h.loop-i.invariant.1, c.loop-i-test.false)) h.loop-i.invariant.3, few-count true a.args.starts.now a.args.limit a.args.from h.loop-i.i a.args.to h.loop-i.slid a.ranges.limit (omega (arith, h.loop-i.invariant.1, c.loop-i-test.false)) h.loop-i.invariant.4)
+    (put-few-end (pos 0) (rule_i32 c.args.rule) c.args.src.now c.args.starts.now c.args.limit c.args.from c.loop-i.i c.args.to c.args.dst.now c.loop-i.dst c.ranges.limit (omega (arith, c.loop-i.invariant.1, c.loop-i-test.false)) c.loop-i.invariant.3, few-count true c.args.starts.now c.args.limit c.args.from c.loop-i.i c.args.to c.loop-i.slid c.ranges.limit (omega (arith, c.loop-i.invariant.1, c.loop-i-test.false)) c.loop-i.invariant.4)
 
 pub put_few_spec : {M : Type 1} → statement M
 put_few_spec =

@@ -15,10 +15,10 @@ use Rattle.indexed_runs.proofs.put_one.Tie as tie
 -- the place of the destination
 module _ (c : tie.After-clamped-y) where
   place : Index c.clamped-y.result.at (length c.args.dst.now)
-  place = let a = c in ones-index _ _ _ _ a.requires.1 a.ranges.limit (omega (arith, a.well_formed.1.1.1.0.1)) _ a.requires.0 (sfits_of c.x-1.given) _ c.clamped-y.ensures.0
+  place = ones-index _ _ _ _ c.requires.1 c.ranges.limit (omega (arith, c.well_formed.1.1.1.0.1)) _ c.requires.0 (sfits_of c.x-1.given) _ c.clamped-y.ensures.0
 
   by-start : pos (nat_abs (read c.clamped-y.result.at)) ≡ one_at c.args.starts.now c.args.limit c.args.i
-  by-start = let a = c in ones_is _ _ _ _ a.requires.1 a.ranges.limit (omega (arith, a.well_formed.1.1.1.0.1)) _ a.requires.0 (sfits_of c.x-1.given) _ c.clamped-y.ensures.0
+  by-start = ones_is _ _ _ _ c.requires.1 c.ranges.limit (omega (arith, c.well_formed.1.1.1.0.1)) _ c.requires.0 (sfits_of c.x-1.given) _ c.clamped-y.ensures.0
 
 mul-x : tie.Need-offset_bounds-starts-i
 mul-x c = search rules
@@ -31,16 +31,14 @@ clamped-requires c κs = search rules
 
 cast-b : tie.Need-overflow_cast-b
 cast-b c =
-    let l = c in
     (place search).cast
 
 mul_apply : tie.Need-offset_bounds-dst-b
 mul_apply c =
-    let l = c in
-    omega (arith, (place search).below, l.well_formed.1.1.1.0.1)
+    omega (arith, (place search).below, c.well_formed.1.1.1.0.1)
 
 slice-copy-out-apply : tie.Need-slice_copy_out-apply
-slice-copy-out-apply c = let l = c in (place search).below
+slice-copy-out-apply c = (place search).below
 
 mul-apply-2 : tie.Need-offset_bounds-src-i
 mul-apply-2 c = search rules
@@ -50,12 +48,10 @@ shared-slice-copy-out-apply c = search rules
 
 mul-v : tie.Need-offset_bounds-dst-b-2
 mul-v c =
-    let l = c in
-    omega (arith, (place search).below, l.well_formed.1.1.1.0.1)
+    omega (arith, (place search).below, c.well_formed.1.1.1.0.1)
 
 slice-set-from-v : tie.Need-bounds-dst-b
 slice-set-from-v c =
-    let l = c in
     (place search).below
 
 same_length : tie.Need-shape_of-dst
@@ -63,13 +59,10 @@ same_length c = search rules
 
 returns : tie.Need-returns
 returns c =
-    let w = c in
-    let q = c in
-    let a = q in
-    let m = nat_abs (read q.clamped-y.result.at) in (
-      one-turn (pos 0) (rule_i32 a.args.rule) a.args.src.now pos (one_at a.args.starts.now a.args.limit) a.args.dst.now a.args.i a.args.i m _ refl (by-start search)
-          (stored a.args.rule (get_or a.args.dst.now m (pos 0)) (get_or a.args.src.now a.args.i (pos 0)) w.apply-v.result (sfits_of w.apply-arg-1.given) (sfits_of w.apply-arg-2-1.given) w.apply-v.ensures),
-      c.count_if.ensures ∙ ap (λ (b : Bool). cond b 1 0) (ones-moved a.args.starts.now a.args.limit a.args.i a.ranges.limit (sfits_of q.x-1.given) _ q.clamped-y.ensures.1),
+    let m = nat_abs (read c.clamped-y.result.at) in (
+      one-turn (pos 0) (rule_i32 c.args.rule) c.args.src.now pos (one_at c.args.starts.now c.args.limit) c.args.dst.now c.args.i c.args.i m _ refl (by-start search)
+          (stored c.args.rule (get_or c.args.dst.now m (pos 0)) (get_or c.args.src.now c.args.i (pos 0)) c.apply-v.result (sfits_of c.apply-arg-1.given) (sfits_of c.apply-arg-2-1.given) c.apply-v.ensures),
+      c.count_if.ensures ∙ ap (λ (b : Bool). cond b 1 0) (ones-moved c.args.starts.now c.args.limit c.args.i c.ranges.limit (sfits_of c.x-1.given) _ c.clamped-y.ensures.1),
     )
 
 pub put_one_spec : {M : Type 1} → statement M

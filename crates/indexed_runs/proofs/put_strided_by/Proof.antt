@@ -27,53 +27,46 @@ abbrev decreases-loop : tie.decreases-loop-i
 decreases-loop rule src starts dst₀ n t ts base stride limit s ss slid₀ i₀ dst slid i = n - i
 
 starts-at : (d : tie.In-loop-i invariant-loop decreases-loop) → Step d.args.t d.args.ts d.loop-i.i (length d.args.starts.now)
-starts-at d = let a = d in start-step _ _ _ _ _ _ _ _ _ _ _ a.requires a.ranges.t a.ranges.ts (omega (arith, a.well_formed.1.1.0.1)) _ d.loop-i-test.true
+starts-at d = start-step _ _ _ _ _ _ _ _ _ _ _ d.requires d.ranges.t d.ranges.ts (omega (arith, d.well_formed.1.1.0.1)) _ d.loop-i-test.true
 
 plain_at : (d : tie.In-loop-i invariant-loop decreases-loop) → Step d.args.s d.args.ss d.loop-i.i (length d.args.src.now)
-plain_at d = let a = d in plain_step _ _ _ _ _ _ _ _ _ _ _ a.requires a.ranges.s a.ranges.ss (omega (arith, a.well_formed.1.0.1)) _ d.loop-i-test.true
+plain_at d = plain_step _ _ _ _ _ _ _ _ _ _ _ d.requires d.ranges.s d.ranges.ss (omega (arith, d.well_formed.1.0.1)) _ d.loop-i-test.true
 
 module _ (c : tie.After-clamp_window_start-y invariant-loop decreases-loop) where
   clamped-at : Step c.args.base c.args.stride c.clamp_window_start-y.result.start (length c.args.dst.now)
-  clamped-at = let a = c in clamped-step _ _ _ _ _ _ _ _ _ _ _ a.requires a.ranges.t a.ranges.ts a.ranges.base a.ranges.stride (omega (arith, a.well_formed.1.1.1.0.1)) _ c.loop-i-test.true (starts-at search) (sfits_of c.x-1.given) _ c.clamp_window_start-y.ensures.0
+  clamped-at = clamped-step _ _ _ _ _ _ _ _ _ _ _ c.requires c.ranges.t c.ranges.ts c.ranges.base c.ranges.stride (omega (arith, c.well_formed.1.1.1.0.1)) _ c.loop-i-test.true (starts-at search) (sfits_of c.x-1.given) _ c.clamp_window_start-y.ensures.0
 
   -- the place is by the c
   by-start : pos (nat_abs (machine c.args.base c.args.stride c.clamp_window_start-y.result.start))
       ≡ clamped_at c.args.starts.now (line (read c.args.t) (read c.args.ts)) (read c.args.base) (read c.args.stride) c.args.limit c.loop-i.i
-  by-start = let a = c in clamped-is a.args.starts.now a.args.t a.args.ts a.args.base a.args.stride a.args.limit _ _ _ _ (starts-at search) (sfits_of c.x-1.given) clamped-at c.clamp_window_start-y.ensures.0
+  by-start = clamped-is c.args.starts.now c.args.t c.args.ts c.args.base c.args.stride c.args.limit _ _ _ _ (starts-at search) (sfits_of c.x-1.given) clamped-at c.clamp_window_start-y.ensures.0
 
 loop-holds : tie.Need-loop-i-init invariant-loop decreases-loop
 loop-holds c =
-    let a = c in
-    (omega arith, refl, none _ 0 a.args.dst.now refl, many-none 0 _ refl)
+    (omega arith, refl, none _ 0 c.args.dst.now refl, many-none 0 _ refl)
 
 cast-k : tie.Need-overflow_cast-k invariant-loop decreases-loop
 cast-k c =
-    let d = c in
     (starts-at search).count
 
 mul-p : tie.Need-overflow_mul-p invariant-loop decreases-loop
 mul-p c =
-    let d = c in
     (starts-at search).multiple
 
 add-p : tie.Need-overflow_add-p invariant-loop decreases-loop
 add-p c =
-    let d = c in
     (starts-at search).fits
 
 cast-p : tie.Need-overflow_cast-p invariant-loop decreases-loop
 cast-p c =
-    let d = c in
     (starts-at search).cast
 
 mul-x : tie.Need-offset_bounds-starts-p invariant-loop decreases-loop
 mul-x c =
-    let d = c in
-    omega (arith, (starts-at search).below, d.well_formed.1.1.0.1)
+    omega (arith, (starts-at search).below, c.well_formed.1.1.0.1)
 
 shared-slice-copy-out-x : tie.Need-bounds-starts-p invariant-loop decreases-loop
 shared-slice-copy-out-x c =
-    let d = c in
     (starts-at search).below
 
 clamp-window-start-requires : tie.Need-clamp_window_start-y-requires invariant-loop decreases-loop
@@ -81,55 +74,43 @@ clamp-window-start-requires c κs = tt
 
 cast-c : tie.Need-overflow_cast-c invariant-loop decreases-loop
 cast-c c =
-    let k = c in
     (clamped-at search).count
 
 mul-b : tie.Need-overflow_mul-b invariant-loop decreases-loop
 mul-b c =
-    let k = c in
     (clamped-at search).multiple
 
 add-b : tie.Need-overflow_add-b invariant-loop decreases-loop
 add-b c =
-    let k = c in
     (clamped-at search).fits
 
 cast-b : tie.Need-overflow_cast-b invariant-loop decreases-loop
 cast-b c =
-    let k = c in
     (clamped-at search).cast
 
 mul-a : tie.Need-overflow_mul-a invariant-loop decreases-loop
 mul-a c =
-    let d = c in
     (plain_at search).multiple
 
 add_a : tie.Need-overflow_add-a invariant-loop decreases-loop
 add_a c =
-    let d = c in
     (plain_at search).fits
 
 cast-a : tie.Need-overflow_cast-a invariant-loop decreases-loop
 cast-a c =
-    let d = c in
     (plain_at search).cast
 
 mul_apply : tie.Need-offset_bounds-dst-b invariant-loop decreases-loop
 mul_apply c =
-    let d = c in
-    let k = c in
-    omega (arith, (clamped-at search).below, d.well_formed.1.1.1.0.1)
+    omega (arith, (clamped-at search).below, c.well_formed.1.1.1.0.1)
 
 slice-copy-out-apply : tie.Need-slice_copy_out-apply invariant-loop decreases-loop
 slice-copy-out-apply c =
-    let l = c in
-    let h = c in
-    omega (arith, (clamped-at search).below, h.loop-i.invariant.1)
+    omega (arith, (clamped-at search).below, c.loop-i.invariant.1)
 
 mul-apply-2 : tie.Need-offset_bounds-src-a invariant-loop decreases-loop
 mul-apply-2 c =
-    let d = c in
-    omega (arith, (plain_at search).below, d.well_formed.1.0.1)
+    omega (arith, (plain_at search).below, c.well_formed.1.0.1)
 
 shared-slice-copy-out-apply :
     tie.Need-bounds-src-a invariant-loop decreases-loop
@@ -140,21 +121,15 @@ apply-requires c κs = tt
 
 mul-v : tie.Need-offset_bounds-dst-b-in-loop-i invariant-loop decreases-loop
 mul-v c =
-    let k = c in
-    let d = c in
-    omega (arith, (clamped-at search).below, d.well_formed.1.1.1.0.1)
+    omega (arith, (clamped-at search).below, c.well_formed.1.1.1.0.1)
 
 slice-set-from-v : tie.Need-bounds-dst-b invariant-loop decreases-loop
 slice-set-from-v c =
-    let k = c in
-    let h = c in
-    omega (arith, (clamped-at search).below, h.loop-i.invariant.1)
+    omega (arith, (clamped-at search).below, c.loop-i.invariant.1)
 
 add-slid : tie.Need-overflow_add-slid invariant-loop decreases-loop
 add-slid c =
-    let q = c in
-    let h = c in
-    omega (arith, one_below h.loop-i.i _ _ _ q.clamp_window_start-y.result.moved h.loop-i.invariant.3 c.count_if-one.ensures)
+    omega (arith, one_below c.loop-i.i _ _ _ c.clamp_window_start-y.result.moved c.loop-i.invariant.3 c.count_if-one.ensures)
 
 add-i : tie.Need-overflow_add-i invariant-loop decreases-loop
 add-i c = omega arith
@@ -164,30 +139,23 @@ loop-less c = omega arith
 
 loop-again : tie.Need-loop-i-preserved invariant-loop decreases-loop
 loop-again c =
-    let w = c in
-    let q = c in
-    let d = q in
-    let h = d in
-    let a = d in
-    let from = nat_abs (machine a.args.s a.args.ss h.loop-i.i) in
-    let to = nat_abs (machine a.args.base a.args.stride q.clamp_window_start-y.result.start) in (
+    let from = nat_abs (machine c.args.s c.args.ss c.loop-i.i) in
+    let to = nat_abs (machine c.args.base c.args.stride c.clamp_window_start-y.result.start) in (
       omega arith,
-      length-set h.loop-i.dst _ _ ∙ h.loop-i.invariant.1,
-      cell-more (pos 0) (rule_i32 a.args.rule) a.args.src.now (line (read a.args.s) (read a.args.ss)) (clamped_at a.args.starts.now (line (read a.args.t) (read a.args.ts)) (read a.args.base) (read a.args.stride) a.args.limit) a.args.dst.now h.loop-i.dst h.loop-i.i from to _ h.loop-i.invariant.2 (plain_at search).index_is (by-start search) (stored a.args.rule (get_or h.loop-i.dst to (pos 0)) (get_or a.args.src.now from (pos 0)) w.apply-v.result (sfits_of w.apply-arg-1.given) (sfits_of w.apply-arg-in-loop-i-1.given) w.apply-v.ensures),
-      many_more h.loop-i.i (moves_at a.args.starts.now (line (read a.args.t) (read a.args.ts)) a.args.limit) _ _ q.clamp_window_start-y.result.moved h.loop-i.invariant.3 c.count_if-one.ensures
-          (moves-is a.args.starts.now _ _ a.args.limit _ _ (starts-at search) (sfits_of q.x-1.given) _ q.clamp_window_start-y.ensures.1),
+      length-set c.loop-i.dst _ _ ∙ c.loop-i.invariant.1,
+      cell-more (pos 0) (rule_i32 c.args.rule) c.args.src.now (line (read c.args.s) (read c.args.ss)) (clamped_at c.args.starts.now (line (read c.args.t) (read c.args.ts)) (read c.args.base) (read c.args.stride) c.args.limit) c.args.dst.now c.loop-i.dst c.loop-i.i from to _ c.loop-i.invariant.2 (plain_at search).index_is (by-start search) (stored c.args.rule (get_or c.loop-i.dst to (pos 0)) (get_or c.args.src.now from (pos 0)) c.apply-v.result (sfits_of c.apply-arg-1.given) (sfits_of c.apply-arg-in-loop-i-1.given) c.apply-v.ensures),
+      many_more c.loop-i.i (moves_at c.args.starts.now (line (read c.args.t) (read c.args.ts)) c.args.limit) _ _ c.clamp_window_start-y.result.moved c.loop-i.invariant.3 c.count_if-one.ensures
+          (moves-is c.args.starts.now _ _ c.args.limit _ _ (starts-at search) (sfits_of c.x-1.given) _ c.clamp_window_start-y.ensures.1),
     )
 
 same_length : tie.Need-shape_of-dst invariant-loop decreases-loop
 same_length c = c.loop-i.invariant.1
 
 returns : tie.Need-returns invariant-loop decreases-loop
-returns c =
-    let h = c in
-    let a = c in (
-      put-end (pos 0) (rule_i32 a.args.rule) a.args.src.now a.args.starts.now a.args.t a.args.ts a.args.base a.args.stride a.args.s a.args.ss a.args.limit h.loop-i.i a.args.n a.args.dst.now h.loop-i.dst a.ranges.t a.ranges.ts a.ranges.base a.ranges.stride a.ranges.s a.ranges.ss (omega arith) h.loop-i.invariant.2,
-      moves-end a.args.starts.now a.args.t a.args.ts h.loop-i.i a.args.n h.loop-i.slid a.ranges.t a.ranges.ts (omega arith) a.args.limit h.loop-i.invariant.3,
-    )
+returns c = (
+  put-end (pos 0) (rule_i32 c.args.rule) c.args.src.now c.args.starts.now c.args.t c.args.ts c.args.base c.args.stride c.args.s c.args.ss c.args.limit c.loop-i.i c.args.n c.args.dst.now c.loop-i.dst c.ranges.t c.ranges.ts c.ranges.base c.ranges.stride c.ranges.s c.ranges.ss (omega arith) c.loop-i.invariant.2,
+  moves-end c.args.starts.now c.args.t c.args.ts c.loop-i.i c.args.n c.loop-i.slid c.ranges.t c.ranges.ts (omega arith) c.args.limit c.loop-i.invariant.3,
+)
 
 pub put_strided_by_spec : {M : Type 1} → statement M
 put_strided_by_spec =

@@ -39,59 +39,46 @@ module _ (d : tie.In-loop-left invariant-loop decreases-loop) where
 
 returns : tie.Need-returns-then-limit-lt0 invariant-loop decreases-loop
 returns c =
-    let a = c in
-    absurd (omega (arith, zfacts, a.requires.1.low, known a.ranges.limit, only a.args.limit, c.if-limit-lt0.true))
+    absurd (omega (arith, zfacts, c.requires.1.low, known c.ranges.limit, only c.args.limit, c.if-limit-lt0.true))
 
 loop-holds : tie.Need-loop-left-init invariant-loop decreases-loop
 loop-holds c =
-    let a = c in
-    (omega arith, a.requires.0, refl, none _ (a.args.from - a.args.from) a.args.dst.now (omega arith), many-none (a.args.from - a.args.from) _ (omega arith))
+    (omega arith, c.requires.0, refl, none _ (c.args.from - c.args.from) c.args.dst.now (omega arith), many-none (c.args.from - c.args.from) _ (omega arith))
 
 add-e : tie.Need-overflow_add-e invariant-loop decreases-loop
 add-e c = omega (arith, fits search, c.well_formed.1.0.1)
 
 put-few-requires : tie.Need-put_few-few-requires invariant-loop decreases-loop
 put-few-requires c κs =
-    let d = c in
-    let h = c in
-    (omega arith, fits search, ones-left _ _ _ _ _ _ d.ranges.limit d.requires.1 refl h.loop-left.invariant.2)
+    (omega arith, fits search, ones-left _ _ _ _ _ _ c.ranges.limit c.requires.1 refl c.loop-left.invariant.2)
 
 add-slid : tie.Need-overflow_add-slid invariant-loop decreases-loop
 add-slid c =
-    let p = c in
-    let d = c in
-    let h = c in
-    omega (arith, further-below d.args.from h.loop-left.i (h.loop-left.i + d.args.width) _ _ _ _ h.loop-left.invariant.0 (omega arith) h.loop-left.invariant.4 p.put_few-few.ensures.1, fits search, d.well_formed.1.0.1)
+    omega (arith, further-below c.args.from c.loop-left.i (c.loop-left.i + c.args.width) _ _ _ _ c.loop-left.invariant.0 (omega arith) c.loop-left.invariant.4 c.put_few-few.ensures.1, fits search, c.well_formed.1.0.1)
 
 sub-left : tie.Need-overflow_sub-left invariant-loop decreases-loop
-sub-left c = let d = c in omega (arith, d.loop-left-test.true)
+sub-left c = omega (arith, c.loop-left-test.true)
 
 loop-less : tie.Need-loop-left-smaller invariant-loop decreases-loop
-loop-less c = let d = c in omega (arith, d.loop-left-test.true)
+loop-less c = omega (arith, c.loop-left-test.true)
 
 loop-again : tie.Need-loop-left-preserved invariant-loop decreases-loop
-loop-again c =
-    let p = c in
-    let d = c in
-    let h = c in
-    let a = d in (
-      omega (arith, h.loop-left.invariant.0),
-      turn search,
-      p.put_few-few.auto.dst ∙ h.loop-left.invariant.2,
-      turns-further (cell_at (pos 0) (rule_i32 a.args.rule) a.args.src.now pos (one_at a.args.starts.now (read a.args.limit))) a.args.from h.loop-left.i (h.loop-left.i + a.args.width) a.args.dst.now h.loop-left.dst _ h.loop-left.invariant.0 (omega arith) h.loop-left.invariant.3 p.put_few-few.ensures.0,
-      many-further a.args.from h.loop-left.i (h.loop-left.i + a.args.width) (moves_at a.args.starts.now pos (nat_abs (read a.args.limit))) _ _ h.loop-left.invariant.0 (omega arith) h.loop-left.invariant.4 p.put_few-few.ensures.1,
-    )
+loop-again c = (
+  omega (arith, c.loop-left.invariant.0),
+  turn search,
+  c.put_few-few.auto.dst ∙ c.loop-left.invariant.2,
+  turns-further (cell_at (pos 0) (rule_i32 c.args.rule) c.args.src.now pos (one_at c.args.starts.now (read c.args.limit))) c.args.from c.loop-left.i (c.loop-left.i + c.args.width) c.args.dst.now c.loop-left.dst _ c.loop-left.invariant.0 (omega arith) c.loop-left.invariant.3 c.put_few-few.ensures.0,
+  many-further c.args.from c.loop-left.i (c.loop-left.i + c.args.width) (moves_at c.args.starts.now pos (nat_abs (read c.args.limit))) _ _ c.loop-left.invariant.0 (omega arith) c.loop-left.invariant.4 c.put_few-few.ensures.1,
+)
 
 same_length : tie.Need-shape_of-dst invariant-loop decreases-loop
 same_length c = c.loop-left.invariant.2
 
 returns-2 : tie.Need-returns invariant-loop decreases-loop
 returns-2 c =
-    let h = c in
-    let a = c in
-    let e = none_left h.loop-left.i a.args.width h.loop-left.left (length a.args.src.now) h.loop-left.invariant.1 (omega (arith, c.loop-left-test.false)) in (
-      put-few-end (pos 0) (rule_i32 a.args.rule) a.args.src.now a.args.starts.now a.args.limit a.args.from h.loop-left.i (length a.args.src.now) a.args.dst.now h.loop-left.dst a.ranges.limit e h.loop-left.invariant.3,
-      few-count true a.args.starts.now a.args.limit a.args.from h.loop-left.i (length a.args.src.now) h.loop-left.slid a.ranges.limit e h.loop-left.invariant.4,
+    let e = none_left c.loop-left.i c.args.width c.loop-left.left (length c.args.src.now) c.loop-left.invariant.1 (omega (arith, c.loop-left-test.false)) in (
+      put-few-end (pos 0) (rule_i32 c.args.rule) c.args.src.now c.args.starts.now c.args.limit c.args.from c.loop-left.i (length c.args.src.now) c.args.dst.now c.loop-left.dst c.ranges.limit e c.loop-left.invariant.3,
+      few-count true c.args.starts.now c.args.limit c.args.from c.loop-left.i (length c.args.src.now) c.loop-left.slid c.ranges.limit e c.loop-left.invariant.4,
     )
 
 pub put_turns_spec : {M : Type 1} → statement M

@@ -28,19 +28,19 @@ room a = omega (arith, a.well_formed.0.1)
 
 module _ (c : tie.After-p-1 invariant-loop decreases-loop) where
   index_at : Index (read c.args.t +ℤ read (get_or c.args.offsets.now c.loop-c.c (pos 0))) (length c.args.starts.now)
-  index_at = let a = c in component-index _ _ _ _ _ _ _ _ a.requires (omega arith) a.ranges.s a.ranges.t _ c.loop-c-test.true (sfits_of c.p-1.given) (room search)
+  index_at = component-index _ _ _ _ _ _ _ _ c.requires (omega arith) c.ranges.s c.ranges.t _ c.loop-c-test.true (sfits_of c.p-1.given) (room search)
 
 loop-holds : tie.Need-loop-c-init invariant-loop decreases-loop
 loop-holds c = (omega arith, Fits-of_z c.ranges.s, none_yet c.args.starts.now c.args.offsets.now c.args.strides.now c.args.limits.now (read c.args.s) (read c.args.t), one_none (component_moved c.args.starts.now c.args.offsets.now c.args.limits.now (read c.args.t)))
 
 mul-p : tie.Need-offset_bounds-offsets-c invariant-loop decreases-loop
-mul-p c = let d = c in omega (arith, d.requires.few)
+mul-p c = omega (arith, c.requires.few)
 
 element-copy-out-p : tie.Need-bounds-offsets-c invariant-loop decreases-loop
-element-copy-out-p c = let d = c in omega (arith, d.requires.few)
+element-copy-out-p c = omega (arith, c.requires.few)
 
 add-p : tie.Need-overflow_add-p invariant-loop decreases-loop
-add-p c = let a = c in component-fits _ _ _ _ _ _ _ _ a.requires (omega arith) a.ranges.s a.ranges.t _ c.loop-c-test.true (sfits_of c.p-1.given) (room search)
+add-p c = component-fits _ _ _ _ _ _ _ _ c.requires (omega arith) c.ranges.s c.ranges.t _ c.loop-c-test.true (sfits_of c.p-1.given) (room search)
 
 cast-p : tie.Need-overflow_cast-p invariant-loop decreases-loop
 cast-p c = (index_at search).cast
@@ -52,74 +52,52 @@ shared-slice-copy-out-x : tie.Need-bounds-starts-p invariant-loop decreases-loop
 shared-slice-copy-out-x c = (index_at search).below
 
 mul-clamp-window-start : tie.Need-offset_bounds-limits-c invariant-loop decreases-loop
-mul-clamp-window-start c = let d = c in omega (arith, d.requires.few)
+mul-clamp-window-start c = omega (arith, c.requires.few)
 
 element-copy-out-clamp-window-start : tie.Need-bounds-limits-c invariant-loop decreases-loop
-element-copy-out-clamp-window-start c = let d = c in omega (arith, d.requires.few)
+element-copy-out-clamp-window-start c = omega (arith, c.requires.few)
 
 clamp-window-start-requires : tie.Need-clamp_window_start-y-requires invariant-loop decreases-loop
 clamp-window-start-requires c κs = tt
 
 cast-k : tie.Need-overflow_cast-k invariant-loop decreases-loop
 cast-k c =
-    let k = c in
-    let d = c in
-    clamped-fits _ _ _ (d.requires.small _ d.loop-c-test.true) k.clamp_window_start-y.ensures.0
+    clamped-fits _ _ _ (c.requires.small _ c.loop-c-test.true) c.clamp_window_start-y.ensures.0
 
 mul_at : tie.Need-offset_bounds-strides-c invariant-loop decreases-loop
-mul_at c = let d = c in omega (arith, d.requires.few)
+mul_at c = omega (arith, c.requires.few)
 
 element-copy-out-at : tie.Need-bounds-strides-c invariant-loop decreases-loop
-element-copy-out-at c = let d = c in omega (arith, d.requires.few)
+element-copy-out-at c = omega (arith, c.requires.few)
 
 mul-at-2 : tie.Need-overflow_mul-at invariant-loop decreases-loop
 mul-at-2 c =
-    let v = c in
-    let k = c in
-    let x = c in
-    let p = c in
-    let d = p in
-    let a = d in
-    product-fits _ _ _ _ _ _ _ _ a.requires (omega arith) a.ranges.s a.ranges.t _ d.loop-c-test.true (sfits_of p.p-1.given) (sfits_of v.at-1.given) _ d.loop-c.invariant.2 _ (index_at search).is (sfits_of x.x-1.given) _ k.clamp_window_start-y.ensures.0
+    product-fits _ _ _ _ _ _ _ _ c.requires (omega arith) c.ranges.s c.ranges.t _ c.loop-c-test.true (sfits_of c.p-1.given) (sfits_of c.at-1.given) _ c.loop-c.invariant.2 _ (index_at search).is (sfits_of c.x-1.given) _ c.clamp_window_start-y.ensures.0
 
 add_at : tie.Need-overflow_add-at invariant-loop decreases-loop
 add_at c =
-    let v = c in
-    let k = c in
-    let x = c in
-    let p = c in
-    let d = p in
-    let a = d in
-    sum_fits _ _ _ _ _ _ _ _ a.requires (omega arith) a.ranges.s a.ranges.t _ d.loop-c-test.true (sfits_of p.p-1.given) (sfits_of v.at-1.given) _ d.loop-c.invariant.2 _ (index_at search).is (sfits_of x.x-1.given) _ k.clamp_window_start-y.ensures.0
+    sum_fits _ _ _ _ _ _ _ _ c.requires (omega arith) c.ranges.s c.ranges.t _ c.loop-c-test.true (sfits_of c.p-1.given) (sfits_of c.at-1.given) _ c.loop-c.invariant.2 _ (index_at search).is (sfits_of c.x-1.given) _ c.clamp_window_start-y.ensures.0
 
 add-c : tie.Need-overflow_add-c invariant-loop decreases-loop
-add-c c = let d = c in omega (arith, d.requires.few)
+add-c c = omega (arith, c.requires.few)
 
 loop-less : tie.Need-loop-c-smaller invariant-loop decreases-loop
 loop-less c = omega arith
 
 loop-again : tie.Need-loop-c-preserved invariant-loop decreases-loop
-loop-again c =
-    let v = c in
-    let k = c in
-    let x = c in
-    let p = c in
-    let d = p in
-    let a = d in (
-      omega arith,
-      Fits-of_z (sum_fits _ _ _ _ _ _ _ _ a.requires (omega arith) a.ranges.s a.ranges.t _ d.loop-c-test.true (sfits_of p.p-1.given) (sfits_of v.at-1.given) _ d.loop-c.invariant.2 _ (index_at search).is (sfits_of x.x-1.given) _ k.clamp_window_start-y.ensures.0),
-      sum-next _ _ _ _ _ _ _ _ a.requires (omega arith) a.ranges.s a.ranges.t _ d.loop-c-test.true (sfits_of p.p-1.given) (sfits_of v.at-1.given) _ d.loop-c.invariant.2 _ (index_at search).is (sfits_of x.x-1.given) _ k.clamp_window_start-y.ensures.0,
-      one_more _ (component_moved a.args.starts.now a.args.offsets.now a.args.limits.now (read a.args.t)) _ _ _ d.loop-c.invariant.3
-          (component-moved _ _ _ _ _ _ _ _ a.requires (omega arith) a.ranges.s a.ranges.t _ d.loop-c-test.true (sfits_of p.p-1.given) _ (index_at search).is (sfits_of x.x-1.given) _ k.clamp_window_start-y.ensures.1) c.either-moved.ensures,
-    )
+loop-again c = (
+  omega arith,
+  Fits-of_z (sum_fits _ _ _ _ _ _ _ _ c.requires (omega arith) c.ranges.s c.ranges.t _ c.loop-c-test.true (sfits_of c.p-1.given) (sfits_of c.at-1.given) _ c.loop-c.invariant.2 _ (index_at search).is (sfits_of c.x-1.given) _ c.clamp_window_start-y.ensures.0),
+  sum-next _ _ _ _ _ _ _ _ c.requires (omega arith) c.ranges.s c.ranges.t _ c.loop-c-test.true (sfits_of c.p-1.given) (sfits_of c.at-1.given) _ c.loop-c.invariant.2 _ (index_at search).is (sfits_of c.x-1.given) _ c.clamp_window_start-y.ensures.0,
+  one_more _ (component_moved c.args.starts.now c.args.offsets.now c.args.limits.now (read c.args.t)) _ _ _ c.loop-c.invariant.3
+      (component-moved _ _ _ _ _ _ _ _ c.requires (omega arith) c.ranges.s c.ranges.t _ c.loop-c-test.true (sfits_of c.p-1.given) _ (index_at search).is (sfits_of c.x-1.given) _ c.clamp_window_start-y.ensures.1) c.either-moved.ensures,
+)
 
 returns : tie.Need-returns invariant-loop decreases-loop
-returns c =
-    let h = c in
-    let a = h in (
-      h.loop-c.invariant.2 ∙ ap₂ (λ u v. u +ℤ start_at a.args.starts.now a.args.offsets.now a.args.strides.now a.args.limits.now v h.loop-c.c) (back a.ranges.s) (back a.ranges.t) ∙ ap (λ k. a.args.s +ℤ start_at a.args.starts.now a.args.offsets.now a.args.strides.now a.args.limits.now a.args.t k) (omega arith),
-      h.loop-c.invariant.3 ∙ ap (λ v. start_moved a.args.starts.now a.args.offsets.now a.args.limits.now v h.loop-c.c) (back a.ranges.t) ∙ ap (λ k. start_moved a.args.starts.now a.args.offsets.now a.args.limits.now a.args.t k) (omega arith),
-    )
+returns c = (
+  c.loop-c.invariant.2 ∙ ap₂ (λ u v. u +ℤ start_at c.args.starts.now c.args.offsets.now c.args.strides.now c.args.limits.now v c.loop-c.c) (back c.ranges.s) (back c.ranges.t) ∙ ap (λ k. c.args.s +ℤ start_at c.args.starts.now c.args.offsets.now c.args.strides.now c.args.limits.now c.args.t k) (omega arith),
+  c.loop-c.invariant.3 ∙ ap (λ v. start_moved c.args.starts.now c.args.offsets.now c.args.limits.now v c.loop-c.c) (back c.ranges.t) ∙ ap (λ k. start_moved c.args.starts.now c.args.offsets.now c.args.limits.now c.args.t k) (omega arith),
+)
 
 pub started_spec : {M : Type 1} → statement M
 started_spec =

@@ -14,50 +14,37 @@ use Rattle.indexed_runs.proofs.take_cells.Tie as tie
 
 take-pairs-requires : tie.Need-take_pairs-requires
 take-pairs-requires c κs =
-    let t = c in
-    let a = c in
-    takes-ask _ _ _ _ _ _ _ _ _ _ _ _ _ _ a.ranges.s a.ranges.t a.ranges.d a.ranges.ss a.ranges.ts a.ranges.ds (subst (λ (m : ℕ). Taking a.args.starts.now a.args.offsets.now a.args.strides.now a.args.limits.now m a.args.s a.args.t a.args.d a.args.ss a.args.ts a.args.ds a.args.n (length a.args.src.now) (length a.args.dst.now)) t.if-count-eq2.true a.requires)
+    takes-ask _ _ _ _ _ _ _ _ _ _ _ _ _ _ c.ranges.s c.ranges.t c.ranges.d c.ranges.ss c.ranges.ts c.ranges.ds (subst (λ (m : ℕ). Taking c.args.starts.now c.args.offsets.now c.args.strides.now c.args.limits.now m c.args.s c.args.t c.args.d c.args.ss c.args.ts c.args.ds c.args.n (length c.args.src.now) (length c.args.dst.now)) c.if-count-eq2.true c.requires)
 
 same_length : tie.Need-shape_of-dst-then-count-eq2
 same_length c = search rules
 
 returns : tie.Need-returns-then-count-eq2
 returns c =
-    let o = c in
-    let t = c in
-    let a = c in
-    rw t.if-count-eq2.true
-    (cells-end (pos 0) (rule_i32 R.Replace) a.args.src.now a.args.starts.now a.args.offsets.now a.args.strides.now a.args.limits.now 2 _ _ _ _ _ _ a.args.n a.args.n a.args.dst.now _ a.ranges.s a.ranges.t a.ranges.d a.ranges.ss a.ranges.ts a.ranges.ds refl o.take_pairs.ensures.0, so-counted a.args.counts a.args.counts _ _ _ refl (starts-end a.args.starts.now a.args.t a.args.ts a.args.n a.args.n _ a.ranges.t a.ranges.ts refl a.args.offsets.now a.args.limits.now 2 refl) o.take_pairs.ensures.1)
+    rw c.if-count-eq2.true
+    (cells-end (pos 0) (rule_i32 R.Replace) c.args.src.now c.args.starts.now c.args.offsets.now c.args.strides.now c.args.limits.now 2 _ _ _ _ _ _ c.args.n c.args.n c.args.dst.now _ c.ranges.s c.ranges.t c.ranges.d c.ranges.ss c.ranges.ts c.ranges.ds refl c.take_pairs.ensures.0, so-counted c.args.counts c.args.counts _ _ _ refl (starts-end c.args.starts.now c.args.t c.args.ts c.args.n c.args.n _ c.ranges.t c.ranges.ts refl c.args.offsets.now c.args.limits.now 2 refl) c.take_pairs.ensures.1)
 
 take-cells-by-requires : tie.Need-take_cells_by-requires
 take-cells-by-requires c κs =
-    let a = c in
-    takes-ask _ _ _ _ _ _ _ _ _ _ _ _ _ _ a.ranges.s a.ranges.t a.ranges.d a.ranges.ss a.ranges.ts a.ranges.ds a.requires
+    takes-ask _ _ _ _ _ _ _ _ _ _ _ _ _ _ c.ranges.s c.ranges.t c.ranges.d c.ranges.ss c.ranges.ts c.ranges.ds c.requires
 
 same-length-2 : tie.Need-shape_of-dst-then-counts
 same-length-2 c = search rules
 
 returns-2 : tie.Need-returns-then-counts
 returns-2 c =
-    let o = c in
-    let t = c in
-    let a = c in
-    (cells-end (pos 0) (rule_i32 R.Replace) a.args.src.now a.args.starts.now a.args.offsets.now a.args.strides.now a.args.limits.now a.args.count _ _ _ _ _ _ a.args.n a.args.n a.args.dst.now _ a.ranges.s a.ranges.t a.ranges.d a.ranges.ss a.ranges.ts a.ranges.ds refl o.take_cells_by.ensures.0, so-counted a.args.counts true _ _ _ t.if-counts.true (starts-end a.args.starts.now a.args.t a.args.ts a.args.n a.args.n _ a.ranges.t a.ranges.ts refl a.args.offsets.now a.args.limits.now a.args.count refl) o.take_cells_by.ensures.1)
+    (cells-end (pos 0) (rule_i32 R.Replace) c.args.src.now c.args.starts.now c.args.offsets.now c.args.strides.now c.args.limits.now c.args.count _ _ _ _ _ _ c.args.n c.args.n c.args.dst.now _ c.ranges.s c.ranges.t c.ranges.d c.ranges.ss c.ranges.ts c.ranges.ds refl c.take_cells_by.ensures.0, so-counted c.args.counts true _ _ _ c.if-counts.true (starts-end c.args.starts.now c.args.t c.args.ts c.args.n c.args.n _ c.ranges.t c.ranges.ts refl c.args.offsets.now c.args.limits.now c.args.count refl) c.take_cells_by.ensures.1)
 
 take-cells-by-requires-2 : tie.Need-take_cells_by-requires-2
 take-cells-by-requires-2 c κs =
-    let a = c in
-    takes-ask _ _ _ _ _ _ _ _ _ _ _ _ _ _ a.ranges.s a.ranges.t a.ranges.d a.ranges.ss a.ranges.ts a.ranges.ds a.requires
+    takes-ask _ _ _ _ _ _ _ _ _ _ _ _ _ _ c.ranges.s c.ranges.t c.ranges.d c.ranges.ss c.ranges.ts c.ranges.ds c.requires
 
 same-length-3 : tie.Need-shape_of-dst
 same-length-3 c = search rules
 
 returns-3 : tie.Need-returns
 returns-3 c =
-    let o = c in
-    let f = c in
-    let a = c in
-    (cells-end (pos 0) (rule_i32 R.Replace) a.args.src.now a.args.starts.now a.args.offsets.now a.args.strides.now a.args.limits.now a.args.count _ _ _ _ _ _ a.args.n a.args.n a.args.dst.now _ a.ranges.s a.ranges.t a.ranges.d a.ranges.ss a.ranges.ts a.ranges.ds refl o.take_cells_by-2.ensures.0, so-counted a.args.counts false _ _ _ f.if-counts.false (starts-end a.args.starts.now a.args.t a.args.ts a.args.n a.args.n _ a.ranges.t a.ranges.ts refl a.args.offsets.now a.args.limits.now a.args.count refl) o.take_cells_by-2.ensures.1)
+    (cells-end (pos 0) (rule_i32 R.Replace) c.args.src.now c.args.starts.now c.args.offsets.now c.args.strides.now c.args.limits.now c.args.count _ _ _ _ _ _ c.args.n c.args.n c.args.dst.now _ c.ranges.s c.ranges.t c.ranges.d c.ranges.ss c.ranges.ts c.ranges.ds refl c.take_cells_by-2.ensures.0, so-counted c.args.counts false _ _ _ c.if-counts.false (starts-end c.args.starts.now c.args.t c.args.ts c.args.n c.args.n _ c.ranges.t c.ranges.ts refl c.args.offsets.now c.args.limits.now c.args.count refl) c.take_cells_by-2.ensures.1)
 
 pub take_cells_spec : {M : Type 1} → statement M
 take_cells_spec = tie.close (tie.spec take-pairs-requires same_length returns take-cells-by-requires same-length-2 returns-2 take-cells-by-requires-2 same-length-3 returns-3)

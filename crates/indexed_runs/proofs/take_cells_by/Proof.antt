@@ -37,98 +37,79 @@ module _ (a : tie.Start invariant-loop decreases-loop) where
 
 module _ (d : tie.In-loop-i invariant-loop decreases-loop) where
   from : Step d.args.s d.args.ss d.loop-i.i (length d.args.src.now)
-  from = let a = d in source-step _ _ _ _ _ _ _ _ _ _ _ _ _ _ a.requires _ d.loop-i-test.true a.ranges.s a.ranges.ss (src-room search)
+  from = source-step _ _ _ _ _ _ _ _ _ _ _ _ _ _ d.requires _ d.loop-i-test.true d.ranges.s d.ranges.ss (src-room search)
 
   index : Step d.args.t d.args.ts d.loop-i.i (2 ^ 63 - 1)
-  index = let a = d in index-step _ _ _ _ _ _ _ _ _ _ _ _ _ _ a.requires _ d.loop-i-test.true a.ranges.t a.ranges.ts
+  index = index-step _ _ _ _ _ _ _ _ _ _ _ _ _ _ d.requires _ d.loop-i-test.true d.ranges.t d.ranges.ts
 
   to : Step d.args.d d.args.ds d.loop-i.i (length d.args.dst.now)
-  to = let a = d in dest-step _ _ _ _ _ _ _ _ _ _ _ _ _ _ a.requires _ d.loop-i-test.true a.ranges.d a.ranges.ds (dst-room search)
+  to = dest-step _ _ _ _ _ _ _ _ _ _ _ _ _ _ d.requires _ d.loop-i-test.true d.ranges.d d.ranges.ds (dst-room search)
 
 read-at : (c : tie.After-started-m invariant-loop decreases-loop) → Index c.started-m.result.at (length c.args.src.now)
-read-at c = let a = c in place-index _ _ _ _ _ _ _ _ _ _ _ _ _ _ a.requires _ c.loop-i-test.true (from search) (index search) _ c.started-m.ensures.0 (src-room search)
+read-at c = place-index _ _ _ _ _ _ _ _ _ _ _ _ _ _ c.requires _ c.loop-i-test.true (from search) (index search) _ c.started-m.ensures.0 (src-room search)
 
 loop-holds : tie.Need-loop-i-init invariant-loop decreases-loop
 loop-holds c =
-    let a = c in
-    (omega arith, refl, none _ 0 a.args.dst.now refl, many-none 0 _ refl)
+    (omega arith, refl, none _ 0 c.args.dst.now refl, many-none 0 _ refl)
 
 cast-k : tie.Need-overflow_cast-k invariant-loop decreases-loop
 cast-k c =
-    let d = c in
     (from search).count
 
 mul-p : tie.Need-overflow_mul-p invariant-loop decreases-loop
 mul-p c =
-    let d = c in
     (from search).multiple
 
 add-p : tie.Need-overflow_add-p invariant-loop decreases-loop
 add-p c =
-    let d = c in
     (from search).fits
 
 mul-q : tie.Need-overflow_mul-q invariant-loop decreases-loop
 mul-q c =
-    let d = c in
     (index search).multiple
 
 add-q : tie.Need-overflow_add-q invariant-loop decreases-loop
 add-q c =
-    let d = c in
     (index search).fits
 
 started-requires : tie.Need-started-m-requires invariant-loop decreases-loop
 started-requires c κs =
-    let d = c in
-    let a = d in started-asks _ _ _ _ _ _ _ _ _ _ _ _ _ _ a.requires _ c.loop-i-test.true (from search) (index search) (src-room search)
+    started-asks _ _ _ _ _ _ _ _ _ _ _ _ _ _ c.requires _ c.loop-i-test.true (from search) (index search) (src-room search)
 
 cast-a : tie.Need-overflow_cast-a invariant-loop decreases-loop
 cast-a c =
-    let s = c in
     (read-at search).cast
 
 mul-b : tie.Need-overflow_mul-b invariant-loop decreases-loop
 mul-b c =
-    let d = c in
     (to search).multiple
 
 add-b : tie.Need-overflow_add-b invariant-loop decreases-loop
 add-b c =
-    let d = c in
     (to search).fits
 
 cast-b : tie.Need-overflow_cast-b invariant-loop decreases-loop
 cast-b c =
-    let d = c in
     (to search).cast
 
 mul-dst : tie.Need-offset_bounds-src-a invariant-loop decreases-loop
 mul-dst c =
-    let d = c in
-    let s = c in
-    omega (arith, (read-at search).below, d.well_formed.1.0.1)
+    omega (arith, (read-at search).below, c.well_formed.1.0.1)
 
 shared-slice-copy-out-dst : tie.Need-bounds-src-a invariant-loop decreases-loop
-shared-slice-copy-out-dst c = let s = c in (read-at search).below
+shared-slice-copy-out-dst c = (read-at search).below
 
 mul-t34 : tie.Need-offset_bounds-dst-b invariant-loop decreases-loop
 mul-t34 c =
-    let d = c in
-    omega (arith, (to search).below, d.well_formed.1.1.1.0.1)
+    omega (arith, (to search).below, c.well_formed.1.1.1.0.1)
 
 slice-set-from-dst : tie.Need-bounds-dst-b invariant-loop decreases-loop
 slice-set-from-dst c =
-    let d = c in
-    let h = c in
-    omega (arith, (to search).below, h.loop-i.invariant.1)
+    omega (arith, (to search).below, c.loop-i.invariant.1)
 
 add-slid : tie.Need-overflow_add-slid invariant-loop decreases-loop
 add-slid c =
-    let q = c in
-    let h = c in
-    let a = q in
-    omega (arith, one_below h.loop-i.i _ _ _ (a.args.counts && q.started-m.result.moved) h.loop-i.invariant.3 (one-counts a.args.counts _ _ _ c.count_if-one.ensures c.count_if-more.ensures))
+    omega (arith, one_below c.loop-i.i _ _ _ (c.args.counts && c.started-m.result.moved) c.loop-i.invariant.3 (one-counts c.args.counts _ _ _ c.count_if-one.ensures c.count_if-more.ensures))
 
 add-i : tie.Need-overflow_add-i invariant-loop decreases-loop
 add-i c = omega arith
@@ -137,32 +118,26 @@ loop-less : tie.Need-loop-i-smaller invariant-loop decreases-loop
 loop-less c = omega arith
 
 loop-again : tie.Need-loop-i-preserved invariant-loop decreases-loop
-loop-again c =
-    let q = c in
-    let d = q in
-    let h = d in
-    let a = d in (
-      omega arith,
-      length-set h.loop-i.dst _ _ ∙ h.loop-i.invariant.1,
-      cell-more (pos 0) (rule_i32 R.Replace) a.args.src.now (moved_at a.args.starts.now a.args.offsets.now a.args.strides.now a.args.limits.now a.args.count (line (read a.args.s) (read a.args.ss)) (line (read a.args.t) (read a.args.ts))) (line (read a.args.d) (read a.args.ds)) a.args.dst.now h.loop-i.dst h.loop-i.i _ _ _ h.loop-i.invariant.2
-          (place_is _ _ _ _ _ _ _ _ _ _ _ _ _ _ a.requires _ d.loop-i-test.true (from search) (index search) _ q.started-m.ensures.0 (src-room search)) (to search).index_is (back (sfits_of {w = w32} c.dst-1.given)),
-      many_more h.loop-i.i (λ k. a.args.counts && start_moved a.args.starts.now a.args.offsets.now a.args.limits.now (line (read a.args.t) (read a.args.ts) k) a.args.count) _ _ (a.args.counts && q.started-m.result.moved) h.loop-i.invariant.3
-          (one-counts a.args.counts _ _ _ c.count_if-one.ensures c.count_if-more.ensures)
-          (ap (λ (b : Bool). a.args.counts && b) (started-is a.args.starts.now a.args.offsets.now a.args.limits.now a.args.count _ _ _ _ (index search) _ q.started-m.ensures.1)),
-    )
+loop-again c = (
+  omega arith,
+  length-set c.loop-i.dst _ _ ∙ c.loop-i.invariant.1,
+  cell-more (pos 0) (rule_i32 R.Replace) c.args.src.now (moved_at c.args.starts.now c.args.offsets.now c.args.strides.now c.args.limits.now c.args.count (line (read c.args.s) (read c.args.ss)) (line (read c.args.t) (read c.args.ts))) (line (read c.args.d) (read c.args.ds)) c.args.dst.now c.loop-i.dst c.loop-i.i _ _ _ c.loop-i.invariant.2
+      (place_is _ _ _ _ _ _ _ _ _ _ _ _ _ _ c.requires _ c.loop-i-test.true (from search) (index search) _ c.started-m.ensures.0 (src-room search)) (to search).index_is (back (sfits_of {w = w32} c.dst-1.given)),
+  many_more c.loop-i.i (λ k. c.args.counts && start_moved c.args.starts.now c.args.offsets.now c.args.limits.now (line (read c.args.t) (read c.args.ts) k) c.args.count) _ _ (c.args.counts && c.started-m.result.moved) c.loop-i.invariant.3
+      (one-counts c.args.counts _ _ _ c.count_if-one.ensures c.count_if-more.ensures)
+      (ap (λ (b : Bool). c.args.counts && b) (started-is c.args.starts.now c.args.offsets.now c.args.limits.now c.args.count _ _ _ _ (index search) _ c.started-m.ensures.1)),
+)
 
 same_length : tie.Need-shape_of-dst invariant-loop decreases-loop
 same_length c = c.loop-i.invariant.1
 
 returns : tie.Need-returns invariant-loop decreases-loop
-returns c =
-    let h = c in
-    let a = c in (
-      cells-end (pos 0) (rule_i32 R.Replace) a.args.src.now a.args.starts.now a.args.offsets.now a.args.strides.now a.args.limits.now a.args.count _ _ _ _ _ _ _ _ a.args.dst.now h.loop-i.dst a.ranges.s a.ranges.t a.ranges.d a.ranges.ss a.ranges.ts a.ranges.ds (omega arith) h.loop-i.invariant.2,
-      h.loop-i.invariant.3
-          ∙ all-or-none a.args.counts h.loop-i.i (λ k. start_moved a.args.starts.now a.args.offsets.now a.args.limits.now (line (read a.args.t) (read a.args.ts) k) a.args.count)
-          ∙ ap (λ (m : ℕ). cond a.args.counts m 0) (starts-end a.args.starts.now a.args.t a.args.ts h.loop-i.i a.args.n _ a.ranges.t a.ranges.ts (omega arith) a.args.offsets.now a.args.limits.now a.args.count refl),
-    )
+returns c = (
+  cells-end (pos 0) (rule_i32 R.Replace) c.args.src.now c.args.starts.now c.args.offsets.now c.args.strides.now c.args.limits.now c.args.count _ _ _ _ _ _ _ _ c.args.dst.now c.loop-i.dst c.ranges.s c.ranges.t c.ranges.d c.ranges.ss c.ranges.ts c.ranges.ds (omega arith) c.loop-i.invariant.2,
+  c.loop-i.invariant.3
+      ∙ all-or-none c.args.counts c.loop-i.i (λ k. start_moved c.args.starts.now c.args.offsets.now c.args.limits.now (line (read c.args.t) (read c.args.ts) k) c.args.count)
+      ∙ ap (λ (m : ℕ). cond c.args.counts m 0) (starts-end c.args.starts.now c.args.t c.args.ts c.loop-i.i c.args.n _ c.ranges.t c.ranges.ts (omega arith) c.args.offsets.now c.args.limits.now c.args.count refl),
+)
 
 pub take_cells_by_spec : {M : Type 1} → statement M
 take_cells_by_spec =

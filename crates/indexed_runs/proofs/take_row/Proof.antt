@@ -31,34 +31,34 @@ cast-l : tie.Need-overflow_cast-l
 cast-l c = search rules
 
 cast-a : tie.Need-overflow_cast-a
-cast-a c = let a = c in (starting search).cast
+cast-a c = (starting search).cast
 
 cast-b : tie.Need-overflow_cast-b
-cast-b c = let a = c in (plain search).cast
+cast-b c = (plain search).cast
 
 cast-c : tie.Need-overflow_cast-c
-cast-c c = let a = c in (first search).cast
+cast-c c = (first search).cast
 
 add-e : tie.Need-overflow_add-e
-add-e c = let a = c in omega (arith, (starting search).room, a.well_formed.1.1.0.1)
+add-e c = omega (arith, (starting search).room, c.well_formed.1.1.0.1)
 
 add-f : tie.Need-overflow_add-f
-add-f c = let a = c in omega (arith, (plain search).room, a.well_formed.1.1.1.0.1)
+add-f c = omega (arith, (plain search).room, c.well_formed.1.1.1.0.1)
 
 mul-take-ones : tie.Need-offset_bounds-src-c
-mul-take-ones c = let a = c in omega (arith, (first search).below, a.well_formed.1.0.1)
+mul-take-ones c = omega (arith, (first search).below, c.well_formed.1.0.1)
 
 sub-take-ones : tie.Need-slice_bounds-take_ones-count
-sub-take-ones c = let a = c in omega (arith, (first search).below)
+sub-take-ones c = omega (arith, (first search).below)
 
 part-take-ones-start : tie.Need-slice_bounds-take_ones-start
-part-take-ones-start c = let a = c in omega (arith, (first search).below)
+part-take-ones-start c = omega (arith, (first search).below)
 
 part-take-ones-end : tie.Need-slice_bounds-take_ones-end
 part-take-ones-end c = search rules
 
 mul-take-ones-2 : tie.Need-offset_bounds-starts-a
-mul-take-ones-2 c = let a = c in omega (arith, (starting search).room, a.well_formed.1.1.0.1)
+mul-take-ones-2 c = omega (arith, (starting search).room, c.well_formed.1.1.0.1)
 
 sub-take-ones-2 : tie.Need-slice_bounds-take_ones-count-2
 sub-take-ones-2 c = search rules
@@ -67,10 +67,10 @@ part-take-ones-start-2 : tie.Need-slice_bounds-take_ones-start-2
 part-take-ones-start-2 c = search rules
 
 part-take-ones-end-2 : tie.Need-slice_bounds-take_ones-end-2
-part-take-ones-end-2 c = let a = c in (starting search).room
+part-take-ones-end-2 c = (starting search).room
 
 mul-take-ones-3 : tie.Need-offset_bounds-dst-b
-mul-take-ones-3 c = let a = c in omega (arith, (plain search).room, a.well_formed.1.1.1.0.1)
+mul-take-ones-3 c = omega (arith, (plain search).room, c.well_formed.1.1.1.0.1)
 
 sub-take-ones-3 : tie.Need-slice_bounds-take_ones-count-3
 sub-take-ones-3 c = search rules
@@ -79,27 +79,24 @@ part-take-ones-start-3 : tie.Need-slice_bounds-take_ones-start-3
 part-take-ones-start-3 c = search rules
 
 part-take-ones-end-3 : tie.Need-slice_bounds-take_ones-end-3
-part-take-ones-end-3 c = let a = c in (plain search).room
+part-take-ones-end-3 c = (plain search).room
 
 take-ones-requires : tie.Need-take_ones-requires
 take-ones-requires c κs =
-    let a = c in
-    let x : ℕ = nat_abs (read a.args.t) in
-    let y : ℕ = nat_abs (read a.args.d) in
-    let u : ℕ = nat_abs (read a.args.base) in
-    ones-ask a.args.starts.now _ _ _ _ _ _ _ a.requires.1 x (x + a.args.n - x) (omega arith) (starting search).is u (length a.args.src.now - u) (first search).is refl a.args.dst.now y (y + a.args.n - y) a.args.src.now (omega arith) (starting search).room (plain search).room refl
+    let x : ℕ = nat_abs (read c.args.t) in
+    let y : ℕ = nat_abs (read c.args.d) in
+    let u : ℕ = nat_abs (read c.args.base) in
+    ones-ask c.args.starts.now _ _ _ _ _ _ _ c.requires.1 x (x + c.args.n - x) (omega arith) (starting search).is u (length c.args.src.now - u) (first search).is refl c.args.dst.now y (y + c.args.n - y) c.args.src.now (omega arith) (starting search).room (plain search).room refl
 
 same_length : tie.Need-shape_of-dst
 same_length c = search rules
 
 returns : tie.Need-returns
 returns c =
-    let t = c in
-    let a = c in
-    let x : ℕ = nat_abs (read a.args.t) in
-    let y : ℕ = nat_abs (read a.args.d) in
-    let u : ℕ = nat_abs (read a.args.base) in
-    (part-take (pos 0) (rule_i32 R.Replace) (take (length a.args.src.now - u) (drop u a.args.src.now)) a.args.src.now a.args.dst.now _ (one_at (take (x + a.args.n - x) (drop x a.args.starts.now)) (to_z w64 a.args.limit)) (clamped_at a.args.starts.now (line a.args.t (pos 1)) a.args.base (pos 1) a.args.limit) a.args.d y a.args.n (y + a.args.n - y) (omega arith) (plain search).is (plain search).room (part-read a.args.starts.now _ _ _ _ _ _ _ a.requires.1 x (x + a.args.n - x) (omega arith) (starting search).is u (length a.args.src.now - u) (first search).is refl _ a.args.src.now) t.take_ones.ensures.0, so-counted a.args.counts a.args.counts _ _ _ refl (parts-count a.args.starts.now _ _ _ _ _ _ _ a.requires.1 x (x + a.args.n - x) (omega arith) (starting search).is u (length a.args.src.now - u) (first search).is refl a.args.dst.now y (y + a.args.n - y) _ (omega arith) (plain search).room refl) t.take_ones.ensures.1)
+    let x : ℕ = nat_abs (read c.args.t) in
+    let y : ℕ = nat_abs (read c.args.d) in
+    let u : ℕ = nat_abs (read c.args.base) in
+    (part-take (pos 0) (rule_i32 R.Replace) (take (length c.args.src.now - u) (drop u c.args.src.now)) c.args.src.now c.args.dst.now _ (one_at (take (x + c.args.n - x) (drop x c.args.starts.now)) (to_z w64 c.args.limit)) (clamped_at c.args.starts.now (line c.args.t (pos 1)) c.args.base (pos 1) c.args.limit) c.args.d y c.args.n (y + c.args.n - y) (omega arith) (plain search).is (plain search).room (part-read c.args.starts.now _ _ _ _ _ _ _ c.requires.1 x (x + c.args.n - x) (omega arith) (starting search).is u (length c.args.src.now - u) (first search).is refl _ c.args.src.now) c.take_ones.ensures.0, so-counted c.args.counts c.args.counts _ _ _ refl (parts-count c.args.starts.now _ _ _ _ _ _ _ c.requires.1 x (x + c.args.n - x) (omega arith) (starting search).is u (length c.args.src.now - u) (first search).is refl c.args.dst.now y (y + c.args.n - y) _ (omega arith) (plain search).room refl) c.take_ones.ensures.1)
 
 pub take_row_spec : {M : Type 1} → statement M
 take_row_spec =

@@ -12,33 +12,25 @@ use Rattle.indexed_runs.proofs.take_strided.Tie as tie
 
 take-strided-by-requires : tie.Need-take_strided_by-requires
 take-strided-by-requires c κs =
-    let a = c in
-    strided-asks _ _ _ _ _ _ _ _ _ _ _ a.ranges.t a.ranges.ts a.ranges.base a.ranges.stride a.ranges.d a.ranges.ds a.requires
+    strided-asks _ _ _ _ _ _ _ _ _ _ _ c.ranges.t c.ranges.ts c.ranges.base c.ranges.stride c.ranges.d c.ranges.ds c.requires
 
 same_length : tie.Need-shape_of-dst-then-counts
 same_length c = search rules
 
 returns : tie.Need-returns-then-counts
 returns c =
-    let o = c in
-    let t = c in
-    let a = c in
-    (take-end (pos 0) (rule_i32 R.Replace) a.args.src.now a.args.starts.now a.args.t a.args.ts a.args.base a.args.stride a.args.d a.args.ds a.args.limit a.args.n a.args.n a.args.dst.now _ a.ranges.t a.ranges.ts a.ranges.base a.ranges.stride a.ranges.d a.ranges.ds refl o.take_strided_by.ensures.0, so-counted a.args.counts true _ _ _ t.if-counts.true (moves-end a.args.starts.now a.args.t a.args.ts a.args.n a.args.n _ a.ranges.t a.ranges.ts refl a.args.limit refl) o.take_strided_by.ensures.1)
+    (take-end (pos 0) (rule_i32 R.Replace) c.args.src.now c.args.starts.now c.args.t c.args.ts c.args.base c.args.stride c.args.d c.args.ds c.args.limit c.args.n c.args.n c.args.dst.now _ c.ranges.t c.ranges.ts c.ranges.base c.ranges.stride c.ranges.d c.ranges.ds refl c.take_strided_by.ensures.0, so-counted c.args.counts true _ _ _ c.if-counts.true (moves-end c.args.starts.now c.args.t c.args.ts c.args.n c.args.n _ c.ranges.t c.ranges.ts refl c.args.limit refl) c.take_strided_by.ensures.1)
 
 take-strided-by-requires-2 : tie.Need-take_strided_by-requires-2
 take-strided-by-requires-2 c κs =
-    let a = c in
-    strided-asks _ _ _ _ _ _ _ _ _ _ _ a.ranges.t a.ranges.ts a.ranges.base a.ranges.stride a.ranges.d a.ranges.ds a.requires
+    strided-asks _ _ _ _ _ _ _ _ _ _ _ c.ranges.t c.ranges.ts c.ranges.base c.ranges.stride c.ranges.d c.ranges.ds c.requires
 
 same-length-2 : tie.Need-shape_of-dst
 same-length-2 c = search rules
 
 returns-2 : tie.Need-returns
 returns-2 c =
-    let o = c in
-    let f = c in
-    let a = c in
-    (take-end (pos 0) (rule_i32 R.Replace) a.args.src.now a.args.starts.now a.args.t a.args.ts a.args.base a.args.stride a.args.d a.args.ds a.args.limit a.args.n a.args.n a.args.dst.now _ a.ranges.t a.ranges.ts a.ranges.base a.ranges.stride a.ranges.d a.ranges.ds refl o.take_strided_by-2.ensures.0, so-counted a.args.counts false _ _ _ f.if-counts.false (moves-end a.args.starts.now a.args.t a.args.ts a.args.n a.args.n _ a.ranges.t a.ranges.ts refl a.args.limit refl) o.take_strided_by-2.ensures.1)
+    (take-end (pos 0) (rule_i32 R.Replace) c.args.src.now c.args.starts.now c.args.t c.args.ts c.args.base c.args.stride c.args.d c.args.ds c.args.limit c.args.n c.args.n c.args.dst.now _ c.ranges.t c.ranges.ts c.ranges.base c.ranges.stride c.ranges.d c.ranges.ds refl c.take_strided_by-2.ensures.0, so-counted c.args.counts false _ _ _ c.if-counts.false (moves-end c.args.starts.now c.args.t c.args.ts c.args.n c.args.n _ c.ranges.t c.ranges.ts refl c.args.limit refl) c.take_strided_by-2.ensures.1)
 
 pub take_strided_spec : {M : Type 1} → statement M
 take_strided_spec = tie.close (tie.spec take-strided-by-requires same_length returns take-strided-by-requires-2 same-length-2 returns-2)

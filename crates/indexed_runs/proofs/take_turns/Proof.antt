@@ -40,72 +40,54 @@ module _ (d : tie.In-loop-left invariant-loop decreases-loop) where
 
 returns : tie.Need-returns-then-limit-lt0 invariant-loop decreases-loop
 returns c =
-    let a = c in
-    absurd (omega (arith, zfacts, a.requires.1.low, known a.ranges.limit, only a.args.limit, c.if-limit-lt0.true))
+    absurd (omega (arith, zfacts, c.requires.1.low, known c.ranges.limit, only c.args.limit, c.if-limit-lt0.true))
 
 take-few-requires : tie.Need-take_few-slid-requires invariant-loop decreases-loop
 take-few-requires c κs =
-    let a = c in
-    (omega arith, omega (arith, a.requires.0), ones-left _ _ _ _ _ _ a.ranges.limit a.requires.1 refl refl)
+    (omega arith, omega (arith, c.requires.0), ones-left _ _ _ _ _ _ c.ranges.limit c.requires.1 refl refl)
 
 loop-holds : tie.Need-loop-left-init invariant-loop decreases-loop
 loop-holds c =
-    let f = c in
-    let a = c in
-    (a.requires.0 ∙ sym a.requires.1.each, refl, (λ x e. e), many-first a.args.over (λ k. a.args.counts && moves_at a.args.starts.now pos (nat_abs (read a.args.limit)) k) _ f.take_few-slid.ensures.1)
+    (c.requires.0 ∙ sym c.requires.1.each, refl, (λ x e. e), many-first c.args.over (λ k. c.args.counts && moves_at c.args.starts.now pos (nat_abs (read c.args.limit)) k) _ c.take_few-slid.ensures.1)
 
 add-e : tie.Need-overflow_add-e invariant-loop decreases-loop
 add-e c = omega (arith, fits search, c.well_formed.1.1.0.1)
 
 take-few-requires-2 : tie.Need-take_few-few-requires invariant-loop decreases-loop
 take-few-requires-2 c κs =
-    let d = c in
-    let h = c in
-    let f = c in
-    let k = h.loop-left.invariant.1 ∙ f.take_few-slid.auto.dst in
-    (omega arith, omega (arith, fits search, d.requires.1.each, k), ones-left _ _ _ _ _ _ d.ranges.limit d.requires.1 k refl)
+    let k = c.loop-left.invariant.1 ∙ c.take_few-slid.auto.dst in
+    (omega arith, omega (arith, fits search, c.requires.1.each, k), ones-left _ _ _ _ _ _ c.ranges.limit c.requires.1 k refl)
 
 add-slid : tie.Need-overflow_add-slid invariant-loop decreases-loop
 add-slid c =
-    let p = c in
-    let d = c in
-    let h = c in
-    omega (arith, few-below h.loop-left.i (h.loop-left.i + d.args.width) _ _ _ _ (omega arith) h.loop-left.invariant.3 p.take_few-few.ensures.1, fits search, d.well_formed.1.1.0.1)
+    omega (arith, few-below c.loop-left.i (c.loop-left.i + c.args.width) _ _ _ _ (omega arith) c.loop-left.invariant.3 c.take_few-few.ensures.1, fits search, c.well_formed.1.1.0.1)
 
 sub-left : tie.Need-overflow_sub-left invariant-loop decreases-loop
-sub-left c = let d = c in omega (arith, d.loop-left-test.true)
+sub-left c = omega (arith, c.loop-left-test.true)
 
 loop-less : tie.Need-loop-left-smaller invariant-loop decreases-loop
-loop-less c = let d = c in omega (arith, d.loop-left-test.true)
+loop-less c = omega (arith, c.loop-left-test.true)
 
 loop-again : tie.Need-loop-left-preserved invariant-loop decreases-loop
-loop-again c =
-    let p = c in
-    let d = c in
-    let h = c in
-    let a = d in (
-      turn search,
-      p.take_few-few.auto.dst ∙ h.loop-left.invariant.1,
-      λ x e. turns-on (cell_at (pos 0) (rule_i32 R.Replace) a.args.src.now (one_at a.args.starts.now (read a.args.limit)) pos) h.loop-left.i (h.loop-left.i + a.args.width) x h.loop-left.dst _ (omega arith) (h.loop-left.invariant.2 x e) p.take_few-few.ensures.0,
-      many-on h.loop-left.i (h.loop-left.i + a.args.width) (λ k. a.args.counts && moves_at a.args.starts.now pos (nat_abs (read a.args.limit)) k) _ _ (omega arith) h.loop-left.invariant.3 p.take_few-few.ensures.1,
-    )
+loop-again c = (
+  turn search,
+  c.take_few-few.auto.dst ∙ c.loop-left.invariant.1,
+  λ x e. turns-on (cell_at (pos 0) (rule_i32 R.Replace) c.args.src.now (one_at c.args.starts.now (read c.args.limit)) pos) c.loop-left.i (c.loop-left.i + c.args.width) x c.loop-left.dst _ (omega arith) (c.loop-left.invariant.2 x e) c.take_few-few.ensures.0,
+  many-on c.loop-left.i (c.loop-left.i + c.args.width) (λ k. c.args.counts && moves_at c.args.starts.now pos (nat_abs (read c.args.limit)) k) _ _ (omega arith) c.loop-left.invariant.3 c.take_few-few.ensures.1,
+)
 
 same_length : tie.Need-shape_of-dst invariant-loop decreases-loop
 same_length c =
-    let f = c in
-    c.loop-left.invariant.1 ∙ f.take_few-slid.auto.dst
+    c.loop-left.invariant.1 ∙ c.take_few-slid.auto.dst
 
 returns-2 : tie.Need-returns invariant-loop decreases-loop
-returns-2 c =
-    let f = c in
-    let h = c in
-    let a = c in (
-      take-ones-end (pos 0) (rule_i32 R.Replace) a.args.src.now a.args.starts.now a.args.limit h.loop-left.i _ a.args.dst.now h.loop-left.dst a.ranges.limit (none_left h.loop-left.i a.args.width h.loop-left.left _ (h.loop-left.invariant.0 ∙ a.requires.1.each) (omega (arith, c.loop-left-test.false)))
-          (h.loop-left.invariant.2 a.args.dst.now (turns-on (cell_at (pos 0) (rule_i32 R.Replace) a.args.src.now (one_at a.args.starts.now (read a.args.limit)) pos) 0 _ a.args.dst.now a.args.dst.now _ (omega arith) (none _ 0 a.args.dst.now refl) f.take_few-slid.ensures.0)),
-      h.loop-left.invariant.3
-          ∙ all-or-none a.args.counts h.loop-left.i (moves_at a.args.starts.now pos (nat_abs (read a.args.limit)))
-          ∙ ap (λ (m : ℕ). cond a.args.counts m 0) (ones-count a.args.starts.now a.args.limit h.loop-left.i _ _ a.ranges.limit (none_left h.loop-left.i a.args.width h.loop-left.left _ (h.loop-left.invariant.0 ∙ a.requires.1.each) (omega (arith, c.loop-left-test.false))) refl),
-    )
+returns-2 c = (
+  take-ones-end (pos 0) (rule_i32 R.Replace) c.args.src.now c.args.starts.now c.args.limit c.loop-left.i _ c.args.dst.now c.loop-left.dst c.ranges.limit (none_left c.loop-left.i c.args.width c.loop-left.left _ (c.loop-left.invariant.0 ∙ c.requires.1.each) (omega (arith, c.loop-left-test.false)))
+      (c.loop-left.invariant.2 c.args.dst.now (turns-on (cell_at (pos 0) (rule_i32 R.Replace) c.args.src.now (one_at c.args.starts.now (read c.args.limit)) pos) 0 _ c.args.dst.now c.args.dst.now _ (omega arith) (none _ 0 c.args.dst.now refl) c.take_few-slid.ensures.0)),
+  c.loop-left.invariant.3
+      ∙ all-or-none c.args.counts c.loop-left.i (moves_at c.args.starts.now pos (nat_abs (read c.args.limit)))
+      ∙ ap (λ (m : ℕ). cond c.args.counts m 0) (ones-count c.args.starts.now c.args.limit c.loop-left.i _ _ c.ranges.limit (none_left c.loop-left.i c.args.width c.loop-left.left _ (c.loop-left.invariant.0 ∙ c.requires.1.each) (omega (arith, c.loop-left-test.false))) refl),
+)
 
 pub take_turns_spec : {M : Type 1} → statement M
 take_turns_spec =

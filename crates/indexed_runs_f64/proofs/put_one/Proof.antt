@@ -16,10 +16,10 @@ use Rattle.indexed_runs_f64.proofs.put_one.Tie as tie
 -- the place of the destination
 module _ (c : tie.After-clamped-y) where
   place : Index c.clamped-y.result.at (length c.args.dst.now)
-  place = let a = c in ones-index _ _ _ _ a.requires.1 a.ranges.limit (omega (arith, a.well_formed.1.1.1.0.1)) _ a.requires.0 (sfits_of c.x-1.given) _ c.clamped-y.ensures.0
+  place = ones-index _ _ _ _ c.requires.1 c.ranges.limit (omega (arith, c.well_formed.1.1.1.0.1)) _ c.requires.0 (sfits_of c.x-1.given) _ c.clamped-y.ensures.0
 
   by-start : pos (nat_abs (read c.clamped-y.result.at)) ≡ one_at c.args.starts.now c.args.limit c.args.i
-  by-start = let a = c in ones_is _ _ _ _ a.requires.1 a.ranges.limit (omega (arith, a.well_formed.1.1.1.0.1)) _ a.requires.0 (sfits_of c.x-1.given) _ c.clamped-y.ensures.0
+  by-start = ones_is _ _ _ _ c.requires.1 c.ranges.limit (omega (arith, c.well_formed.1.1.1.0.1)) _ c.requires.0 (sfits_of c.x-1.given) _ c.clamped-y.ensures.0
 
 mul-x : tie.Need-offset_bounds-starts-i
 mul-x c = search rules
@@ -32,16 +32,14 @@ clamped-requires c κs = search rules
 
 cast-b : tie.Need-overflow_cast-b
 cast-b c =
-    let l = c in
     (place search).cast
 
 mul_apply : tie.Need-offset_bounds-dst-b
 mul_apply c =
-    let l = c in
-    omega (arith, (place search).below, l.well_formed.1.1.1.0.1)
+    omega (arith, (place search).below, c.well_formed.1.1.1.0.1)
 
 slice-copy-out-apply_f64 : tie.Need-bounds-dst-b
-slice-copy-out-apply_f64 c = let l = c in (place search).below
+slice-copy-out-apply_f64 c = (place search).below
 
 mul-apply_f64-2 : tie.Need-offset_bounds-src-i
 mul-apply_f64-2 c = search rules
@@ -51,12 +49,10 @@ shared-slice-copy-out-apply_f64 c = search rules
 
 mul-v : tie.Need-offset_bounds-dst-b-2
 mul-v c =
-    let l = c in
-    omega (arith, (place search).below, l.well_formed.1.1.1.0.1)
+    omega (arith, (place search).below, c.well_formed.1.1.1.0.1)
 
 slice-set-from-v : tie.Need-bounds-dst-b-2
 slice-set-from-v c =
-    let l = c in
     (place search).below
 
 same_length : tie.Need-shape_of-dst
@@ -64,13 +60,10 @@ same_length c = search rules
 
 returns : tie.Need-returns
 returns c =
-    let w = c in
-    let q = c in
-    let a = q in
-    let m = nat_abs (read q.clamped-y.result.at) in (
-      one-turn nan (rule_f64 a.args.rule) a.args.src.now pos (one_at a.args.starts.now a.args.limit) a.args.dst.now a.args.i a.args.i m _ refl (by-start search)
-          w.apply_f64-v.ensures,
-      c.count_if.ensures ∙ ap (λ (b : Bool). cond b 1 0) (ones-moved a.args.starts.now a.args.limit a.args.i a.ranges.limit (sfits_of q.x-1.given) _ q.clamped-y.ensures.1),
+    let m = nat_abs (read c.clamped-y.result.at) in (
+      one-turn nan (rule_f64 c.args.rule) c.args.src.now pos (one_at c.args.starts.now c.args.limit) c.args.dst.now c.args.i c.args.i m _ refl (by-start search)
+          c.apply_f64-v.ensures,
+      c.count_if.ensures ∙ ap (λ (b : Bool). cond b 1 0) (ones-moved c.args.starts.now c.args.limit c.args.i c.ranges.limit (sfits_of c.x-1.given) _ c.clamped-y.ensures.1),
     )
 
 pub put_one_spec : {M : Type 1} → statement M

@@ -20,46 +20,37 @@ use Rattle.indexed_runs_f64.proofs.put_ones.Statement.{statement}
 use Rattle.indexed_runs_f64.proofs.put_ones.Tie as tie
 
 mul-twos : tie.Need-overflow_mul-twos
-mul-twos c = let a = c in omega (arith, a.well_formed.1.0.1)
+mul-twos c = omega (arith, c.well_formed.1.0.1)
 
 put-few-requires : tie.Need-put_few-few-requires
-put-few-requires c κs = let a = c in (omega arith, omega arith, ones-left _ _ _ _ _ _ a.ranges.limit a.requires refl refl)
+put-few-requires c κs = (omega arith, omega arith, ones-left _ _ _ _ _ _ c.ranges.limit c.requires refl refl)
 
 put-rest-requires : tie.Need-put_rest-rest-requires
 put-rest-requires c κs =
-    let f = c in
-    let a = c in (omega arith, omega arith, ones-left _ _ _ _ _ _ a.ranges.limit a.requires refl f.put_few-few.auto.dst)
+    (omega arith, omega arith, ones-left _ _ _ _ _ _ c.ranges.limit c.requires refl c.put_few-few.auto.dst)
 
 same_length : tie.Need-shape_of-dst
 same_length c = search rules
 
 -- those that are over, and the rest
 few-then-rest : (c : tie.After-put_rest-rest)
-    → let a = c in
-    let f = c in
-    (c.put_rest-rest.new.dst ≡ in_order (cell_at nan (rule_f64 a.args.rule) a.args.src.now pos (one_at a.args.starts.now (read a.args.limit))) (length a.args.src.now) a.args.dst.now)
-    × (f.put_few-few.result + c.put_rest-rest.result ≡ how_many (length a.args.src.now) (moves_at a.args.starts.now pos (nat_abs (read a.args.limit))))
+    → (c.put_rest-rest.new.dst ≡ in_order (cell_at nan (rule_f64 c.args.rule) c.args.src.now pos (one_at c.args.starts.now (read c.args.limit))) (length c.args.src.now) c.args.dst.now)
+    × (c.put_few-few.result + c.put_rest-rest.result ≡ how_many (length c.args.src.now) (moves_at c.args.starts.now pos (nat_abs (read c.args.limit))))
 few-then-rest c =
-    let f = c in
-    let a = c in
-    let over = length a.args.src.now % 4 in
-    let turn = cell_at nan (rule_f64 a.args.rule) a.args.src.now pos (one_at a.args.starts.now (read a.args.limit)) in
-    let flag = moves_at a.args.starts.now pos (nat_abs (read a.args.limit)) in (
-      turns-on turn over (length a.args.src.now) a.args.dst.now _ _ (omega arith) (turns-on turn 0 over a.args.dst.now a.args.dst.now _ (omega arith) (none turn 0 a.args.dst.now refl) f.put_few-few.ensures.0) c.put_rest-rest.ensures.0,
-      many-on over (length a.args.src.now) flag _ _ (omega arith) (many-first over flag _ f.put_few-few.ensures.1) c.put_rest-rest.ensures.1,
+    let over = length c.args.src.now % 4 in
+    let turn = cell_at nan (rule_f64 c.args.rule) c.args.src.now pos (one_at c.args.starts.now (read c.args.limit)) in
+    let flag = moves_at c.args.starts.now pos (nat_abs (read c.args.limit)) in (
+      turns-on turn over (length c.args.src.now) c.args.dst.now _ _ (omega arith) (turns-on turn 0 over c.args.dst.now c.args.dst.now _ (omega arith) (none turn 0 c.args.dst.now refl) c.put_few-few.ensures.0) c.put_rest-rest.ensures.0,
+      many-on over (length c.args.src.now) flag _ _ (omega arith) (many-first over flag _ c.put_few-few.ensures.1) c.put_rest-rest.ensures.1,
     )
 
 add-result : tie.Need-overflow_add-result
 add-result c =
-    let r = c in
-    let a = c in
-    omega (arith, (few-then-rest search).1, many_below (length a.args.src.now) (moves_at a.args.starts.now pos (nat_abs (read a.args.limit))), a.well_formed.1.0.1)
+    omega (arith, (few-then-rest search).1, many_below (length c.args.src.now) (moves_at c.args.starts.now pos (nat_abs (read c.args.limit))), c.well_formed.1.0.1)
 
 returns : tie.Need-returns
 returns c =
-    let r = c in
-    let a = c in
-    (put-ones-end nan (rule_f64 a.args.rule) a.args.src.now a.args.starts.now a.args.limit _ _ a.args.dst.now _ a.ranges.limit refl (few-then-rest search).0, ones-count a.args.starts.now a.args.limit _ _ _ a.ranges.limit refl (few-then-rest search).1)
+    (put-ones-end nan (rule_f64 c.args.rule) c.args.src.now c.args.starts.now c.args.limit _ _ c.args.dst.now _ c.ranges.limit refl (few-then-rest search).0, ones-count c.args.starts.now c.args.limit _ _ _ c.ranges.limit refl (few-then-rest search).1)
 
 pub put_ones_spec : {M : Type 1} → statement M
 put_ones_spec = tie.close (tie.spec mul-twos put-few-requires put-rest-requires add-result same_length returns)

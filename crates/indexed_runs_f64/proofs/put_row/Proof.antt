@@ -27,22 +27,22 @@ cast-l : tie.Need-overflow_cast-l
 cast-l c = search rules
 
 cast-a : tie.Need-overflow_cast-a
-cast-a c = let a = c in (plain search).cast
+cast-a c = (plain search).cast
 
 cast-b : tie.Need-overflow_cast-b
-cast-b c = let a = c in (starting search).cast
+cast-b c = (starting search).cast
 
 cast-c : tie.Need-overflow_cast-c
-cast-c c = let a = c in (first search).cast
+cast-c c = (first search).cast
 
 add-e : tie.Need-overflow_add-e
-add-e c = let a = c in omega (arith, (plain search).room, a.well_formed.1.0.1)
+add-e c = omega (arith, (plain search).room, c.well_formed.1.0.1)
 
 add-f : tie.Need-overflow_add-f
-add-f c = let a = c in omega (arith, (starting search).room, a.well_formed.1.1.0.1)
+add-f c = omega (arith, (starting search).room, c.well_formed.1.1.0.1)
 
 mul-put-ones : tie.Need-offset_bounds-src-a
-mul-put-ones c = let a = c in omega (arith, (plain search).room, a.well_formed.1.0.1)
+mul-put-ones c = omega (arith, (plain search).room, c.well_formed.1.0.1)
 
 sub-put-ones : tie.Need-slice_bounds-put_ones-count
 sub-put-ones c = search rules
@@ -51,12 +51,11 @@ part-put-ones-start : tie.Need-slice_bounds-put_ones-start
 part-put-ones-start c = search rules
 
 part-put-ones-end : tie.Need-slice_bounds-put_ones-end
-part-put-ones-end c = let a = c in (plain search).room
+part-put-ones-end c = (plain search).room
 
 mul-put-ones-2 : tie.Need-offset_bounds-starts-b
 mul-put-ones-2 c =
-    let a = c in
-    omega (arith, (starting search).room, a.well_formed.1.1.0.1)
+    omega (arith, (starting search).room, c.well_formed.1.1.0.1)
 
 sub-put-ones-2 : tie.Need-slice_bounds-put_ones-count-2
 sub-put-ones-2 c = search rules
@@ -65,41 +64,37 @@ part-put-ones-start-2 : tie.Need-slice_bounds-put_ones-start-2
 part-put-ones-start-2 c = search rules
 
 part-put-ones-end-2 : tie.Need-slice_bounds-put_ones-end-2
-part-put-ones-end-2 c = let a = c in (starting search).room
+part-put-ones-end-2 c = (starting search).room
 
 mul-put-ones-3 : tie.Need-offset_bounds-dst-c
 mul-put-ones-3 c =
-    let a = c in
-    omega (arith, (first search).below, a.well_formed.1.1.1.0.1)
+    omega (arith, (first search).below, c.well_formed.1.1.1.0.1)
 
 sub-put-ones-3 : tie.Need-slice_bounds-put_ones-count-3
-sub-put-ones-3 c = let a = c in omega (arith, (first search).below)
+sub-put-ones-3 c = omega (arith, (first search).below)
 
 part-put-ones-start-3 : tie.Need-slice_bounds-put_ones-start-3
-part-put-ones-start-3 c = let a = c in omega (arith, (first search).below)
+part-put-ones-start-3 c = omega (arith, (first search).below)
 
 part-put-ones-end-3 : tie.Need-slice_bounds-put_ones-end-3
 part-put-ones-end-3 c = search rules
 
 put-ones-requires : tie.Need-put_ones-requires
 put-ones-requires c κs =
-    let a = c in
-    let x : ℕ = nat_abs (read a.args.t) in
-    let y : ℕ = nat_abs (read a.args.s) in
-    let u : ℕ = nat_abs (read a.args.base) in
-    ones-ask a.args.starts.now _ _ _ _ _ _ _ a.requires.1 x (x + a.args.n - x) (omega arith) (starting search).is u (length a.args.dst.now - u) (first search).is refl a.args.src.now y (y + a.args.n - y) a.args.dst.now (omega arith) (starting search).room (plain search).room refl
+    let x : ℕ = nat_abs (read c.args.t) in
+    let y : ℕ = nat_abs (read c.args.s) in
+    let u : ℕ = nat_abs (read c.args.base) in
+    ones-ask c.args.starts.now _ _ _ _ _ _ _ c.requires.1 x (x + c.args.n - x) (omega arith) (starting search).is u (length c.args.dst.now - u) (first search).is refl c.args.src.now y (y + c.args.n - y) c.args.dst.now (omega arith) (starting search).room (plain search).room refl
 
 same_length : tie.Need-shape_of-dst
 same_length c = search rules
 
 returns : tie.Need-returns
 returns c =
-    let p = c in
-    let a = c in
-    let x : ℕ = nat_abs (read a.args.t) in
-    let y : ℕ = nat_abs (read a.args.s) in
-    let u : ℕ = nat_abs (read a.args.base) in
-    (part-put nan (rule_f64 a.args.rule) a.args.src.now a.args.dst.now _ _ _ a.args.s y a.args.n (y + a.args.n - y) u (length a.args.dst.now - u) (omega arith) (plain search).is (plain search).room (omega (arith, (first search).below)) (place_in a.args.starts.now _ _ _ _ _ _ _ a.requires.1 x (x + a.args.n - x) (omega arith) (starting search).is u (length a.args.dst.now - u) (first search).is refl) (part-place a.args.starts.now _ _ _ _ _ _ _ a.requires.1 x (x + a.args.n - x) (omega arith) (starting search).is u (length a.args.dst.now - u) (first search).is refl) p.put_ones.ensures.0, parts-count a.args.starts.now _ _ _ _ _ _ _ a.requires.1 x (x + a.args.n - x) (omega arith) (starting search).is u (length a.args.dst.now - u) (first search).is refl a.args.src.now y (y + a.args.n - y) _ (omega arith) (plain search).room p.put_ones.ensures.1)
+    let x : ℕ = nat_abs (read c.args.t) in
+    let y : ℕ = nat_abs (read c.args.s) in
+    let u : ℕ = nat_abs (read c.args.base) in
+    (part-put nan (rule_f64 c.args.rule) c.args.src.now c.args.dst.now _ _ _ c.args.s y c.args.n (y + c.args.n - y) u (length c.args.dst.now - u) (omega arith) (plain search).is (plain search).room (omega (arith, (first search).below)) (place_in c.args.starts.now _ _ _ _ _ _ _ c.requires.1 x (x + c.args.n - x) (omega arith) (starting search).is u (length c.args.dst.now - u) (first search).is refl) (part-place c.args.starts.now _ _ _ _ _ _ _ c.requires.1 x (x + c.args.n - x) (omega arith) (starting search).is u (length c.args.dst.now - u) (first search).is refl) c.put_ones.ensures.0, parts-count c.args.starts.now _ _ _ _ _ _ _ c.requires.1 x (x + c.args.n - x) (omega arith) (starting search).is u (length c.args.dst.now - u) (first search).is refl c.args.src.now y (y + c.args.n - y) _ (omega arith) (plain search).room c.put_ones.ensures.1)
 
 pub put_row_spec : {M : Type 1} → statement M
 put_row_spec =

@@ -12,37 +12,29 @@ use Rattle.indexed_runs_f64.proofs.put_run.Statement.{statement}
 use Rattle.indexed_runs_f64.proofs.put_run.Tie as tie
 
 returns : tie.Need-returns-then-n-eq0
-returns c = let a = c in (none _ a.args.n a.args.dst.now c.if-n-eq0.true, many-none a.args.n _ c.if-n-eq0.true)
+returns c = (none _ c.args.n c.args.dst.now c.if-n-eq0.true, many-none c.args.n _ c.if-n-eq0.true)
 
 put-row-requires : tie.Need-put_row-requires
 put-row-requires c κs =
-    let t = c in
-    let a = c in
-    row-asks _ _ _ a.ranges.ts a.ranges.stride a.ranges.ss t.if-ts-eq1.true t.if-stride-eq1.true t.if-ss-eq1.true _ _ _ _ _ _ _ _ a.ranges.t a.ranges.base a.ranges.s t.if-n-eq0.false a.requires
+    row-asks _ _ _ c.ranges.ts c.ranges.stride c.ranges.ss c.if-ts-eq1.true c.if-stride-eq1.true c.if-ss-eq1.true _ _ _ _ _ _ _ _ c.ranges.t c.ranges.base c.ranges.s c.if-n-eq0.false c.requires
 
 same_length : tie.Need-shape_of-dst-then-ss-eq1
 same_length c = search rules
 
 returns-2 : tie.Need-returns-then-ss-eq1
 returns-2 c =
-    let p = c in
-    let t = c in
-    let a = c in
-    (put-row-end a.args.ts a.args.stride a.args.ss a.ranges.ts a.ranges.stride a.ranges.ss t.if-ts-eq1.true t.if-stride-eq1.true t.if-ss-eq1.true nan (rule_f64 a.args.rule) a.args.src.now a.args.starts.now a.args.t a.args.base a.args.s a.args.limit a.args.n a.args.dst.now _ a.ranges.t a.ranges.base a.ranges.s p.put_row.ensures.0, row-count a.args.ts a.args.stride a.args.ss a.ranges.ts a.ranges.stride a.ranges.ss t.if-ts-eq1.true t.if-stride-eq1.true t.if-ss-eq1.true a.args.starts.now a.args.t a.args.limit a.args.n _ a.ranges.t p.put_row.ensures.1)
+    (put-row-end c.args.ts c.args.stride c.args.ss c.ranges.ts c.ranges.stride c.ranges.ss c.if-ts-eq1.true c.if-stride-eq1.true c.if-ss-eq1.true nan (rule_f64 c.args.rule) c.args.src.now c.args.starts.now c.args.t c.args.base c.args.s c.args.limit c.args.n c.args.dst.now _ c.ranges.t c.ranges.base c.ranges.s c.put_row.ensures.0, row-count c.args.ts c.args.stride c.args.ss c.ranges.ts c.ranges.stride c.ranges.ss c.if-ts-eq1.true c.if-stride-eq1.true c.if-ss-eq1.true c.args.starts.now c.args.t c.args.limit c.args.n _ c.ranges.t c.put_row.ensures.1)
 
 put-strided-requires : tie.Need-put_strided-requires
 put-strided-requires c κs =
-    let a = c in
-    strided-asks _ _ _ _ _ _ _ _ _ _ _ a.ranges.t a.ranges.ts a.ranges.base a.ranges.stride a.ranges.s a.ranges.ss a.requires
+    strided-asks _ _ _ _ _ _ _ _ _ _ _ c.ranges.t c.ranges.ts c.ranges.base c.ranges.stride c.ranges.s c.ranges.ss c.requires
 
 same-length-2 : tie.Need-shape_of-dst
 same-length-2 c = search rules
 
 returns-3 : tie.Need-returns
 returns-3 c =
-    let p = c in
-    let a = c in
-    (put-end nan (rule_f64 a.args.rule) a.args.src.now a.args.starts.now a.args.t a.args.ts a.args.base a.args.stride a.args.s a.args.ss a.args.limit a.args.n a.args.n a.args.dst.now p.put_strided.new.dst a.ranges.t a.ranges.ts a.ranges.base a.ranges.stride a.ranges.s a.ranges.ss refl p.put_strided.ensures.0, moves-end a.args.starts.now a.args.t a.args.ts a.args.n a.args.n _ a.ranges.t a.ranges.ts refl a.args.limit p.put_strided.ensures.1)
+    (put-end nan (rule_f64 c.args.rule) c.args.src.now c.args.starts.now c.args.t c.args.ts c.args.base c.args.stride c.args.s c.args.ss c.args.limit c.args.n c.args.n c.args.dst.now c.put_strided.new.dst c.ranges.t c.ranges.ts c.ranges.base c.ranges.stride c.ranges.s c.ranges.ss refl c.put_strided.ensures.0, moves-end c.args.starts.now c.args.t c.args.ts c.args.n c.args.n _ c.ranges.t c.ranges.ts refl c.args.limit c.put_strided.ensures.1)
 
 pub put_run_spec : {M : Type 1} → statement M
 put_run_spec =

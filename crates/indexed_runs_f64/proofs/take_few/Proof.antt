@@ -30,49 +30,37 @@ decreases-loop counts src starts dst₀ limit from to slid₀ i₀ dst slid i = 
 
 loop-holds : tie.Need-loop-i-init invariant-loop decreases-loop
 loop-holds c =
-    let a = c in
-    (omega arith, omega (arith, a.requires.0), refl, none _ (a.args.from - a.args.from) a.args.dst.now (omega arith), many-none (a.args.from - a.args.from) _ (omega arith))
+    (omega arith, omega (arith, c.requires.0), refl, none _ (c.args.from - c.args.from) c.args.dst.now (omega arith), many-none (c.args.from - c.args.from) _ (omega arith))
 
 take-one-requires : tie.Need-take_one-one-requires invariant-loop decreases-loop
 take-one-requires c κs =
-    let h = c in
-    let a = c in (omega (arith, c.loop-i-test.true, a.requires.1, h.loop-i.invariant.2), ones-left _ _ _ _ _ _ a.ranges.limit a.requires.2 h.loop-i.invariant.2 refl)
+    (omega (arith, c.loop-i-test.true, c.requires.1, c.loop-i.invariant.2), ones-left _ _ _ _ _ _ c.ranges.limit c.requires.2 c.loop-i.invariant.2 refl)
 
 add-slid : tie.Need-overflow_add-slid invariant-loop decreases-loop
 add-slid c =
-    let p = c in
-    let d = c in
-    let h = c in
-    let a = c in
-    omega (arith, one_below (h.loop-i.i - a.args.from) _ _ _ (a.args.counts && moves_at a.args.starts.now pos (nat_abs (read a.args.limit)) h.loop-i.i) h.loop-i.invariant.4 p.take_one-one.ensures.1, d.loop-i-test.true)
+    omega (arith, one_below (c.loop-i.i - c.args.from) _ _ _ (c.args.counts && moves_at c.args.starts.now pos (nat_abs (read c.args.limit)) c.loop-i.i) c.loop-i.invariant.4 c.take_one-one.ensures.1, c.loop-i-test.true)
 
 add-i : tie.Need-overflow_add-i invariant-loop decreases-loop
-add-i c = let d = c in omega (arith, d.loop-i-test.true)
+add-i c = omega (arith, c.loop-i-test.true)
 
 loop-less : tie.Need-loop-i-smaller invariant-loop decreases-loop
-loop-less c = let d = c in omega (arith, d.loop-i-test.true)
+loop-less c = omega (arith, c.loop-i-test.true)
 
 loop-again : tie.Need-loop-i-preserved invariant-loop decreases-loop
-loop-again c =
-    let p = c in
-    let d = c in
-    let h = c in
-    let a = c in (
-      omega (arith, h.loop-i.invariant.0),
-      omega (arith, d.loop-i-test.true),
-      p.take_one-one.auto.dst ∙ h.loop-i.invariant.2,
-      turn_more (cell_at nan (rule_f64 R.Replace) a.args.src.now (one_at a.args.starts.now (read a.args.limit)) pos) a.args.from h.loop-i.i a.args.dst.now _ _ h.loop-i.invariant.0 h.loop-i.invariant.3 p.take_one-one.ensures.0,
-      many-turn a.args.from h.loop-i.i (λ k. a.args.counts && moves_at a.args.starts.now pos (nat_abs (read a.args.limit)) k) _ _ h.loop-i.invariant.0 h.loop-i.invariant.4 p.take_one-one.ensures.1,
-    )
+loop-again c = (
+  omega (arith, c.loop-i.invariant.0),
+  omega (arith, c.loop-i-test.true),
+  c.take_one-one.auto.dst ∙ c.loop-i.invariant.2,
+  turn_more (cell_at nan (rule_f64 R.Replace) c.args.src.now (one_at c.args.starts.now (read c.args.limit)) pos) c.args.from c.loop-i.i c.args.dst.now _ _ c.loop-i.invariant.0 c.loop-i.invariant.3 c.take_one-one.ensures.0,
+  many-turn c.args.from c.loop-i.i (λ k. c.args.counts && moves_at c.args.starts.now pos (nat_abs (read c.args.limit)) k) _ _ c.loop-i.invariant.0 c.loop-i.invariant.4 c.take_one-one.ensures.1,
+)
 
 same_length : tie.Need-shape_of-dst invariant-loop decreases-loop
 same_length c = c.loop-i.invariant.2
 
 returns : tie.Need-returns invariant-loop decreases-loop
 returns c =
-    let h = c in
-    let a = c in
-    (take-few-end nan (rule_f64 R.Replace) a.args.src.now a.args.starts.now a.args.limit a.args.from h.loop-i.i a.args.to a.args.dst.now h.loop-i.dst a.ranges.limit (omega (arith, h.loop-i.invariant.1, c.loop-i-test.false)) h.loop-i.invariant.3, few-count a.args.counts a.args.starts.now a.args.limit a.args.from h.loop-i.i a.args.to h.loop-i.slid a.ranges.limit (omega (arith, h.loop-i.invariant.1, c.loop-i-test.false)) h.loop-i.invariant.4)
+    (take-few-end nan (rule_f64 R.Replace) c.args.src.now c.args.starts.now c.args.limit c.args.from c.loop-i.i c.args.to c.args.dst.now c.loop-i.dst c.ranges.limit (omega (arith, c.loop-i.invariant.1, c.loop-i-test.false)) c.loop-i.invariant.3, few-count c.args.counts c.args.starts.now c.args.limit c.args.from c.loop-i.i c.args.to c.loop-i.slid c.ranges.limit (omega (arith, c.loop-i.invariant.1, c.loop-i-test.false)) c.loop-i.invariant.4)
 
 pub take_few_spec : {M : Type 1} → statement M
 take_few_spec =

@@ -18,10 +18,10 @@ use Rattle.indexed_runs_f64.proofs.take_one.Tie as tie
 -- the place of the source
 module _ (c : tie.After-clamped-y) where
   place : Index c.clamped-y.result.at (length c.args.src.now)
-  place = let a = c in ones-index _ _ _ _ a.requires.1 a.ranges.limit (omega (arith, a.well_formed.1.0.1)) _ a.requires.0 (sfits_of c.x-1.given) _ c.clamped-y.ensures.0
+  place = ones-index _ _ _ _ c.requires.1 c.ranges.limit (omega (arith, c.well_formed.1.0.1)) _ c.requires.0 (sfits_of c.x-1.given) _ c.clamped-y.ensures.0
 
   by-start : pos (nat_abs (read c.clamped-y.result.at)) ≡ one_at c.args.starts.now c.args.limit c.args.i
-  by-start = let a = c in ones_is _ _ _ _ a.requires.1 a.ranges.limit (omega (arith, a.well_formed.1.0.1)) _ a.requires.0 (sfits_of c.x-1.given) _ c.clamped-y.ensures.0
+  by-start = ones_is _ _ _ _ c.requires.1 c.ranges.limit (omega (arith, c.well_formed.1.0.1)) _ c.requires.0 (sfits_of c.x-1.given) _ c.clamped-y.ensures.0
 
 mul-x : tie.Need-offset_bounds-starts-i
 mul-x c = search rules
@@ -34,16 +34,14 @@ clamped-requires c κs = search rules
 
 cast-a : tie.Need-overflow_cast-a
 cast-a c =
-    let l = c in
     (place search).cast
 
 mul-dst : tie.Need-offset_bounds-src-a
 mul-dst c =
-    let l = c in
-    omega (arith, (place search).below, l.well_formed.1.0.1)
+    omega (arith, (place search).below, c.well_formed.1.0.1)
 
 shared-slice-copy-out-dst : tie.Need-bounds-src-a
-shared-slice-copy-out-dst c = let l = c in (place search).below
+shared-slice-copy-out-dst c = (place search).below
 
 mul-t18 : tie.Need-offset_bounds-dst-i
 mul-t18 c = search rules
@@ -55,12 +53,10 @@ same_length : tie.Need-shape_of-dst
 same_length c = search rules
 
 returns : tie.Need-returns
-returns c =
-    let q = c in
-    let a = q in (
-      one-turn nan (rule_f64 R.Replace) a.args.src.now (one_at a.args.starts.now a.args.limit) pos a.args.dst.now a.args.i (nat_abs (read q.clamped-y.result.at)) a.args.i _ (by-start search) refl refl,
-      one-counts a.args.counts _ _ _ c.count_if-one.ensures c.count_if.ensures ∙ ap (λ (b : Bool). cond (a.args.counts && b) 1 0) (ones-moved a.args.starts.now a.args.limit a.args.i a.ranges.limit (sfits_of q.x-1.given) _ q.clamped-y.ensures.1),
-    )
+returns c = (
+  one-turn nan (rule_f64 R.Replace) c.args.src.now (one_at c.args.starts.now c.args.limit) pos c.args.dst.now c.args.i (nat_abs (read c.clamped-y.result.at)) c.args.i _ (by-start search) refl refl,
+  one-counts c.args.counts _ _ _ c.count_if-one.ensures c.count_if.ensures ∙ ap (λ (b : Bool). cond (c.args.counts && b) 1 0) (ones-moved c.args.starts.now c.args.limit c.args.i c.ranges.limit (sfits_of c.x-1.given) _ c.clamped-y.ensures.1),
+)
 
 pub take_one_spec : {M : Type 1} → statement M
 take_one_spec =

@@ -12,30 +12,24 @@ use Rattle.indexed_runs_f64.proofs.take_ones.Statement.{statement}
 use Rattle.indexed_runs_f64.proofs.take_ones.Tie as tie
 
 take-turns-requires : tie.Need-take_turns-requires
-take-turns-requires c κs = let a = c in (omega arith, ones-left _ _ _ _ _ _ a.ranges.limit a.requires refl refl)
+take-turns-requires c κs = (omega arith, ones-left _ _ _ _ _ _ c.ranges.limit c.requires refl refl)
 
 same_length : tie.Need-shape_of-dst-then-counts
 same_length c = search rules
 
 returns : tie.Need-returns-then-counts
 returns c =
-    let p = c in
-    let t = c in
-    let a = c in
-    (take-ones-end nan (rule_f64 R.Replace) a.args.src.now a.args.starts.now a.args.limit _ _ a.args.dst.now _ a.ranges.limit refl p.take_turns.ensures.0, so-counted a.args.counts true _ _ _ t.if-counts.true (ones-count a.args.starts.now a.args.limit _ _ _ a.ranges.limit refl refl) p.take_turns.ensures.1)
+    (take-ones-end nan (rule_f64 R.Replace) c.args.src.now c.args.starts.now c.args.limit _ _ c.args.dst.now _ c.ranges.limit refl c.take_turns.ensures.0, so-counted c.args.counts true _ _ _ c.if-counts.true (ones-count c.args.starts.now c.args.limit _ _ _ c.ranges.limit refl refl) c.take_turns.ensures.1)
 
 take-turns-requires-2 : tie.Need-take_turns-requires-2
-take-turns-requires-2 c κs = let a = c in (omega arith, ones-left _ _ _ _ _ _ a.ranges.limit a.requires refl refl)
+take-turns-requires-2 c κs = (omega arith, ones-left _ _ _ _ _ _ c.ranges.limit c.requires refl refl)
 
 same-length-2 : tie.Need-shape_of-dst
 same-length-2 c = search rules
 
 returns-2 : tie.Need-returns
 returns-2 c =
-    let p = c in
-    let f = c in
-    let a = c in
-    (take-ones-end nan (rule_f64 R.Replace) a.args.src.now a.args.starts.now a.args.limit _ _ a.args.dst.now _ a.ranges.limit refl p.take_turns-2.ensures.0, so-counted a.args.counts false _ _ _ f.if-counts.false (ones-count a.args.starts.now a.args.limit _ _ _ a.ranges.limit refl refl) p.take_turns-2.ensures.1)
+    (take-ones-end nan (rule_f64 R.Replace) c.args.src.now c.args.starts.now c.args.limit _ _ c.args.dst.now _ c.ranges.limit refl c.take_turns-2.ensures.0, so-counted c.args.counts false _ _ _ c.if-counts.false (ones-count c.args.starts.now c.args.limit _ _ _ c.ranges.limit refl refl) c.take_turns-2.ensures.1)
 
 pub take_ones_spec : {M : Type 1} → statement M
 take_ones_spec = tie.close (tie.spec take-turns-requires same_length returns take-turns-requires-2 same-length-2 returns-2)

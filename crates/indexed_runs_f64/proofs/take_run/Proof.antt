@@ -13,37 +13,29 @@ use Rattle.indexed_runs_f64.proofs.take_run.Statement.{statement}
 use Rattle.indexed_runs_f64.proofs.take_run.Tie as tie
 
 returns : tie.Need-returns-then-n-eq0
-returns c = let a = c in (none _ a.args.n a.args.dst.now c.if-n-eq0.true, none-counts a.args.counts _ (many-none a.args.n _ c.if-n-eq0.true))
+returns c = (none _ c.args.n c.args.dst.now c.if-n-eq0.true, none-counts c.args.counts _ (many-none c.args.n _ c.if-n-eq0.true))
 
 take-row-requires : tie.Need-take_row-requires
 take-row-requires c κs =
-    let t = c in
-    let a = c in
-    row-asks _ _ _ a.ranges.ts a.ranges.stride a.ranges.ds t.if-ts-eq1.true t.if-stride-eq1.true t.if-ds-eq1.true _ _ _ _ _ _ _ _ a.ranges.t a.ranges.base a.ranges.d t.if-n-eq0.false a.requires
+    row-asks _ _ _ c.ranges.ts c.ranges.stride c.ranges.ds c.if-ts-eq1.true c.if-stride-eq1.true c.if-ds-eq1.true _ _ _ _ _ _ _ _ c.ranges.t c.ranges.base c.ranges.d c.if-n-eq0.false c.requires
 
 same_length : tie.Need-shape_of-dst-then-ds-eq1
 same_length c = search rules
 
 returns-2 : tie.Need-returns-then-ds-eq1
 returns-2 c =
-    let k = c in
-    let t = c in
-    let a = c in
-    (take-row-end a.args.ts a.args.stride a.args.ds a.ranges.ts a.ranges.stride a.ranges.ds t.if-ts-eq1.true t.if-stride-eq1.true t.if-ds-eq1.true nan (rule_f64 R.Replace) a.args.src.now a.args.starts.now a.args.t a.args.base a.args.d a.args.limit a.args.n a.args.dst.now _ a.ranges.t a.ranges.base a.ranges.d k.take_row.ensures.0, so-counted a.args.counts a.args.counts _ _ _ refl (row-count a.args.ts a.args.stride a.args.ds a.ranges.ts a.ranges.stride a.ranges.ds t.if-ts-eq1.true t.if-stride-eq1.true t.if-ds-eq1.true a.args.starts.now a.args.t a.args.limit a.args.n _ a.ranges.t refl) k.take_row.ensures.1)
+    (take-row-end c.args.ts c.args.stride c.args.ds c.ranges.ts c.ranges.stride c.ranges.ds c.if-ts-eq1.true c.if-stride-eq1.true c.if-ds-eq1.true nan (rule_f64 R.Replace) c.args.src.now c.args.starts.now c.args.t c.args.base c.args.d c.args.limit c.args.n c.args.dst.now _ c.ranges.t c.ranges.base c.ranges.d c.take_row.ensures.0, so-counted c.args.counts c.args.counts _ _ _ refl (row-count c.args.ts c.args.stride c.args.ds c.ranges.ts c.ranges.stride c.ranges.ds c.if-ts-eq1.true c.if-stride-eq1.true c.if-ds-eq1.true c.args.starts.now c.args.t c.args.limit c.args.n _ c.ranges.t refl) c.take_row.ensures.1)
 
 take-strided-requires : tie.Need-take_strided-requires
 take-strided-requires c κs =
-    let a = c in
-    strided-asks _ _ _ _ _ _ _ _ _ _ _ a.ranges.t a.ranges.ts a.ranges.base a.ranges.stride a.ranges.d a.ranges.ds a.requires
+    strided-asks _ _ _ _ _ _ _ _ _ _ _ c.ranges.t c.ranges.ts c.ranges.base c.ranges.stride c.ranges.d c.ranges.ds c.requires
 
 same-length-2 : tie.Need-shape_of-dst
 same-length-2 c = search rules
 
 returns-3 : tie.Need-returns
 returns-3 c =
-    let t = c in
-    let a = c in
-    (take-end nan (rule_f64 R.Replace) a.args.src.now a.args.starts.now a.args.t a.args.ts a.args.base a.args.stride a.args.d a.args.ds a.args.limit a.args.n a.args.n a.args.dst.now t.take_strided.new.dst a.ranges.t a.ranges.ts a.ranges.base a.ranges.stride a.ranges.d a.ranges.ds refl t.take_strided.ensures.0, so-counted a.args.counts a.args.counts _ _ _ refl (moves-end a.args.starts.now a.args.t a.args.ts a.args.n a.args.n _ a.ranges.t a.ranges.ts refl a.args.limit refl) t.take_strided.ensures.1)
+    (take-end nan (rule_f64 R.Replace) c.args.src.now c.args.starts.now c.args.t c.args.ts c.args.base c.args.stride c.args.d c.args.ds c.args.limit c.args.n c.args.n c.args.dst.now c.take_strided.new.dst c.ranges.t c.ranges.ts c.ranges.base c.ranges.stride c.ranges.d c.ranges.ds refl c.take_strided.ensures.0, so-counted c.args.counts c.args.counts _ _ _ refl (moves-end c.args.starts.now c.args.t c.args.ts c.args.n c.args.n _ c.ranges.t c.ranges.ts refl c.args.limit refl) c.take_strided.ensures.1)
 
 pub take_run_spec : {M : Type 1} → statement M
 take_run_spec =

@@ -12,18 +12,14 @@ run-axis-requires c κs = search rules
 
 axes-requires : tie.Need-axes-requires
 axes-requires c κs =
-    let a = c in
-    let l = c in
-    cells-level _ _ _ _ _ _ a.ranges.s a.ranges.d _ _ _ a.requires l.run_axis-low.ensures
+    cells-level _ _ _ _ _ _ c.ranges.s c.ranges.d _ _ _ c.requires c.run_axis-low.ensures
 
 same_length : tie.Need-shape_of-dst
 same_length c = search rules
 
 returns : tie.Need-returns
 returns c =
-    let a = c in
-    let x = c in
-    left_by _ _ a.args.extents a.args.ss a.args.ds a.args.rank a.ranges.s a.ranges.d _ _ _ refl refl refl (pos 0) (rule_i32 R.Replace) a.args.src.now a.args.dst.now _ x.axes.ensures
+    left_by _ _ c.args.extents c.args.ss c.args.ds c.args.rank c.ranges.s c.ranges.d _ _ _ refl refl refl (pos 0) (rule_i32 R.Replace) c.args.src.now c.args.dst.now _ c.axes.ensures
 
 pub over_axes_spec : {M : Type 1} → statement M
 over_axes_spec = tie.close (tie.spec run-axis-requires axes-requires same_length returns)

@@ -9,23 +9,14 @@ use Rattle.operand_copy_f64.proofs.over_fused.Tie as tie
 
 over-axes-requires : tie.Need-over_axes-requires
 over-axes-requires c κs =
-    let a = c in
-    let x = c in
-    let y = c in
-    let z = c in
-    cells-by _ _ _ _ _ _ a.ranges.s a.ranges.d _ _ _ x.dims_of-extents.ensures y.srcs_of-ss.ensures z.dsts_of-ds.ensures _ _ a.requires
+    cells-by _ _ _ _ _ _ c.ranges.s c.ranges.d _ _ _ c.dims_of-extents.ensures c.srcs_of-ss.ensures c.dsts_of-ds.ensures _ _ c.requires
 
 same_length : tie.Need-shape_of-dst
 same_length c = search rules
 
 returns : tie.Need-returns
 returns c =
-    let a = c in
-    let x = c in
-    let y = c in
-    let z = c in
-    let w = c in
-    left_by _ _ _ _ _ a.args.f.rank a.ranges.s a.ranges.d _ _ _ x.dims_of-extents.ensures y.srcs_of-ss.ensures z.dsts_of-ds.ensures nan (rule_f64 R.Replace) a.args.src.now a.args.dst.now _ w.over_axes.ensures
+    left_by _ _ _ _ _ c.args.f.rank c.ranges.s c.ranges.d _ _ _ c.dims_of-extents.ensures c.srcs_of-ss.ensures c.dsts_of-ds.ensures nan (rule_f64 R.Replace) c.args.src.now c.args.dst.now _ c.over_axes.ensures
 
 pub over_fused_spec : {M : Type 1} → statement M
 over_fused_spec =

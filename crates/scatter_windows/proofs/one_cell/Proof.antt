@@ -24,7 +24,7 @@ element-copy-out-if1 : tie.Need-bounds-extents-i invariant-loop decreases-loop
 element-copy-out-if1 c = omega (arith, c.requires)
 
 returns : tie.Need-returns-then-extents-i-ne1 invariant-loop decreases-loop
-returns c = let h = c in record { yes = λ e. absurd (true≢false (sym e)); no = λ e u. omega (arith, u h.loop-i.i (omega arith)) }
+returns c = record { yes = λ e. absurd (true≢false (sym e)); no = λ e u. omega (arith, u c.loop-i.i (omega arith)) }
 
 add-i : tie.Need-overflow_add-i invariant-loop decreases-loop
 add-i c = omega arith
@@ -33,10 +33,10 @@ loop-less : tie.Need-loop-i-smaller invariant-loop decreases-loop
 loop-less c = omega arith
 
 loop-again : tie.Need-loop-i-preserved invariant-loop decreases-loop
-loop-again c = let h = c in (omega arith, below_more (λ k. get_or h.args.extents.now k 0 ≡ 1) _ h.loop-i.invariant.1 (omega arith))
+loop-again c = (omega arith, below_more (λ k. get_or c.args.extents.now k 0 ≡ 1) _ c.loop-i.invariant.1 (omega arith))
 
 returns-2 : tie.Need-returns invariant-loop decreases-loop
-returns-2 c = let h = c in record { yes = λ e i l. h.loop-i.invariant.1 i (omega arith); no = λ e u. absurd (true≢false e) }
+returns-2 c = record { yes = λ e i l. c.loop-i.invariant.1 i (omega arith); no = λ e u. absurd (true≢false e) }
 
 pub one_cell_spec : {M : Type 1} → statement M
 one_cell_spec =

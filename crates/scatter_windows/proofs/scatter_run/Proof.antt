@@ -14,33 +14,27 @@ use Rattle.scatter_windows.proofs.scatter_run.Statement.{statement}
 use Rattle.scatter_windows.proofs.scatter_run.Tie as tie
 
 returns : tie.Need-returns-then-n-eq0
-returns c = let a = c in (none _ a.args.n a.args.dst.now c.if-n-eq0.true, many-none a.args.n _ c.if-n-eq0.true)
+returns c = (none _ c.args.n c.args.dst.now c.if-n-eq0.true, many-none c.args.n _ c.if-n-eq0.true)
 
 strided-run-requires : tie.Need-strided_run-requires
 strided-run-requires c κs =
-    let t = c in
-    let a = c in
-    still-asks a.args.starts.now a.args.offsets.now a.args.strides.now a.args.limits.now a.args.count t.if-count-eq0.true _ _ _ _ _ _ _ _ a.ranges.u a.ranges.d a.ranges.us a.requires
+    still-asks c.args.starts.now c.args.offsets.now c.args.strides.now c.args.limits.now c.args.count c.if-count-eq0.true _ _ _ _ _ _ _ _ c.ranges.u c.ranges.d c.ranges.us c.requires
 
 same_length : tie.Need-shape_of-dst-then-count-eq0
 same_length c = search rules
 
 returns-2 : tie.Need-returns-then-count-eq0
-returns-2 c =
-    let p = c in
-    let t = c in
-    let a = c in (
-      still-end a.args.starts.now a.args.offsets.now a.args.strides.now a.args.limits.now a.args.count t.if-count-eq0.true a.args.u a.args.t a.args.d a.args.us a.args.ts (pos 0) (rule_i32 a.args.rule) a.args.src.now a.args.n a.args.dst.now _ a.ranges.u a.ranges.d a.ranges.us p.strided_run.ensures,
-      none-moved a.args.starts.now a.args.offsets.now a.args.limits.now a.args.count a.args.n (line a.args.t a.args.ts) t.if-count-eq0.true,
-    )
+returns-2 c = (
+  still-end c.args.starts.now c.args.offsets.now c.args.strides.now c.args.limits.now c.args.count c.if-count-eq0.true c.args.u c.args.t c.args.d c.args.us c.args.ts (pos 0) (rule_i32 c.args.rule) c.args.src.now c.args.n c.args.dst.now _ c.ranges.u c.ranges.d c.ranges.us c.strided_run.ensures,
+  none-moved c.args.starts.now c.args.offsets.now c.args.limits.now c.args.count c.args.n (line c.args.t c.args.ts) c.if-count-eq0.true,
+)
 
 element-copy-out-at : tie.Need-bounds-offsets-0
 element-copy-out-at c = search rules
 
 add_at : tie.Need-overflow_add-at
 add_at c =
-    let a = c in
-    at_sum _ _ _ _ _ _ _ _ _ _ _ _ _ a.requires c.if-n-eq0.false c.if-count-eq1.true (omega (arith, a.well_formed.1.1.0.1)) a.ranges.u a.ranges.t a.ranges.d a.ranges.us a.ranges.ts (sfits_of c.at-1.given)
+    at_sum _ _ _ _ _ _ _ _ _ _ _ _ _ c.requires c.if-n-eq0.false c.if-count-eq1.true (omega (arith, c.well_formed.1.1.0.1)) c.ranges.u c.ranges.t c.ranges.d c.ranges.us c.ranges.ts (sfits_of c.at-1.given)
 
 element-copy-out-put-run : tie.Need-bounds-strides-0
 element-copy-out-put-run c = search rules
@@ -50,38 +44,29 @@ element-copy-out-put-run-2 c = search rules
 
 put-run-requires : tie.Need-put_run-requires
 put-run-requires c κs =
-    let b = c in
-    let a = c in
-    single-asks _ _ _ _ _ _ _ _ _ _ _ _ _ a.requires b.if-n-eq0.false b.if-count-eq1.true (omega (arith, a.well_formed.1.1.0.1)) a.ranges.u a.ranges.t a.ranges.d a.ranges.us a.ranges.ts (sfits_of b.at-1.given) (sfits_of c.put_run-arg-then-count-eq1-1.given)
+    single-asks _ _ _ _ _ _ _ _ _ _ _ _ _ c.requires c.if-n-eq0.false c.if-count-eq1.true (omega (arith, c.well_formed.1.1.0.1)) c.ranges.u c.ranges.t c.ranges.d c.ranges.us c.ranges.ts (sfits_of c.at-1.given) (sfits_of c.put_run-arg-then-count-eq1-1.given)
 
 same-length-2 : tie.Need-shape_of-dst-then-count-eq1
 same-length-2 c = search rules
 
 returns-3 : tie.Need-returns-then-count-eq1
-returns-3 c =
-    let p2 = c in
-    let p = c in
-    let b = c in
-    let a = c in (
-      single-end _ _ _ _ _ _ _ _ _ _ _ _ _ a.requires b.if-n-eq0.false b.if-count-eq1.true (omega (arith, a.well_formed.1.1.0.1)) a.ranges.u a.ranges.t a.ranges.d a.ranges.us a.ranges.ts (sfits_of b.at-1.given) (pos 0) (rule_i32 a.args.rule) a.args.src.now a.args.dst.now _ (sfits_of p2.put_run-arg-then-count-eq1-1.given) p.put_run.ensures.0,
-      single-count _ _ _ _ _ _ _ _ _ _ _ _ _ a.requires b.if-n-eq0.false b.if-count-eq1.true (omega (arith, a.well_formed.1.1.0.1)) a.ranges.u a.ranges.t a.ranges.d a.ranges.us a.ranges.ts (sfits_of b.at-1.given) _ p.put_run.ensures.1,
-    )
+returns-3 c = (
+  single-end _ _ _ _ _ _ _ _ _ _ _ _ _ c.requires c.if-n-eq0.false c.if-count-eq1.true (omega (arith, c.well_formed.1.1.0.1)) c.ranges.u c.ranges.t c.ranges.d c.ranges.us c.ranges.ts (sfits_of c.at-1.given) (pos 0) (rule_i32 c.args.rule) c.args.src.now c.args.dst.now _ (sfits_of c.put_run-arg-then-count-eq1-1.given) c.put_run.ensures.0,
+  single-count _ _ _ _ _ _ _ _ _ _ _ _ _ c.requires c.if-n-eq0.false c.if-count-eq1.true (omega (arith, c.well_formed.1.1.0.1)) c.ranges.u c.ranges.t c.ranges.d c.ranges.us c.ranges.ts (sfits_of c.at-1.given) _ c.put_run.ensures.1,
+)
 
 put-cells-requires : tie.Need-put_cells-requires
 put-cells-requires c κs =
-    let a = c in
-    (omega (arith, c.if-count-eq0.false), puts-ask _ _ _ _ _ _ _ _ _ _ _ _ _ a.ranges.u a.ranges.t a.ranges.d a.ranges.us a.ranges.ts a.requires)
+    (omega (arith, c.if-count-eq0.false), puts-ask _ _ _ _ _ _ _ _ _ _ _ _ _ c.ranges.u c.ranges.t c.ranges.d c.ranges.us c.ranges.ts c.requires)
 
 same-length-3 : tie.Need-shape_of-dst
 same-length-3 c = search rules
 
 returns-4 : tie.Need-returns
-returns-4 c =
-    let p = c in
-    let a = c in (
-      puts-end (pos 0) (rule_i32 a.args.rule) a.args.src.now a.args.starts.now a.args.offsets.now a.args.strides.now a.args.limits.now a.args.count _ _ _ _ _ a.args.n a.args.n a.args.dst.now _ a.ranges.u a.ranges.t a.ranges.d a.ranges.us a.ranges.ts refl p.put_cells.ensures.0,
-      starts-end a.args.starts.now a.args.t a.args.ts a.args.n a.args.n _ a.ranges.t a.ranges.ts refl a.args.offsets.now a.args.limits.now a.args.count p.put_cells.ensures.1,
-    )
+returns-4 c = (
+  puts-end (pos 0) (rule_i32 c.args.rule) c.args.src.now c.args.starts.now c.args.offsets.now c.args.strides.now c.args.limits.now c.args.count _ _ _ _ _ c.args.n c.args.n c.args.dst.now _ c.ranges.u c.ranges.t c.ranges.d c.ranges.us c.ranges.ts refl c.put_cells.ensures.0,
+  starts-end c.args.starts.now c.args.t c.args.ts c.args.n c.args.n _ c.ranges.t c.ranges.ts refl c.args.offsets.now c.args.limits.now c.args.count c.put_cells.ensures.1,
+)
 
 pub scatter_run_spec : {M : Type 1} → statement M
 scatter_run_spec =

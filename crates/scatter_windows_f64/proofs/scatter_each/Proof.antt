@@ -10,40 +10,32 @@ use Rattle.scatter_windows_f64.proofs.scatter_each.Tie as tie
 
 scatter-run-requires : tie.Need-scatter_run-requires
 scatter-run-requires c κs =
-    let a = c in
-    one_batch _ _ _ _ _ _ _ _ _ _ _ _ _ _ a.requires a.ranges.t a.ranges.u a.ranges.d c.if-rank-eq0.true
+    one_batch _ _ _ _ _ _ _ _ _ _ _ _ _ _ c.requires c.ranges.t c.ranges.u c.ranges.d c.if-rank-eq0.true
 
 same_length : tie.Need-shape_of-dst-then-rank-eq0
 same_length c = search rules
 
 returns : tie.Need-returns-then-rank-eq0
-returns c =
-    let t1 = c in
-    let s = c in
-    let a = c in (
-      one_end _ _ _ _ _ _ _ _ _ _ _ _ _ _ a.requires a.ranges.t a.ranges.u a.ranges.d t1.if-rank-eq0.true nan (rule_f64 a.args.rule) a.args.src.now a.args.dst.now _ s.scatter_run.ensures.0,
-      counted-one (λ x. start_moved a.args.starts.now a.args.offsets.now a.args.limits.now x a.args.count) a.args.extents.now a.args.ts.now a.args.t a.args.rank _ a.ranges.t t1.if-rank-eq0.true s.scatter_run.ensures.1,
-    )
+returns c = (
+  one_end _ _ _ _ _ _ _ _ _ _ _ _ _ _ c.requires c.ranges.t c.ranges.u c.ranges.d c.if-rank-eq0.true nan (rule_f64 c.args.rule) c.args.src.now c.args.dst.now _ c.scatter_run.ensures.0,
+  counted-one (λ x. start_moved c.args.starts.now c.args.offsets.now c.args.limits.now x c.args.count) c.args.extents.now c.args.ts.now c.args.t c.args.rank _ c.ranges.t c.if-rank-eq0.true c.scatter_run.ensures.1,
+)
 
 run-axis-requires : tie.Need-run_axis-low-requires
 run-axis-requires c κs = search rules
 
 scatter-cells-requires : tie.Need-scatter_cells-requires
 scatter-cells-requires c κs =
-    let r = c in
-    let a = c in
-    put-level _ _ _ _ _ _ _ _ _ _ _ _ _ _ a.requires a.ranges.t a.ranges.u a.ranges.d r.run_axis-low.result r.run_axis-low.ensures.below r.run_axis-low.ensures.units
+    put-level _ _ _ _ _ _ _ _ _ _ _ _ _ _ c.requires c.ranges.t c.ranges.u c.ranges.d c.run_axis-low.result c.run_axis-low.ensures.below c.run_axis-low.ensures.units
 
 same-length-2 : tie.Need-shape_of-dst
 same-length-2 c = search rules
 
 returns-2 : tie.Need-returns
-returns-2 c =
-    let s = c in
-    let a = c in (
-      put-end _ _ _ _ _ _ _ _ _ _ _ _ _ _ a.requires a.ranges.t a.ranges.u a.ranges.d nan (rule_f64 a.args.rule) a.args.src.now a.args.dst.now _ s.scatter_cells.ensures.0,
-      counted_back (λ x. start_moved a.args.starts.now a.args.offsets.now a.args.limits.now x a.args.count) a.args.extents.now a.args.ts.now a.args.t a.args.rank _ a.ranges.t s.scatter_cells.ensures.1,
-    )
+returns-2 c = (
+  put-end _ _ _ _ _ _ _ _ _ _ _ _ _ _ c.requires c.ranges.t c.ranges.u c.ranges.d nan (rule_f64 c.args.rule) c.args.src.now c.args.dst.now _ c.scatter_cells.ensures.0,
+  counted_back (λ x. start_moved c.args.starts.now c.args.offsets.now c.args.limits.now x c.args.count) c.args.extents.now c.args.ts.now c.args.t c.args.rank _ c.ranges.t c.scatter_cells.ensures.1,
+)
 
 pub scatter_each_spec : {M : Type 1} → statement M
 scatter_each_spec =
