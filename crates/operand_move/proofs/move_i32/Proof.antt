@@ -1,16 +1,13 @@
-use mathlib.Core.Path.{◌≡◌, sym, ap, ◌∙◌}
-use mathlib.Core.Bool.{true}
+use mathlib.Core.Path.{sym, ap, ◌∙◌}
 use lib.ListN.{length}
 use lib.IntN.{pos}
 use borrow.Author.Rules.{rules}
-use borrow.Author.Tests.{not-true, not-false}
 use mir.Syntax.{w64}
 use mir.Val.{SFits}
 use Rattle.indexing.specs.Scatter.{scattered}
 use Rattle.indexing.specs.Slid.{slid_scatter}
 use Rattle.indexing.specs.Operand.{operand_copied}
 use Rattle.indexing.proofs.OperandCells.{length-copied}
-use Rattle.layout.specs.Answers.{is_done}
 use Rattle.rules.specs.Rules.{rule_i32}
 use Rattle.calls.proofs.Does.{refused}
 use Rattle.operand_move.proofs.Copied.{copy-window, copy-leaves, moved_on, moving}
@@ -21,16 +18,6 @@ use Rattle.operand_move.proofs.move_i32.Tie as tie
 offsets : (s : tie.Start) → SFits w64 s.args.c.offset × SFits w64 s.args.p.dest
 offsets s = (search rules, search rules)
 
--- where the answer is not a refusal
-module _ (e : tie.Else-not-is_done) where
-  abbrev start : tie.Start
-  start = search
-
-  ready : is_done start.args.p.answer ≡ true
-  ready =
-      let d : tie.After-is_done = search in
-      sym d.is-done.ensures ∙ not-false _ e.if1.left
-
 returns : tie.Need-returns-then-not-is_done
 returns c =
     let d = c in
@@ -39,18 +26,18 @@ returns c =
 
 copy-operand-requires : tie.Need-copy_operand-requires
 copy-operand-requires c κs =
-    let e = c in
+    let t = sym c.is_done.ensures ∙ c.if-not-is_done.false in
     let s = c in
     let k = s.requires in
-    copy-window s.args.p s.args.c k.operand k.scatter _ _ _ _ (k.ready (ready e)) (k.copy (ready e)) (offsets s.before.before.before.before.before.before.before.before.before).0 (offsets s.before.before.before.before.before.before.before.before.before).1
+    copy-window s.args.p s.args.c k.operand k.scatter _ _ _ _ (k.ready t) (k.copy t) (offsets search).0 (offsets search).1
 
 move-i32-requires : tie.Need-move_i32-requires
 move-i32-requires c κs =
-    let e = c in
+    let t = sym c.is_done.ensures ∙ c.if-not-is_done.false in
     let o = c in
     let s = c in
     let k = s.requires in
-    let q = o.copy_operand.ensures ∙ copy-leaves s.args.p s.args.c k.operand k.scatter _ _ _ _ (k.ready (ready e)) (k.copy (ready e)) (pos 0) s.args.operand.now s.args.into.now (offsets s.before.before.before.before.before.before.before.before.before.before.before.before).0 (offsets s.before.before.before.before.before.before.before.before.before.before.before.before).1 in
+    let q = o.copy_operand.ensures ∙ copy-leaves s.args.p s.args.c k.operand k.scatter _ _ _ _ (k.ready t) (k.copy t) (pos 0) s.args.operand.now s.args.into.now (offsets search).0 (offsets search).1 in
     moving _ (ap length q ∙ length-copied (pos 0) k.operand k.scatter.result s.args.operand.now s.args.into.now) k
 
 same_length : tie.Need-shape_of-into
@@ -58,13 +45,13 @@ same_length c = search rules
 
 returns-2 : tie.Need-returns
 returns-2 c =
-    let e = c in
+    let t = sym c.is_done.ensures ∙ c.if-not-is_done.false in
     let o = c in
     let m = c in
     let s = c in
     λ k.
-    let q = o.copy_operand.ensures ∙ copy-leaves s.args.p s.args.c k.operand k.scatter _ _ _ _ (k.ready (ready e)) (k.copy (ready e)) (pos 0) s.args.operand.now s.args.into.now (offsets s.before.before.before.before.before.before.before.before.before.before.before.before.before.before).0 (offsets s.before.before.before.before.before.before.before.before.before.before.before.before.before.before).1 in
-    moved_on s.args.p.answer (slid_scatter k.scatter s.args.starts.now) (scattered (rule_i32 s.args.rule) (pos 0) k.scatter s.args.starts.now s.args.source.now) s.args.into.now _ (operand_copied (pos 0) k.operand k.scatter.result s.args.operand.now s.args.into.now) _ _ (ready e) q
+    let q = o.copy_operand.ensures ∙ copy-leaves s.args.p s.args.c k.operand k.scatter _ _ _ _ (k.ready t) (k.copy t) (pos 0) s.args.operand.now s.args.into.now (offsets search).0 (offsets search).1 in
+    moved_on s.args.p.answer (slid_scatter k.scatter s.args.starts.now) (scattered (rule_i32 s.args.rule) (pos 0) k.scatter s.args.starts.now s.args.source.now) s.args.into.now _ (operand_copied (pos 0) k.operand k.scatter.result s.args.operand.now s.args.into.now) _ _ t q
     (m.move_i32.ensures (moving _ (ap length q ∙ length-copied (pos 0) k.operand k.scatter.result s.args.operand.now s.args.into.now) k))
 
 pub move_i32_spec : {M : Type 1} → statement M

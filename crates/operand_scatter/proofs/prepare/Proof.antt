@@ -1,5 +1,4 @@
 use mathlib.Core.Path.{sym, ap, ◌∙◌}
-use borrow.Author.Tests.{not-true, not-false}
 use Rattle.layout.specs.Answers.{is_done}
 use Rattle.checks.proofs.Held.{never}
 use Rattle.calls.specs.Calls.{view_of}
@@ -11,7 +10,7 @@ use Rattle.operand_scatter.proofs.prepare.Tie as tie
 returns : tie.Need-returns-then-not-is_done
 returns c =
     let s = c in
-    let a = answer-is s.args.plan s.args.batch-rows s.args.window-rows (view_of s.args.operand) (scatter_of s.args.plan.scatter s.args.index s.args.updates s.args.dest) s.args.operand-len s.args.starts-len s.args.updates-len s.args.dest-len c.plan_fits-fits.ensures c.check_plan-eight.ensures c.view_reach-w.ensures c.view_reach-x.ensures c.view_reach-y.ensures c.view_reach-z.ensures c.check_bounds-nine.ensures c.or_else-answer.ensures in
+    let a = answer-is s.args.plan s.args.batch_rows s.args.window_rows (view_of s.args.operand) (scatter_of s.args.plan.scatter s.args.index s.args.updates s.args.dest) s.args.operand_len s.args.starts_len s.args.updates_len s.args.dest_len c.plan_fits-fits.ensures c.check_plan-eight.ensures c.view_reach-w.ensures c.view_reach-x.ensures c.view_reach-y.ensures c.view_reach-z.ensures c.check_bounds-nine.ensures c.or_else-answer.ensures in
     let e = c.refused.ensures in
     record { answered = e ∙ a; ready = λ d. never (sym d ∙ ap is_done (sym a) ∙ sym c.is_done.ensures ∙ c.if-not-is_done.true) }
 
@@ -19,16 +18,16 @@ prepared-by-requires : tie.Need-prepared_by-requires
 prepared-by-requires c κs =
     let i = c in
     let s = i in
-    let a = answer-is s.args.plan s.args.batch-rows s.args.window-rows (view_of s.args.operand) (scatter_of s.args.plan.scatter s.args.index s.args.updates s.args.dest) s.args.operand-len s.args.starts-len s.args.updates-len s.args.dest-len i.plan_fits-fits.ensures i.check_plan-eight.ensures i.view_reach-w.ensures i.view_reach-x.ensures i.view_reach-y.ensures i.view_reach-z.ensures i.check_bounds-nine.ensures i.or_else-answer.ensures in
-    compiled s.args.plan s.args.batch-rows s.args.window-rows s.args.operand s.args.index s.args.updates s.args.dest s.args.operand-len s.args.starts-len s.args.updates-len s.args.dest-len (ap is_done (sym a) ∙ sym i.is_done.ensures ∙ i.if-not-is_done.false)
+    let a = answer-is s.args.plan s.args.batch_rows s.args.window_rows (view_of s.args.operand) (scatter_of s.args.plan.scatter s.args.index s.args.updates s.args.dest) s.args.operand_len s.args.starts_len s.args.updates_len s.args.dest_len i.plan_fits-fits.ensures i.check_plan-eight.ensures i.view_reach-w.ensures i.view_reach-x.ensures i.view_reach-y.ensures i.view_reach-z.ensures i.check_bounds-nine.ensures i.or_else-answer.ensures in
+    compiled s.args.plan s.args.batch_rows s.args.window_rows s.args.operand s.args.index s.args.updates s.args.dest s.args.operand_len s.args.starts_len s.args.updates_len s.args.dest_len (ap is_done (sym a) ∙ sym i.is_done.ensures ∙ i.if-not-is_done.false)
 
 returns-2 : tie.Need-returns
 returns-2 c =
     let p = c in
-    let i = p.before.before in
-    let s = i.before.before.before.before.before.before.before.before.before.before in
-    let a = answer-is s.args.plan s.args.batch-rows s.args.window-rows (view_of s.args.operand) (scatter_of s.args.plan.scatter s.args.index s.args.updates s.args.dest) s.args.operand-len s.args.starts-len s.args.updates-len s.args.dest-len i.before.before.before.before.before.before.before.before.before.plan-fits.ensures i.before.before.before.before.before.before.before.before.check-plan.ensures i.before.before.before.before.before.before.before.view-reach.ensures i.before.before.before.before.before.before.view-reach2.ensures i.before.before.before.before.before.view-reach3.ensures i.before.before.before.before.view-reach4.ensures i.before.before.before.check-bounds.ensures i.before.before.or_else.ensures in
-    prepared s.args.plan s.args.batch-rows s.args.window-rows s.args.operand s.args.index s.args.updates s.args.dest s.args.operand-len s.args.starts-len s.args.updates-len s.args.dest-len (ap is_done (sym a) ∙ sym i.before.is-done.ensures ∙ not-false _ i.if1.left) _ _ p.prepared_by.ensures i.before.before.before.before.view-reach4.ensures
+    let i = c in
+    let s = c in
+    let a = answer-is s.args.plan s.args.batch_rows s.args.window_rows (view_of s.args.operand) (scatter_of s.args.plan.scatter s.args.index s.args.updates s.args.dest) s.args.operand_len s.args.starts_len s.args.updates_len s.args.dest_len i.plan_fits-fits.ensures i.check_plan-eight.ensures i.view_reach-w.ensures i.view_reach-x.ensures i.view_reach-y.ensures i.view_reach-z.ensures i.check_bounds-nine.ensures i.or_else-answer.ensures in
+    prepared s.args.plan s.args.batch_rows s.args.window_rows s.args.operand s.args.index s.args.updates s.args.dest s.args.operand_len s.args.starts_len s.args.updates_len s.args.dest_len (ap is_done (sym a) ∙ sym i.is_done.ensures ∙ i.if-not-is_done.false) _ _ p.prepared_by.ensures i.view_reach-z.ensures
 
 pub prepare_spec : {M : Type 1} → statement M
 prepare_spec =

@@ -22,16 +22,16 @@ fits : (s : tie.Start) → SFits w64 s.args.operand.offset
 fits s = search rules
 
 -- where the call is not refused, the copy is that of its views
-copied : (s : tie.Start) → is_done (call_answer s.args.plan s.args.batch-rows s.args.window-rows (view_of s.args.operand) (scatter_of s.args.plan.scatter s.args.index s.args.updates s.args.dest) (length s.args.from.now) (length s.args.starts.now) (length s.args.source.now) (length s.args.into.now)) ≡ true
+copied : (s : tie.Start) → is_done (call_answer s.args.plan s.args.batch_rows s.args.window_rows (view_of s.args.operand) (scatter_of s.args.plan.scatter s.args.index s.args.updates s.args.dest) (length s.args.from.now) (length s.args.starts.now) (length s.args.source.now) (length s.args.into.now)) ≡ true
     → copy_by s.args.plan s.args.operand.offset ≡ copy_of (view_of s.args.operand) (scatter_of s.args.plan.scatter s.args.index s.args.updates s.args.dest)
-copied s = copy_is s.args.plan s.args.batch-rows s.args.window-rows s.args.operand s.args.index s.args.updates s.args.dest _ _ _ _
+copied s = copy_is s.args.plan s.args.batch_rows s.args.window_rows s.args.operand s.args.index s.args.updates s.args.dest _ _ _ _
 
 move-i32-requires : tie.Need-move_i32-requires
 move-i32-requires c κs =
     let k = c in
     let p = c in
     let s = c in
-    movable p.prepare-p.ensures (λ d. k.copy_by-c.ensures ∙ ap (copy_by s.args.plan) (back (fits s.before.before.before.before)) ∙ copied s.before.before.before.before d)
+    movable p.prepare-p.ensures (λ d. k.copy_by-c.ensures ∙ ap (copy_by s.args.plan) (back (fits search)) ∙ copied search d)
 
 same_length : tie.Need-shape_of-into
 same_length c = search rules
@@ -42,7 +42,7 @@ returns c =
     let k = c in
     let p = c in
     let s = c in
-    by_answer p.prepare-p.ensures.answered (m.move_i32.ensures (movable p.prepare-p.ensures (λ d. k.copy_by-c.ensures ∙ ap (copy_by s.args.plan) (back (fits s.before.before.before.before.before.before)) ∙ copied s.before.before.before.before.before.before d)))
+    by_answer p.prepare-p.ensures.answered (m.move_i32.ensures (movable p.prepare-p.ensures (λ d. k.copy_by-c.ensures ∙ ap (copy_by s.args.plan) (back (fits search)) ∙ copied search d)))
 
 pub scatter_i32_spec : {M : Type 1} → statement M
 scatter_i32_spec = tie.close (tie.spec (λ c κs. tt) (λ c κs. tt) move-i32-requires same_length returns)

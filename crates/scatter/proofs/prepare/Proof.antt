@@ -1,5 +1,4 @@
 use mathlib.Core.Path.{sym, ap, ◌∙◌}
-use borrow.Author.Tests.{not-true, not-false}
 use Rattle.layout.specs.Answers.{is_done}
 use Rattle.checks.proofs.Held.{never}
 use Rattle.scatter.specs.Calls.{scatter_of}
@@ -10,21 +9,21 @@ use Rattle.scatter.proofs.prepare.Tie as tie
 returns : tie.Need-returns-then-not-is_done
 returns c =
     let s = c in
-    let a = answer-is s.args.plan s.args.batch-rows s.args.window-rows (scatter_of s.args.plan s.args.index s.args.updates s.args.dest) s.args.starts-len s.args.updates-len s.args.dest-len c.plan_fits-fits.ensures c.check_plan-eight.ensures c.view_reach-x.ensures c.view_reach-y.ensures c.view_reach-z.ensures c.check_bounds-nine.ensures c.or_else-answer.ensures in
+    let a = answer-is s.args.plan s.args.batch_rows s.args.window_rows (scatter_of s.args.plan s.args.index s.args.updates s.args.dest) s.args.starts_len s.args.updates_len s.args.dest_len c.plan_fits-fits.ensures c.check_plan-eight.ensures c.view_reach-x.ensures c.view_reach-y.ensures c.view_reach-z.ensures c.check_bounds-nine.ensures c.or_else-answer.ensures in
     let e = c.refused.ensures in
     record { answered = e ∙ a; ready = λ d. never (sym d ∙ ap is_done (sym a) ∙ sym c.is_done.ensures ∙ c.if-not-is_done.true) }
 
 prepared-by-requires : tie.Need-prepared_by-requires
 prepared-by-requires c κs =
     let s = c in
-    let a = answer-is s.args.plan s.args.batch-rows s.args.window-rows (scatter_of s.args.plan s.args.index s.args.updates s.args.dest) s.args.starts-len s.args.updates-len s.args.dest-len c.plan_fits-fits.ensures c.check_plan-eight.ensures c.view_reach-x.ensures c.view_reach-y.ensures c.view_reach-z.ensures c.check_bounds-nine.ensures c.or_else-answer.ensures in
-    compiled s.args.plan s.args.batch-rows s.args.window-rows s.args.index s.args.updates s.args.dest s.args.starts-len s.args.updates-len s.args.dest-len (ap is_done (sym a) ∙ sym c.is_done.ensures ∙ c.if-not-is_done.false)
+    let a = answer-is s.args.plan s.args.batch_rows s.args.window_rows (scatter_of s.args.plan s.args.index s.args.updates s.args.dest) s.args.starts_len s.args.updates_len s.args.dest_len c.plan_fits-fits.ensures c.check_plan-eight.ensures c.view_reach-x.ensures c.view_reach-y.ensures c.view_reach-z.ensures c.check_bounds-nine.ensures c.or_else-answer.ensures in
+    compiled s.args.plan s.args.batch_rows s.args.window_rows s.args.index s.args.updates s.args.dest s.args.starts_len s.args.updates_len s.args.dest_len (ap is_done (sym a) ∙ sym c.is_done.ensures ∙ c.if-not-is_done.false)
 
 returns-2 : tie.Need-returns
 returns-2 c =
     let s = c in
-    let a = answer-is s.args.plan s.args.batch-rows s.args.window-rows (scatter_of s.args.plan s.args.index s.args.updates s.args.dest) s.args.starts-len s.args.updates-len s.args.dest-len c.plan_fits-fits.ensures c.check_plan-eight.ensures c.view_reach-x.ensures c.view_reach-y.ensures c.view_reach-z.ensures c.check_bounds-nine.ensures c.or_else-answer.ensures in
-    prepared s.args.plan s.args.batch-rows s.args.window-rows s.args.index s.args.updates s.args.dest s.args.starts-len s.args.updates-len s.args.dest-len (ap is_done (sym a) ∙ sym c.is_done.ensures ∙ c.if-not-is_done.false) _ _ _ c.prepared_by.ensures a c.view_reach-z.ensures
+    let a = answer-is s.args.plan s.args.batch_rows s.args.window_rows (scatter_of s.args.plan s.args.index s.args.updates s.args.dest) s.args.starts_len s.args.updates_len s.args.dest_len c.plan_fits-fits.ensures c.check_plan-eight.ensures c.view_reach-x.ensures c.view_reach-y.ensures c.view_reach-z.ensures c.check_bounds-nine.ensures c.or_else-answer.ensures in
+    prepared s.args.plan s.args.batch_rows s.args.window_rows s.args.index s.args.updates s.args.dest s.args.starts_len s.args.updates_len s.args.dest_len (ap is_done (sym a) ∙ sym c.is_done.ensures ∙ c.if-not-is_done.false) _ _ _ c.prepared_by.ensures a c.view_reach-z.ensures
 
 pub prepare_spec : {M : Type 1} → statement M
 prepare_spec =

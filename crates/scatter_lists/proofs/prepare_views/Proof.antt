@@ -10,12 +10,12 @@ use Rattle.scatter_lists.proofs.prepare_views.Tie as tie
 returns : tie.Need-returns-then-same
 returns c =
     let s = c in
-    same-views (scatter_from s.args.index-extents.now s.args.index-strides.now s.args.updates-extents.now s.args.updates-strides.now s.args.dest-extents.now s.args.dest-strides.now s.args.update-window-dims.now s.args.inserted-window-dims.now s.args.scatter-dims-to-operand-dims.now s.args.index-vector-dim) (view_with s.args.index-view-extents.now s.args.index-view-strides.now s.args.index-offset) (view_with s.args.updates-view-extents.now s.args.updates-view-strides.now s.args.updates-offset) (view_with s.args.dest-view-extents.now s.args.dest-view-strides.now s.args.dest-offset) s.args.starts-len s.args.updates-len s.args.dest-len _ (c.both-same.ensures ∙ ap₂ ◌&&◌ c.same_view-first.ensures (c.both.ensures ∙ ap₂ ◌&&◌ c.same_view-second.ensures c.same_view-third.ensures)) c.if-same.true (simp (back s.ranges.index-offset, back s.ranges.updates-offset, back s.ranges.dest-offset) at c.prepare.ensures)
+    same-views (scatter_from s.args.index_extents.now s.args.index_strides.now s.args.updates_extents.now s.args.updates_strides.now s.args.dest_extents.now s.args.dest_strides.now s.args.update_window_dims.now s.args.inserted_window_dims.now s.args.scatter_dims_to_operand_dims.now s.args.index_vector_dim) (view_with s.args.index_view_extents.now s.args.index_view_strides.now s.args.index_offset) (view_with s.args.updates_view_extents.now s.args.updates_view_strides.now s.args.updates_offset) (view_with s.args.dest_view_extents.now s.args.dest_view_strides.now s.args.dest_offset) s.args.starts_len s.args.updates_len s.args.dest_len _ (c.both-same.ensures ∙ ap₂ ◌&&◌ c.same_view-first.ensures (c.both.ensures ∙ ap₂ ◌&&◌ c.same_view-second.ensures c.same_view-third.ensures)) c.if-same.true (simp (back s.ranges.index_offset, back s.ranges.updates_offset, back s.ranges.dest_offset) at c.prepare.ensures)
 
 returns-2 : tie.Need-returns
 returns-2 c =
     let s = c in
-    other-views (scatter_from s.args.index-extents.now s.args.index-strides.now s.args.updates-extents.now s.args.updates-strides.now s.args.dest-extents.now s.args.dest-strides.now s.args.update-window-dims.now s.args.inserted-window-dims.now s.args.scatter-dims-to-operand-dims.now s.args.index-vector-dim) (view_with s.args.index-view-extents.now s.args.index-view-strides.now s.args.index-offset) (view_with s.args.updates-view-extents.now s.args.updates-view-strides.now s.args.updates-offset) (view_with s.args.dest-view-extents.now s.args.dest-view-strides.now s.args.dest-offset) s.args.starts-len s.args.updates-len s.args.dest-len _ (c.both-same.ensures ∙ ap₂ ◌&&◌ c.same_view-first.ensures (c.both.ensures ∙ ap₂ ◌&&◌ c.same_view-second.ensures c.same_view-third.ensures)) c.if-same.false c.scatter_refusal-refusal.ensures c.or_else-answer.ensures c.refused.ensures
+    other-views (scatter_from s.args.index_extents.now s.args.index_strides.now s.args.updates_extents.now s.args.updates_strides.now s.args.dest_extents.now s.args.dest_strides.now s.args.update_window_dims.now s.args.inserted_window_dims.now s.args.scatter_dims_to_operand_dims.now s.args.index_vector_dim) (view_with s.args.index_view_extents.now s.args.index_view_strides.now s.args.index_offset) (view_with s.args.updates_view_extents.now s.args.updates_view_strides.now s.args.updates_offset) (view_with s.args.dest_view_extents.now s.args.dest_view_strides.now s.args.dest_offset) s.args.starts_len s.args.updates_len s.args.dest_len _ (c.both-same.ensures ∙ ap₂ ◌&&◌ c.same_view-first.ensures (c.both.ensures ∙ ap₂ ◌&&◌ c.same_view-second.ensures c.same_view-third.ensures)) c.if-same.false c.scatter_refusal-refusal.ensures c.or_else-answer.ensures c.refused.ensures
 
 pub prepare_views_spec : {M : Type 1} → statement M
 prepare_views_spec =

@@ -21,8 +21,8 @@ returns c =
     let b = c in
     let fb : SFits w64 b.start_base-base.result = search rules in
     prepared-is _ _ _ _ s.requires n.numbers_on-numbers.ensures
-    (back fb ∙ b.start_base-base.ensures ∙ ap (λ (z : ℤ). unless_none (length s.args.scatter-dims-to-operand-dims.now) (pos 0) z) (back s.ranges.index-offset))
-    (back s.ranges.updates-offset) (back s.ranges.dest-offset)
+    (back fb ∙ b.start_base-base.ensures ∙ ap (λ (z : ℤ). unless_none (length s.args.scatter_dims_to_operand_dims.now) (pos 0) z) (back s.ranges.index_offset))
+    (back s.ranges.updates_offset) (back s.ranges.dest_offset)
 
 pub prepared_from_spec : {M : Type 1} → statement M
 prepared_from_spec = tie.close (tie.spec numbers-on-requires (λ c κs. tt) returns)

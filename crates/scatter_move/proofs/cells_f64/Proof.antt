@@ -32,13 +32,13 @@ part_length : (s : tie.Start) → length (take (s.args.high + 1 - s.args.low) (d
 part_length s = length-take-le (s.args.high + 1 - s.args.low) (drop s.args.low s.args.into.now) (omega (arith, length-drop s.args.low s.args.into.now, high-in s.args.p s.args.low s.args.high s.args.starts.now (length s.args.source.now) (length s.args.into.now) s.requires, low-high s.args.p s.args.low s.args.high s.args.starts.now (length s.args.source.now) (length s.args.into.now) s.requires))
 
 add-end : tie.Need-overflow_add-end
-add-end c = let s = c in omega (arith, high-in s.args.p s.args.low s.args.high s.args.starts.now (length s.args.source.now) (length s.args.into.now) s.requires, dest-room s.before.before)
+add-end c = let s = c in omega (arith, high-in s.args.p s.args.low s.args.high s.args.starts.now (length s.args.source.now) (length s.args.into.now) s.requires, dest-room search)
 
 cast-from : tie.Need-overflow_cast-from
-cast-from c = let s = c in low_fits s.args.p s.args.low s.args.high s.args.starts.now (length s.args.source.now) (length s.args.into.now) s.requires (dest-room s.before.before)
+cast-from c = let s = c in low_fits s.args.p s.args.low s.args.high s.args.starts.now (length s.args.source.now) (length s.args.into.now) s.requires (dest-room search)
 
 sub_at : tie.Need-overflow_sub-at
-sub_at c = let s = c in sub-fits s.args.p s.args.low s.args.high s.args.starts.now (length s.args.source.now) (length s.args.into.now) s.requires (dest-fits s.before.before.before.before) (dest-room s.before.before.before.before)
+sub_at c = let s = c in sub-fits s.args.p s.args.low s.args.high s.args.starts.now (length s.args.source.now) (length s.args.into.now) s.requires (dest-fits search) (dest-room search)
 
 mul-run-f64 : tie.Need-offset_bounds-into-low
 mul-run-f64 c = let s = c in omega (arith, low-high s.args.p s.args.low s.args.high s.args.starts.now (length s.args.source.now) (length s.args.into.now) s.requires, high-in s.args.p s.args.low s.args.high s.args.starts.now (length s.args.source.now) (length s.args.into.now) s.requires, s.well_formed.1.1.1.1.0.1)
@@ -58,9 +58,9 @@ run-f64-requires c κs =
     let s = c in
     let w = s.args.p.numbers in (
       subst (Scattering s.args.starts.now w.offsets w.strides w.limits w.count s.args.p.index s.args.p.updates (read (read s.args.p.dest -ℤ to_z w64 s.args.low)) w.batch_extents w.index_steps w.update_steps w.batch_rank w.window_extents w.window_steps w.dest_steps w.window_rank (length s.args.source.now))
-          (sym (part_length s.before.before.before.before.before.before.before))
-          (part-asks s.args.p s.args.low s.args.high s.args.starts.now (length s.args.source.now) (length s.args.into.now) s.requires _ refl _ (place_is s.args.p s.args.low s.args.high s.args.starts.now (length s.args.source.now) (length s.args.into.now) s.requires (dest-fits s.before.before.before.before.before.before.before) (dest-room s.before.before.before.before.before.before.before)) (starts-room s.before.before.before.before.before.before.before)),
-      part-rowed s.args.p s.args.low s.args.high s.args.starts.now (length s.args.source.now) (length s.args.into.now) s.requires (s.args.high + 1 - s.args.low) refl (read (read s.args.p.dest -ℤ to_z w64 s.args.low)) (place_is s.args.p s.args.low s.args.high s.args.starts.now (length s.args.source.now) (length s.args.into.now) s.requires (dest-fits s.before.before.before.before.before.before.before) (dest-room s.before.before.before.before.before.before.before)) _ o.rows_of-rows.ensures (source-room s.before.before.before.before.before.before.before) (starts-room s.before.before.before.before.before.before.before),
+          (sym (part_length search))
+          (part-asks s.args.p s.args.low s.args.high s.args.starts.now (length s.args.source.now) (length s.args.into.now) s.requires _ refl _ (place_is s.args.p s.args.low s.args.high s.args.starts.now (length s.args.source.now) (length s.args.into.now) s.requires (dest-fits search) (dest-room search)) (starts-room search)),
+      part-rowed s.args.p s.args.low s.args.high s.args.starts.now (length s.args.source.now) (length s.args.into.now) s.requires (s.args.high + 1 - s.args.low) refl (read (read s.args.p.dest -ℤ to_z w64 s.args.low)) (place_is s.args.p s.args.low s.args.high s.args.starts.now (length s.args.source.now) (length s.args.into.now) s.requires (dest-fits search) (dest-room search)) _ o.rows_of-rows.ensures (source-room search) (starts-room search),
     )
 
 same_length : tie.Need-shape_of-into
@@ -71,7 +71,7 @@ returns c =
     let r = c in
     let s = c in
     λ k. (
-      part-leaves s.args.p s.args.low s.args.high s.args.starts.now (length s.args.source.now) (length s.args.into.now) k _ refl _ (place_is s.args.p s.args.low s.args.high s.args.starts.now (length s.args.source.now) (length s.args.into.now) k (dest-fits s.before.before.before.before.before.before.before.before.before.before) (dest-room s.before.before.before.before.before.before.before.before.before.before)) nan (rule_f64 s.args.rule) s.args.source.now s.args.into.now refl _ r.run_f64.ensures.0,
+      part-leaves s.args.p s.args.low s.args.high s.args.starts.now (length s.args.source.now) (length s.args.into.now) k _ refl _ (place_is s.args.p s.args.low s.args.high s.args.starts.now (length s.args.source.now) (length s.args.into.now) k (dest-fits search) (dest-room search)) nan (rule_f64 s.args.rule) s.args.source.now s.args.into.now refl _ r.run_f64.ensures.0,
       r.run_f64.ensures.1 ∙ number_is k.scatter k.ready.accepted s.args.starts.now s.args.p _ _ _ k.ready,
     )
 

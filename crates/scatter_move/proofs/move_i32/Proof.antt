@@ -1,24 +1,11 @@
-use mathlib.Core.Path.{◌≡◌, sym, ◌∙◌}
-use mathlib.Core.Bool.{true}
+use mathlib.Core.Path.{sym, ◌∙◌}
 use lib.IntN.{pos}
 use borrow.Author.Rules.{rules}
-use borrow.Author.Tests.{not-true, not-false}
 use Rattle.rules.specs.Rules.{rule_i32}
-use Rattle.layout.specs.Answers.{is_done}
 use Rattle.calls.proofs.Does.{refused, done}
 use Rattle.scatter_move.proofs.Empty.{without-cells, without-number, never}
 use Rattle.scatter_move.proofs.move_i32.Statement.{statement}
 use Rattle.scatter_move.proofs.move_i32.Tie as tie
-
--- where the answer is not a refusal
-module _ (e : tie.Else-not-is_done) where
-  abbrev start : tie.Start
-  start = search
-
-  ready : is_done start.args.p.answer ≡ true
-  ready =
-      let d : tie.After-is_done = search in
-      sym d.is-done.ensures ∙ not-false _ e.if1.left
 
 returns : tie.Need-returns-then-not-is_done
 returns c =
@@ -31,10 +18,10 @@ enum-known-reach c = search rules
 
 cells-i32-requires : tie.Need-cells_i32-reported-requires
 cells-i32-requires c κs =
-    let e = c in
+    let t = sym c.is_done.ensures ∙ c.if-not-is_done.false in
     let r = c in
     let s = c in
-    record { scatter = s.requires.scatter; ready = s.requires.ready (ready e); cells = r.in-Cells.is }
+    record { scatter = s.requires.scatter; ready = s.requires.ready t; cells = r.in-Cells.is }
 
 enum_told : tie.Need-enum_told-1
 enum_told c = search rules
@@ -47,28 +34,28 @@ same_length c = search rules
 
 returns-2 : tie.Need-returns-in-Cells
 returns-2 c =
-    let e = c in
+    let t = sym c.is_done.ensures ∙ c.if-not-is_done.false in
     let r = c in
     let o = c in
     λ k.
-    let l = o.cells_i32-reported.ensures (record { scatter = k.scatter; ready = k.ready (ready e); cells = r.in-Cells.is }) in
-    done (ready e) l.0 l.1
+    let l = o.cells_i32-reported.ensures (record { scatter = k.scatter; ready = k.ready t; cells = r.in-Cells.is }) in
+    done t l.0 l.1
 
 returns-3 : tie.Need-returns-in-NoCells
 returns-3 c =
-    let e = c in
+    let t = sym c.is_done.ensures ∙ c.if-not-is_done.false in
     let o = c in
     let s = c in
     λ k.
-    done (ready e) (without-cells s.args.p k.scatter _ _ _ (k.ready (ready e)) (rule_i32 s.args.rule) (pos 0) s.args.starts.now s.args.source.now s.args.into.now o.in-NoCells.is)
-    (without-number s.args.p k.scatter _ _ _ (k.ready (ready e)) s.args.starts.now o.in-NoCells.is)
+    done t (without-cells s.args.p k.scatter _ _ _ (k.ready t) (rule_i32 s.args.rule) (pos 0) s.args.starts.now s.args.source.now s.args.into.now o.in-NoCells.is)
+    (without-number s.args.p k.scatter _ _ _ (k.ready t) s.args.starts.now o.in-NoCells.is)
 
 returns-4 : tie.Need-returns-in-Outside
 returns-4 c =
-    let e = c in
+    let t = sym c.is_done.ensures ∙ c.if-not-is_done.false in
     let o = c in
     let s = c in
-    λ k. never s.args.p k.scatter _ _ _ (k.ready (ready e)) o.in-Outside.is
+    λ k. never s.args.p k.scatter _ _ _ (k.ready t) o.in-Outside.is
 
 pub move_i32_spec : {M : Type 1} → statement M
 move_i32_spec =

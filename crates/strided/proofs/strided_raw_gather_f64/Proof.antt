@@ -10,7 +10,7 @@ use Rattle.strided.proofs.strided_raw_gather_f64.Statement.{statement}
 use Rattle.strided.proofs.strided_raw_gather_f64.Tie as tie
 
 move-f64-requires : tie.Need-move_f64-r-requires
-move-f64-requires c κs = let s = c in movable (simp (back s.ranges.operand-offset, back s.ranges.index-offset, back s.ranges.dest-offset) at c.prepare_views-p.ensures)
+move-f64-requires c κs = let s = c in movable (simp (back s.ranges.operand_offset, back s.ranges.index_offset, back s.ranges.dest_offset) at c.prepare_views-p.ensures)
 
 same_length : tie.Need-shape_of-dest
 same_length c = search rules
@@ -18,7 +18,7 @@ same_length c = search rules
 returns : tie.Need-returns
 returns c =
     let s = c in
-    gather-handed nan (by_lists (gather_from s.args.operand-extents.now s.args.operand-strides.now s.args.index-extents.now s.args.index-strides.now s.args.dest-extents.now s.args.dest-strides.now s.args.offset-dims.now s.args.collapsed-slice-dims.now s.args.start-index-map.now s.args.index-vector-dim s.args.slice-sizes.now) (view_with s.args.operand-view-extents.now s.args.operand-view-strides.now s.args.operand-offset) (view_with s.args.index-view-extents.now s.args.index-view-strides.now s.args.index-offset) (view_with s.args.dest-view-extents.now s.args.dest-view-strides.now s.args.dest-offset) s.args.starts.now) _ s.args.operand.now s.args.dest.now _ _ _ (simp (back s.ranges.operand-offset, back s.ranges.index-offset, back s.ranges.dest-offset) at c.prepare_views-p.ensures) c.move_f64-r.ensures c.words_of.ensures
+    gather-handed nan (by_lists (gather_from s.args.operand_extents.now s.args.operand_strides.now s.args.index_extents.now s.args.index_strides.now s.args.dest_extents.now s.args.dest_strides.now s.args.offset_dims.now s.args.collapsed_slice_dims.now s.args.start_index_map.now s.args.index_vector_dim s.args.slice_sizes.now) (view_with s.args.operand_view_extents.now s.args.operand_view_strides.now s.args.operand_offset) (view_with s.args.index_view_extents.now s.args.index_view_strides.now s.args.index_offset) (view_with s.args.dest_view_extents.now s.args.dest_view_strides.now s.args.dest_offset) s.args.starts.now) _ s.args.operand.now s.args.dest.now _ _ _ (simp (back s.ranges.operand_offset, back s.ranges.index_offset, back s.ranges.dest_offset) at c.prepare_views-p.ensures) c.move_f64-r.ensures c.words_of.ensures
 
 pub strided_raw_gather_f64_spec : {M : Type 1} → statement M
 strided_raw_gather_f64_spec =

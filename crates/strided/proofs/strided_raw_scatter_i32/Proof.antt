@@ -28,7 +28,7 @@ module _ (k : tie.After-is_done) where
 -- the call
 module _ (s : tie.Start) where
   abbrev call : ScatterCall ℤ
-  call = by_lists (scatter_from s.args.index-extents.now s.args.index-strides.now s.args.updates-extents.now s.args.updates-strides.now s.args.dest-extents.now s.args.dest-strides.now s.args.update-window-dims.now s.args.inserted-window-dims.now s.args.scatter-dims-to-operand-dims.now s.args.index-vector-dim) (view_with s.args.index-view-extents.now s.args.index-view-strides.now s.args.index-offset) (view_with s.args.updates-view-extents.now s.args.updates-view-strides.now s.args.updates-offset) (view_with s.args.dest-view-extents.now s.args.dest-view-strides.now s.args.dest-offset) s.args.starts.now s.args.updates.now
+  call = by_lists (scatter_from s.args.index_extents.now s.args.index_strides.now s.args.updates_extents.now s.args.updates_strides.now s.args.dest_extents.now s.args.dest_strides.now s.args.update_window_dims.now s.args.inserted_window_dims.now s.args.scatter_dims_to_operand_dims.now s.args.index_vector_dim) (view_with s.args.index_view_extents.now s.args.index_view_strides.now s.args.index_offset) (view_with s.args.updates_view_extents.now s.args.updates_view_strides.now s.args.updates_offset) (view_with s.args.dest_view_extents.now s.args.dest_view_strides.now s.args.dest_offset) s.args.starts.now s.args.updates.now
 
 returns : tie.Need-returns-then-not-is_done
 returns c =
@@ -40,7 +40,7 @@ move-i32-requires : tie.Need-move_i32-r-requires
 move-i32-requires c κs =
     let p = c in
     let s = start p.before.before in
-    movable (simp (back s.fits.index-offset, back s.fits.updates-offset, back s.fits.dest-offset) at p.prepare_views-p.ensures)
+    movable (simp (back s.ranges.index_offset, back s.ranges.updates_offset, back s.ranges.dest_offset) at p.prepare_views-p.ensures)
 
 same_length : tie.Need-shape_of-dest
 same_length c = search rules
@@ -53,7 +53,7 @@ returns-2 c =
     let i = p in
     let s = start i.before in
     named-listed rules_i32 s.args.rule ((call s).answer (length s.args.dest.now)) _ _ s.args.dest.now _ _ (asked i.before ∙ i.if-not-is_done.false)
-    (rw (← o.rule_of-by.ensures) (scatter-handed (pos 0) (rule_i32 o.rule_of-by.result) (call s) _ s.args.dest.now _ _ _ (simp (back s.fits.index-offset, back s.fits.updates-offset, back s.fits.dest-offset) at p.prepare_views-p.ensures) m.move_i32-r.ensures c.words_of.ensures))
+    (rw (← o.rule_of-by.ensures) (scatter-handed (pos 0) (rule_i32 o.rule_of-by.result) (call s) _ s.args.dest.now _ _ _ (simp (back s.ranges.index_offset, back s.ranges.updates_offset, back s.ranges.dest_offset) at p.prepare_views-p.ensures) m.move_i32-r.ensures c.words_of.ensures))
 
 pub strided_raw_scatter_i32_spec : {M : Type 1} → statement M
 strided_raw_scatter_i32_spec =
