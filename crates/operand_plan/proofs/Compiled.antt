@@ -32,7 +32,7 @@ use Rattle.operand_checks.specs.Refusals.{sizes_of, refusal_of, compile_refusal}
 use Rattle.operand_checks.proofs.Sizes.{sized_on, same_rest}
 use Rattle.operand_plan.specs.declared.OperandPlan.{OperandPlan}
 use Rattle.operand_plan.specs.declared.CompiledOperand.{CompiledOperand}
-use Rattle.operand_plan.specs.Plan.{compiled_by, compiled_operand, compiled_again, held_operand, held_scatter, is_compiled}
+use Rattle.operand_plan.specs.Plan.{compiled_by, compiled_operand, held_operand, held_scatter, is_compiled}
 
 pub compiled-is : (o : View) (s : Scatter) {x : Answer} {l : Layout} {c : CompiledScatter} → x ≡ compile_refusal o s → l ≡ cond (is_done x) (layout_of o.extents o.strides) no_layout → c ≡ scatters.compiled_by x s
     → ◌≡◌ {A = CompiledOperand} (record { operand = l; scatter = c }) (compiled_operand o s)

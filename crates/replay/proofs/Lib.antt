@@ -1,3 +1,4 @@
 pub mod Joins
 pub mod Turns
 pub mod Rows
+pub mod Merging

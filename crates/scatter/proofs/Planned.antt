@@ -24,7 +24,8 @@ use Rattle.axis_lists.specs.Held.{numbers_of}
 use Rattle.axis_lists.proofs.Filling.{read_back}
 use Rattle.replay.specs.declared.CompiledReplay.{CompiledReplay}
 use Rattle.replay.specs.Replays.{no_axis, rows_of, axes_from}
-use Rattle.replay.specs.Merging.{IsDone, compiled-done}
+use Rattle.replay.specs.Merging.{IsDone}
+use Rattle.replay.proofs.Merging.{compiled-done}
 use Rattle.replay.proofs.Rows.{axes-back}
 use Rattle.replay.specs.declared.WindowReplay.{WindowReplay}
 use Rattle.checks.proofs.Made.{or-done}

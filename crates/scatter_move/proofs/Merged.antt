@@ -17,7 +17,8 @@ use Rattle.axis_lists.proofs.Filling.{entry-below, read_back}
 use Rattle.replay.specs.declared.WindowReplayAxis.{WindowReplayAxis}
 use Rattle.replay.specs.declared.CompiledReplay.{CompiledReplay}
 use Rattle.replay.specs.Replays.{no_axis, compiled_replay, extents, row_of, rows_of}
-use Rattle.replay.specs.Merging.{AllReset, Meets, IsDone, compiled-done}
+use Rattle.replay.specs.Merging.{AllReset, Meets, IsDone}
+use Rattle.replay.proofs.Merging.{compiled-done}
 use Rattle.windows.specs.Windows.{place_at}
 use Rattle.components.proofs.Padded.{padded-entry}
 use Rattle.scatter_move.specs.Prepared.{steps_at}

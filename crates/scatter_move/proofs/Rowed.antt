@@ -15,7 +15,8 @@ use Rattle.layout.specs.Layouts.{rank_limit}
 use Rattle.replay.specs.declared.CompiledReplay.{CompiledReplay}
 use Rattle.replay.specs.Replays.{compiled_replay, no_axis, row_of}
 use Rattle.replay.specs.Cells.{cells-pos}
-use Rattle.replay.specs.Merging.{IsDone, compiled-done}
+use Rattle.replay.specs.Merging.{IsDone}
+use Rattle.replay.proofs.Merging.{compiled-done}
 use Rattle.windows.specs.Windows.{place_at}
 use Rattle.windows.proofs.Last.{place-first}
 use Rattle.scatter_windows.specs.Scattering.{Scattering}

@@ -1,5 +1,3 @@
-use mathlib.Core.Path.{sym, ap, ◌∙◌}
-use mathlib.Core.Bool.{Bool, cond}
 use Rattle.calls.proofs.Same.{extents-same}
 use Rattle.operand_checks.proofs.check_extents.Statement.{statement}
 use Rattle.operand_checks.proofs.check_extents.Tie as tie

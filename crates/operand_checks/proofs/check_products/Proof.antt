@@ -1,4 +1,3 @@
-use borrow.Author.Tests.{not-true, not-false}
 use Rattle.layout.proofs.First.{stops, goes}
 use Rattle.operand_checks.proofs.check_products.Statement.{statement}
 use Rattle.operand_checks.proofs.check_products.Tie as tie

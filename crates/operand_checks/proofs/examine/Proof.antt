@@ -1,10 +1,7 @@
-use mathlib.Core.Path.{◌≡◌, sym, ap, ◌∙◌}
-use mathlib.Core.Bool.{true}
-use borrow.Author.Tests.{not-true, not-false}
+use mathlib.Core.Path.{sym, ap, ◌∙◌}
 use Rattle.layout.specs.Answers.{is_done}
 use Rattle.layout.proofs.First.{stops}
 use Rattle.checks.proofs.Held.{never}
-use Rattle.operand_checks.specs.Refusals.{sizes_refusal}
 use Rattle.operand_checks.proofs.Sizes.{sized, examined-on}
 use Rattle.operand_checks.proofs.examine.Statement.{statement}
 use Rattle.operand_checks.proofs.examine.Tie as tie

@@ -1,5 +1,3 @@
-use mathlib.Core.Path.{◌≡◌, ap, ap₂, ◌∙◌}
-use Rattle.layout.specs.declared.Answer.{Answer}
 use Rattle.operand_checks.proofs.Sizes.{sized}
 use Rattle.operand_plan.proofs.Compiled.{compiled-is}
 use Rattle.operand_plan.proofs.compile.Statement.{statement}

@@ -1,6 +1,5 @@
-use mathlib.Core.Path.{◌≡◌, ap, ap₂, ◌∙◌}
+use mathlib.Core.Path.{ap, ap₂, ◌∙◌}
 use mathlib.Core.Bool.{◌&&◌}
-use Rattle.layout.specs.declared.Answer.{Answer}
 use Rattle.layout.specs.declared.Layout.{Layout}
 use Rattle.layout.specs.Answers.{is_done}
 use Rattle.equality.specs.Same.{same_layout}

@@ -1,6 +1,5 @@
-use mathlib.Core.Path.{◌≡◌, sym, ap, ◌∙◌}
-use mathlib.Core.Bool.{Bool, true, cond}
-use Rattle.layout.specs.declared.Layout.{Layout}
+use mathlib.Core.Path.{sym, ap, ◌∙◌}
+use mathlib.Core.Bool.{Bool, cond}
 use Rattle.layout.specs.Layouts.{layout_of}
 use Rattle.checks.specs.Nothing.{no_layout}
 use Rattle.checks.proofs.Made.{made}

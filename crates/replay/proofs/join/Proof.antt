@@ -4,7 +4,6 @@ use lib.IntN.{ℤ}
 use mir.Syntax.{w64}
 use mir.Val.{SFits}
 use borrow.Author.Rules.{sfits_of, rules}
-use borrow.Author.Tests.{not-true, not-false}
 use Rattle.integer.specs.Z.{back}
 use Rattle.integer.specs.Defs.{eq_z}
 use Rattle.replay.specs.Replays.{axis_of}

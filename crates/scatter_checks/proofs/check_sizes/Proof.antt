@@ -1,6 +1,5 @@
 use mathlib.Core.Path.{sym, ap, ◌∙◌}
 use lib.ListN.{length}
-use borrow.Author.Tests.{not-true, not-false}
 use Rattle.layout.specs.Answers.{is_done}
 use Rattle.layout.proofs.First.{stops, goes}
 use Rattle.checks.proofs.Held.{lengths-pass}

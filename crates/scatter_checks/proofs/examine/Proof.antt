@@ -1,5 +1,4 @@
 use mathlib.Core.Path.{sym, ap, ◌∙◌}
-use borrow.Author.Tests.{not-true, not-false}
 use Rattle.layout.specs.Answers.{is_done}
 use Rattle.layout.proofs.First.{stops}
 use Rattle.checks.proofs.Held.{never}

@@ -1,6 +1,5 @@
 use mathlib.Core.Path.{◌≡◌, sym, ap, ◌∙◌}
 use borrow.Author.Rules.{rules}
-use borrow.Author.Tests.{not-true, not-false}
 use Rattle.indexing.specs.Scatter.{Scatter}
 use Rattle.layout.specs.Answers.{is_done, or_else}
 use Rattle.checks.proofs.Made.{or-done}

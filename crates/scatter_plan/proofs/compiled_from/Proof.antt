@@ -1,5 +1,4 @@
 use mathlib.Core.Path.{sym, ◌∙◌}
-use borrow.Author.Tests.{not-true, not-false}
 use Rattle.scatter_plan.proofs.Compiled.{compiled-refused, compiled-done}
 use Rattle.scatter_plan.proofs.compiled_from.Statement.{statement}
 use Rattle.scatter_plan.proofs.compiled_from.Tie as tie
