@@ -31,7 +31,7 @@ move-f64-requires c κs =
     let k = c in
     let p = c in
     let s = c in
-    movable p.prepare-p.ensures (λ d. k.copy_by-c.ensures ∙ ap (copy_by s.args.plan) (back (fits search)) ∙ copied search d)
+    movable p.prepare-p.ensures (λ d. k.copy_by-c.ensures ∙ ap (copy_by s.args.plan) (back (fits search)) ∙ copied (search) d)
 
 same_length : tie.Need-shape_of-into
 same_length c = search rules
@@ -42,7 +42,7 @@ returns c =
     let k = c in
     let p = c in
     let s = c in
-    by_answer p.prepare-p.ensures.answered (m.move_f64.ensures (movable p.prepare-p.ensures (λ d. k.copy_by-c.ensures ∙ ap (copy_by s.args.plan) (back (fits search)) ∙ copied search d)))
+    by_answer p.prepare-p.ensures.answered (m.move_f64.ensures (movable p.prepare-p.ensures (λ d. k.copy_by-c.ensures ∙ ap (copy_by s.args.plan) (back (fits search)) ∙ copied (search) d)))
 
 pub scatter_f64_spec : {M : Type 1} → statement M
 scatter_f64_spec = tie.close (tie.spec (λ c κs. tt) (λ c κs. tt) move-f64-requires same_length returns)
