@@ -22,8 +22,8 @@ module _ (k : tie.After-is_done) where
   start = search
 
   -- whether the rule is listed
-  asked : is_done (rule_refusal rules_f64 start.args.rule) ≡ k.is-done.result
-  asked = ap is_done (sym k.before.check-rule.ensures) ∙ sym k.is-done.ensures
+  asked : is_done (rule_refusal rules_f64 start.args.rule) ≡ k.is_done.result
+  asked = ap is_done (sym k.check_rule-listed.ensures) ∙ sym k.is_done.ensures
 
 -- the call
 module _ (s : tie.Start) where
@@ -33,13 +33,13 @@ module _ (s : tie.Start) where
 returns : tie.Need-returns-then-not-is_done
 returns c =
     let k = c in
-    let s = start k in
-    named-refused rules_f64 s.args.rule ((call s).answer (length s.args.dest.now)) _ _ s.args.dest.now _ _ (asked k ∙ c.if-not-is_done.true) refl (c.bare_words.ensures ∙ ap (λ (x : Answer). words (bare x)) k.check_rule-listed.ensures)
+    let s : tie.Start = search in
+    named-refused rules_f64 s.args.rule ((call s).answer (length s.args.dest.now)) _ _ s.args.dest.now _ _ (asked (search) ∙ c.if-not-is_done.true) refl (c.bare_words.ensures ∙ ap (λ (x : Answer). words (bare x)) k.check_rule-listed.ensures)
 
 move-f64-requires : tie.Need-move_f64-r-requires
 move-f64-requires c κs =
     let p = c in
-    let s = start p.before.before in
+    let s : tie.Start = search in
     movable (simp (back s.ranges.index_offset, back s.ranges.updates_offset, back s.ranges.dest_offset) at p.prepare_views-p.ensures)
 
 same_length : tie.Need-shape_of-dest
@@ -51,8 +51,8 @@ returns-2 c =
     let o = m in
     let p = o in
     let i = p in
-    let s = start i.before in
-    named-listed rules_f64 s.args.rule ((call s).answer (length s.args.dest.now)) _ _ s.args.dest.now _ _ (asked i.before ∙ i.if-not-is_done.false)
+    let s : tie.Start = search in
+    named-listed rules_f64 s.args.rule ((call s).answer (length s.args.dest.now)) _ _ s.args.dest.now _ _ (asked (search) ∙ i.if-not-is_done.false)
     (rw (← o.rule_f64_of-by.ensures) (scatter-handed nan (rule_f64 o.rule_f64_of-by.result) (call s) _ s.args.dest.now _ _ _ (simp (back s.ranges.index_offset, back s.ranges.updates_offset, back s.ranges.dest_offset) at p.prepare_views-p.ensures) m.move_f64-r.ensures c.words_of.ensures))
 
 pub strided_raw_scatter_f64_spec : {M : Type 1} → statement M
