@@ -625,13 +625,7 @@ pub extern "C" fn strided_gather_i32(
 )
     ensures { Gathers (pos 0) words (gather_by_job E.I32 job.now starts.now) operand.now dest.old dest.new answer.new }
 {
-    strided::strided_gather_i32(
-        job,
-        operand,
-        starts,
-        dest,
-        answer,
-    );
+    strided::strided_gather_i32(job, operand, starts, dest, answer);
 }
 
 // A stored gather of f64, read, compiled and called. The answer as number, a, b and how many windows slid: 10 5 0 and 10 6 0 also for a
@@ -646,13 +640,7 @@ pub extern "C" fn strided_gather_f64(
 )
     ensures { Gathers nan words (gather_by_job E.F64 job.now starts.now) operand.now dest.old dest.new answer.new }
 {
-    strided::strided_gather_f64(
-        job,
-        operand,
-        starts,
-        dest,
-        answer,
-    );
+    strided::strided_gather_f64(job, operand, starts, dest, answer);
 }
 
 // A stored scatter of i32, read, compiled and called. The answer as number, a, b and how many windows slid: 10 5 0 and 10 6 0 also for a
@@ -667,13 +655,7 @@ pub extern "C" fn strided_scatter_i32(
 )
     ensures { Scatters (pos 0) add_i32 words (scatter_by_job E.I32 job.now starts.now updates.now) dest.old dest.new answer.new }
 {
-    strided::strided_scatter_i32(
-        job,
-        starts,
-        updates,
-        dest,
-        answer,
-    );
+    strided::strided_scatter_i32(job, starts, updates, dest, answer);
 }
 
 // A stored scatter of f64, read, compiled and called. The answer as number, a, b and how many windows slid: 10 5 0 and 10 6 0 also for a
@@ -688,11 +670,5 @@ pub extern "C" fn strided_scatter_f64(
 )
     ensures { Scatters nan add_f64 words (scatter_by_job E.F64 job.now starts.now updates.now) dest.old dest.new answer.new }
 {
-    strided::strided_scatter_f64(
-        job,
-        starts,
-        updates,
-        dest,
-        answer,
-    );
+    strided::strided_scatter_f64(job, starts, updates, dest, answer);
 }
