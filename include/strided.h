@@ -1,4 +1,4 @@
-/* Gather and scatter on strided grids: the functions of libstrided.a (`rt staticlib strided`).
+/* Gather and scatter on strided grids: the functions of libstrided.a (`./library`).
 
    Every function answers for all arguments, always returns, and reads and writes only inside the slices that it is lent.
    Its answer is four numbers in `answer`: STRIDED_DONE, or one of the refusals below, then a and b, 0 where unnamed, and last
