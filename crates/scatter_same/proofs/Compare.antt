@@ -8,9 +8,7 @@ use lib.IntN.{ℤ}
 use Rattle.integer.specs.Defs.{eq_z}
 use Rattle.integer.specs.Tests.{and-true, and_both}
 use Rattle.layout.specs.declared.Layout.{Layout}
-use Rattle.axis_lists.specs.declared.Numbers.{Numbers}
-use Rattle.axis_lists.specs.declared.Steps.{Steps}
-use Rattle.axis_lists.specs.Held.{Decides}
+use Rattle.axis_lists.specs.Held.{Numbers, Steps, Decides}
 use Rattle.equality.specs.Same.{same_by}
 use Rattle.equality.proofs.Compare.{numbers-decide, ints-decide, lists-decide, layouts-decide, held-decide, steps-decide}
 use Rattle.replay.specs.declared.ReplaySpans.{ReplaySpans}
