@@ -13,6 +13,7 @@ use Rattle.indexing.specs.Coordinates.{has, pick, spread, others_from}
 use Rattle.indexing.specs.Start.{without}
 use Rattle.indexing.specs.Axes.{length-pick, get_or-pick, length-spread}
 use Rattle.layout.specs.Layouts.{rank_limit, padded}
+use Rattle.spans.proofs.Parts.{take_count}
 use Rattle.layout.proofs.Fill.{filled, fill_one, fill_done, padded-back}
 use Rattle.std.specs.List.{list_any}
 use Rattle.std.proofs.lemmas.List.{drop-replicate, take-replicate, length-replicate}
@@ -57,6 +58,10 @@ entry-below n xs i d h = sym (get_or-take n xs i d h)
 
 pub entry_past : {A : Type 0} (n : ℕ) (xs : List A) (i : ℕ) (d : A) → min n (length xs) ≤ i → d ≡ get_or (take n xs) i d
 entry_past n xs i d h = sym (get_or-eq_default (take n xs) d {n = i} (omega (arith, length-take n xs)))
+
+-- the entries of an array that count
+pub counted : {A : Type 0} (n k : ℕ) (xs : List A) → n ≡ min k rank_limit → length xs ≡ rank_limit → take n xs ≡ take k xs
+counted n k xs e f = take_count n k xs (omega (arith, e, f))
 
 -- ---- picking
 pub picked : {A : Type 0} (d : A) (axes : List ℕ) (l : List A) (n i : ℕ) → i < min n (length axes) → get_or l (get_or axes i 0) d ≡ get_or (pick d (take n axes) l) i d

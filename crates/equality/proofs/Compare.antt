@@ -1,20 +1,37 @@
 -- Tests for the same lists and layouts: entry by entry, and that they decide. Assumes nothing.
-use mathlib.Core.Path.{◌≡◌, ap, subst}
-use mathlib.Core.Bool.{Bool, true, ◌&&◌}
+use mathlib.Core.Path.{◌≡◌, refl, sym, ap, ap₂, subst, ◌∙◌}
+use mathlib.Core.Bool.{Bool, true, false, ◌&&◌}
 use mathlib.Core.List.{List}
 use Prim.Native.Nat.{ℕ}
-use borrow.Author.Tests.{eqb-true, eq-eqb}
+use borrow.Author.Tests.{eqb-true, eq-eqb, ne_eqb}
 use lib.Dec.{eqb}
 use lib.IntN.{ℤ}
+use lib.Pointwise.{pointwise}
 use Rattle.std.specs.Ordering.{int_eq}
 use Rattle.std.specs.Cmp.Lexicographic.{pointwise_decides}
 use Rattle.std.proofs.lemmas.Bool.Decides.{Decides-int_eq}
 use Rattle.integer.specs.Defs.{eq_z}
 use Rattle.integer.specs.Laws.{eq_z-true, eq_z-refl}
+use Rattle.integer.specs.Machine.{same_bits}
+use mir.Syntax.{w64}
+use mir.Val.{SFits, of_z}
 use Rattle.integer.specs.Tests.{and-true, and_both, both_ways}
 use Rattle.layout.specs.declared.Layout.{Layout}
 use Rattle.axis_lists.specs.Held.{Numbers, Steps, Decides}
 use Rattle.equality.specs.Same.{same_by, same_layout, same_numbers, same_steps}
+
+-- ---- signed numbers, by their bits
+pub bits-same : (a b : ℤ) → SFits w64 a → SFits w64 b → eqb (of_z w64 a) (of_z w64 b) ≡ eq_z a b
+bits-same a b f g =
+    both_ways (eqb (of_z w64 a) (of_z w64 b)) (eq_z a b)
+    (λ e. subst (λ (z : ℤ). eq_z a z ≡ true) (same_bits f g (eqb-true (of_z w64 a) (of_z w64 b) e)) (eq_z-refl a))
+    (λ e. eq-eqb (of_z w64 a) (of_z w64 b) (ap (of_z w64) (eq_z-true a b e)))
+
+pub bits-equal : {a b : ℤ} → SFits w64 a → SFits w64 b → of_z w64 a ≡ of_z w64 b → eq_z a b ≡ true
+bits-equal {a = a} {b = b} f g e = sym (bits-same a b f g) ∙ eq-eqb (of_z w64 a) (of_z w64 b) e
+
+pub bits-differ : {a b : ℤ} → SFits w64 a → SFits w64 b → (of_z w64 a ≡ of_z w64 b → ⊥) → eq_z a b ≡ false
+bits-differ {a = a} {b = b} f g e = sym (bits-same a b f g) ∙ ne_eqb (of_z w64 a) (of_z w64 b) e
 
 -- ---- each test decides
 pub numbers-decide : (x y : ℕ) → Decides (eqb x y) x y
@@ -40,6 +57,13 @@ int-eq = λ i x y. at x y i
 
 pub lists-decide : {A : Type 0} (test : A → A → Bool) → ((a b : A) → Decides (test a b) a b) → (xs ys : List A) → Decides (same_by test xs ys) xs ys
 lists-decide test p xs ys = let d = pointwise_decides {E = test} (λ a b. ((p a b).yes, (p a b).no)) xs ys in record { yes = d.0; no = d.1 }
+
+-- what `==` computes of two layouts, and of two lists of steps
+pub layout-eq : (a b : Layout) → (eqb a.rank b.rank && (pointwise eqb a.extents b.extents && pointwise int_eq a.strides b.strides)) ≡ same_layout a b
+layout-eq a b = λ i. eqb a.rank b.rank && (pointwise eqb a.extents b.extents && pointwise (int-eq i) a.strides b.strides)
+
+pub steps-eq : (a b : Steps) → (eqb a.count b.count && pointwise int_eq a.entries b.entries) ≡ same_steps a b
+steps-eq a b = λ i. eqb a.count b.count && pointwise (int-eq i) a.entries b.entries
 
 pub layouts-decide : (a b : Layout) → Decides (same_layout a b) a b
 layouts-decide a b =
