@@ -5,23 +5,30 @@ use mathlib.Core.List.{List, [], ◌∷◌, ◌++◌}
 use Prim.Native.Nat.{ℕ, zero, suc, ◌+◌, ◌-◌, ◌<◌, ◌≤◌, min}
 use native.Mathlib.Numerals.{add-one}
 use native.Mathlib.Omega.{arith}
-use borrow.Author.Tests.{eq-eqb, ne_eqb, lt-ltb, le-ltb, ltb-true, ltb-false}
+use borrow.Author.Tests.{lt-ltb, le-ltb, ltb-true, ltb-false}
 use lib.Dec.{eqb, ltb}
 use lib.ListN.{length, take, drop, get_or, set, replicate, length-take, length-drop, length-append, drop_of_length-le, get_or-eq_default}
 use lib.Seq.{take_all, take-take, drop-nil, drop-cons, get_or-take, set-append_left, set_out}
-use lib.IntN.{ℤ, pos}
 use Rattle.indexing.specs.Coordinates.{has, pick, spread, others_from}
 use Rattle.indexing.specs.Start.{without}
 use Rattle.indexing.specs.Axes.{length-pick, get_or-pick, length-spread}
 use Rattle.layout.specs.Layouts.{rank_limit, padded}
+use Rattle.spans.proofs.Parts.{take_count}
 use Rattle.layout.proofs.Fill.{filled, fill_one, fill_done, padded-back}
-use Rattle.axis_lists.specs.Held.{held_numbers, held_steps}
+use Rattle.std.specs.List.{list_any}
+use Rattle.std.proofs.lemmas.List.{drop-replicate, take-replicate, length-replicate}
+use Rattle.axis_lists.specs.Held.{held, held_steps}
+use lib.IntN.{ℤ, pos}
 
-pub numbers-are : (n : ℕ) (out l : List ℕ) → n ≡ length l → out ≡ padded rank_limit 0 l → record { count = n; entries = out } ≡ held_numbers l
-numbers-are n out l e f = ap₂ (λ (c : ℕ) (xs : List ℕ). record { count = c; entries = xs }) e f
+pub list-is : {A : Type 0} (z : A) (n : ℕ) (out l : List A) → n ≡ length l → out ≡ padded rank_limit z l → record { count = n; entries = out } ≡ held z l
+list-is {A} z n out l e f = ap₂ (λ (c : ℕ) (xs : List A). record { count = c; entries = xs }) e f
 
 pub steps-are : (n : ℕ) (out l : List ℤ) → n ≡ length l → out ≡ padded rank_limit (pos 0) l → record { count = n; entries = out } ≡ held_steps l
-steps-are n out l e f = ap₂ (λ (c : ℕ) (xs : List ℤ). record { count = c; entries = xs }) e f
+steps-are = list-is (pos 0)
+
+-- the first entries of a list, stored at once
+pub stored-at-once : {A : Type 0} (z : A) (n : ℕ) (out l : List A) → n ≡ min (length l) rank_limit → out ≡ take n l → out ++ drop n (replicate rank_limit z) ≡ padded rank_limit z l
+stored-at-once {A} z n out l e f = ap₂ (λ (xs ys : List A). xs ++ ys) f (drop-replicate n rank_limit z) ∙ fill_done rank_limit z l (filled rank_limit z l n) n (omega arith) refl
 
 -- what is written after i entries of a list
 abbrev pub written : {A : Type 0} → A → List A → ℕ → List A
@@ -30,24 +37,20 @@ written d l i = filled rank_limit d l i
 pub one_written : {A : Type 0} (d : A) (l out : List A) (i : ℕ) (x : A) → i < length l → length l ≤ rank_limit → out ≡ written d l i → x ≡ get_or l i d → set out i x ≡ written d l (i + 1)
 one_written d l out i x h k e f = fill_one rank_limit d d l out i x (omega arith) h e f
 
+pub next-written : {A : Type 0} (d : A) (l out : List A) (i : ℕ) (x : A) → i < min (length l) rank_limit → out ≡ written d l i → x ≡ get_or l i d → set out i x ≡ written d l (i + 1)
+next-written d l out i x h e f = fill_one rank_limit d d l out i x (omega arith) (omega arith) e f
+
+pub written-all : {A : Type 0} (d : A) (l out : List A) (i : ℕ) → i ≡ min (length l) rank_limit → out ≡ written d l i → out ≡ padded rank_limit d l
+written-all d l out i h e = fill_done rank_limit d l out i (omega arith) e
+
 pub all-written : {A : Type 0} (d : A) (l : List A) (i : ℕ) → i ≡ length l → length l ≤ rank_limit → written d l i ≡ padded rank_limit d l
 all-written d l i e h = fill_done rank_limit d l (written d l i) i (omega arith) refl
 
--- ---- membership, entry by entry
-module _ (xs : List ℕ) (i a : ℕ) where
-  has-turn : i < length xs → has (drop i xs) a ≡ (eqb (get_or xs i 0) a || has (drop (i + 1) xs) a)
-  unfolding has
-  has-turn h = rw (add-one i, drop-cons xs i 0 h)
-
-  pub has_here : i < length xs → get_or xs i 0 ≡ a → true ≡ has (drop i xs) a
-  has_here h e = rw (has-turn h, eq-eqb (get_or xs i 0) a e)
-
-  pub has-next : i < length xs → (get_or xs i 0 ≡ a → ⊥) → has (drop (i + 1) xs) a ≡ has (drop i xs) a
-  has-next h e = rw (has-turn h, ne_eqb (get_or xs i 0) a e)
-
-  pub has-none : length xs ≤ i → false ≡ has (drop i xs) a
-  unfolding has
-  has-none h = rw (drop_of_length-le xs h)
+-- ---- membership
+pub any-has : (xs : List ℕ) (a : ℕ) → list_any (λ (y : ℕ). eqb y a) xs ≡ has xs a
+unfolding has
+any-has [] a = refl
+any-has (x ∷ xs) a = ap (λ (t : Bool). eqb x a || t) (any-has xs a)
 
 -- ---- an entry
 pub entry-below : {A : Type 0} (n : ℕ) (xs : List A) (i : ℕ) (d : A) → i < n → get_or xs i d ≡ get_or (take n xs) i d
@@ -55,6 +58,10 @@ entry-below n xs i d h = sym (get_or-take n xs i d h)
 
 pub entry_past : {A : Type 0} (n : ℕ) (xs : List A) (i : ℕ) (d : A) → min n (length xs) ≤ i → d ≡ get_or (take n xs) i d
 entry_past n xs i d h = sym (get_or-eq_default (take n xs) d {n = i} (omega (arith, length-take n xs)))
+
+-- the entries of an array that count
+pub counted : {A : Type 0} (n k : ℕ) (xs : List A) → n ≡ min k rank_limit → length xs ≡ rank_limit → take n xs ≡ take k xs
+counted n k xs e f = take_count n k xs (omega (arith, e, f))
 
 -- ---- picking
 pub picked : {A : Type 0} (d : A) (axes : List ℕ) (l : List A) (n i : ℕ) → i < min n (length axes) → get_or l (get_or axes i 0) d ≡ get_or (pick d (take n axes) l) i d
@@ -140,6 +147,11 @@ head_of d (y ∷ l) (suc c) x rest e =
     let h = head_of d l c x rest e in
     record { more = omega (arith, h.more); first = h.first; next = rw (add-one (suc c)) (rw (add-one c) at h.next) }
 
+pub at-end : {A : Type 0} (xs : List A) (k : ℕ) → k ≤ length xs → drop k xs ≡ [] → k ≡ length xs
+at-end [] k h e = omega arith
+at-end (x ∷ xs) zero h e = let z : ◌≡◌ {A = ℕ} 0 1 = cc in absurd (omega arith)
+at-end (x ∷ xs) (suc k) h e = ap suc (at-end xs k (omega arith) e)
+
 -- ---- leaving one axis out
 pub length_without : {A : Type 0} (axis : ℕ) (l : List A) → length (without axis l) ≡ cond (ltb axis (length l)) (length l - 1) (length l)
 unfolding without
@@ -151,6 +163,13 @@ length_without axis l = go (ltb axis (length l)) refl
     go : (t : Bool) → ltb axis (length l) ≡ t → length (take axis l ++ drop (suc axis) l) ≡ cond (ltb axis (length l)) (length l - 1) (length l)
     go true f = rw f (omega (arith, e, ltb-true axis (length l) f))
     go false f = rw f (omega (arith, e, ltb-false axis (length l) f))
+
+-- the two cases of how many are left
+pub fewer-left : {A : Type 0} (axis n : ℕ) (l : List A) → n ≡ length l → axis < n → n - 1 ≡ length (without axis l)
+fewer-left axis n l e h = sym (length_without axis l ∙ ap (λ (t : Bool). cond t (length l - 1) (length l)) (lt-ltb axis (length l) (omega arith)) ∙ ap (λ (k : ℕ). k - 1) (sym e))
+
+pub all-left : {A : Type 0} (axis n : ℕ) (l : List A) → n ≡ length l → n ≤ axis → n ≡ length (without axis l)
+all-left axis n l e h = sym (length_without axis l ∙ ap (λ (t : Bool). cond t (length l - 1) (length l)) (le-ltb axis (length l) (omega arith)) ∙ sym e)
 
 pub get_or-without : {A : Type 0} (d : A) (axis : ℕ) (l : List A) (i : ℕ) → get_or l (cond (ltb i axis) i (i + 1)) d ≡ get_or (without axis l) i d
 unfolding without
@@ -175,6 +194,29 @@ spread-turn z d n axes l entries i x m p a b e f =
     let q : min n rank_limit ≡ n = omega arith in
     let g : entries ≡ spread_in z d n (drop (i - 1 + 1) axes) (drop (i - 1 + 1) l) = e ∙ ap (λ (j : ℕ). spread_in z d n (drop j axes) (drop j l)) k in
     rw (q, g) (spread-one z d n axes l (i - 1) x (omega arith) (omega arith) f)
+
+-- a turn where the axis is below n, and one where it is not
+pub spread-here : {A : Type 0} (z d : A) (n : ℕ) (axes : List ℕ) (l entries : List A) (i : ℕ) (x : A) → n ≤ rank_limit → 0 < i → i ≤ min (length axes) (length l) → get_or axes (i - 1) 0 < n → entries ≡ spread_in z d n (drop i axes) (drop i l) → x ≡ get_or l (i - 1) z
+    → set entries (get_or axes (i - 1) 0) x ≡ spread_in z d n (drop (i - 1) axes) (drop (i - 1) l)
+spread-here z d n axes l entries i x m p a h e f =
+    sym (ap (λ (t : Bool). cond t (set entries (get_or axes (i - 1) 0) x) entries) (lt-ltb (get_or axes (i - 1) 0) (min n rank_limit) (omega arith)))
+    ∙ spread-turn z d n axes l entries i x m p (omega arith) (omega arith) e f
+
+pub spread-past : {A : Type 0} (z d : A) (n : ℕ) (axes : List ℕ) (l entries : List A) (i : ℕ) → n ≤ rank_limit → 0 < i → i ≤ min (length axes) (length l) → n ≤ get_or axes (i - 1) 0 → entries ≡ spread_in z d n (drop i axes) (drop i l)
+    → entries ≡ spread_in z d n (drop (i - 1) axes) (drop (i - 1) l)
+spread-past z d n axes l entries i m p a h e =
+    sym (ap (λ (t : Bool). cond t (set entries (get_or axes (i - 1) 0) (get_or l (i - 1) z)) entries) (le-ltb (get_or axes (i - 1) 0) (min n rank_limit) (omega arith)))
+    ∙ spread-turn z d n axes l entries i (get_or l (i - 1) z) m p (omega arith) (omega arith) e refl
+
+-- before the first turn and after the last
+pub spread-none-held : {A : Type 0} (z d : A) (n m : ℕ) (axes : List ℕ) (l : List A) (i : ℕ) → n ≤ rank_limit → m ≡ n → min (length axes) (length l) ≤ i → padded rank_limit z (take m (replicate rank_limit d)) ≡ spread_in z d n (drop i axes) (drop i l)
+unfolding padded
+spread-none-held z d n m axes l i h q k =
+    rw (q, take-replicate n rank_limit d h, length-replicate n d, take_all rank_limit (replicate n d) (omega (arith, length-replicate n d)))
+    (spread_none z d n axes l i k)
+
+pub spread-all : {A : Type 0} (z d : A) (n : ℕ) (axes : List ℕ) (l entries : List A) (i : ℕ) → n ≤ rank_limit → i ≡ 0 → entries ≡ spread_in z d n (drop i axes) (drop i l) → entries ≡ padded rank_limit z (spread d n axes l)
+spread-all z d n axes l entries i h k e = e ∙ ap (λ (j : ℕ). spread_in z d n (drop j axes) (drop j l)) k ∙ spread-padded z d n axes l h
 
 -- entries past the shorter list are not spread
 spread-both : {A : Type 0} (d : A) (n : ℕ) (axes : List ℕ) (l : List A) (m : ℕ) → m ≡ min (length axes) (length l) → spread d n (take m axes) (take m l) ≡ spread d n axes l

@@ -1,29 +1,33 @@
 -- To be believed. Lists as they are held by value. Definitions only.
-use Rattle.std.specs.Prelude.{◌≡◌, Bool, true, false, cond, ◌&&◌, List, [], ◌∷◌, ℕ, min, eqb, ltb, length, take, set, ℤ, pos}
+use Rattle.std.specs.Prelude.{◌≡◌, Bool, true, false, ◌&&◌, List, [], ◌∷◌, ℕ, eqb, length, take, ℤ, pos}
 use Rattle.layout.specs.Layouts.{rank_limit, padded}
-use Rattle.axis_lists.specs.declared.Numbers.{Numbers}
-use Rattle.axis_lists.specs.declared.Steps.{Steps}
+use Rattle.axis_lists.specs.declared.AxisList.{AxisList}
 
--- what is read of them
+abbrev pub Numbers : Type 0
+Numbers = AxisList ℕ
+
+abbrev pub Steps : Type 0
+Steps = AxisList ℤ
+
+-- what is read of a list
+abbrev pub entries_of : {A : Type 0} → AxisList A → List A
+entries_of l = take l.count l.entries
+
 abbrev pub numbers_of : Numbers → List ℕ
-numbers_of l = take l.count l.entries
+numbers_of = entries_of
 
 abbrev pub steps_of : Steps → List ℤ
-steps_of l = take l.count l.entries
+steps_of = entries_of
 
--- how a list is held: zeros past its end
+-- how a list is held: z past its end, which is 0 in a plan
+abbrev pub held : {A : Type 0} → A → List A → AxisList A
+held z l = record { count = length l; entries = padded rank_limit z l }
+
 abbrev pub held_numbers : List ℕ → Numbers
-held_numbers l = record { count = length l; entries = padded rank_limit 0 l }
+held_numbers = held 0
 
 abbrev pub held_steps : List ℤ → Steps
-held_steps l = record { count = length l; entries = padded rank_limit (pos 0) l }
-
--- a list with x at one of its places; another place changes nothing
-abbrev pub put_number : Numbers → ℕ → ℕ → Numbers
-put_number l place x = record { count = l.count; entries = cond (ltb place (min l.count rank_limit)) (set l.entries place x) l.entries }
-
-abbrev pub put_step : Steps → ℕ → ℤ → Steps
-put_step l place x = record { count = l.count; entries = cond (ltb place (min l.count rank_limit)) (set l.entries place x) l.entries }
+held_steps = held (pos 0)
 
 -- the flag r says exactly whether a and b are the same
 pub record Decides {A : Type 0} (r : Bool) (a b : A) : Type 0 where

@@ -3,36 +3,46 @@
 // `count` is larger.
 #![tactic(auto)]
 
-ghost use Rattle.std.specs.Prelude.{◌≡◌, cond, ◌+◌, ◌-◌, ◌<◌, min, ltb, pos, get_or, replicate};
-ghost use Rattle.indexing.specs.Coordinates.{has, pick, spread, others};
+ghost use Rattle.std.specs.Prelude.{◌≡◌, cond, ◌+◌, ◌-◌, ◌<◌, min, ltb, pos, get_or};
+ghost use Rattle.indexing.specs.Coordinates.{pick, spread, others};
 ghost use Rattle.indexing.specs.Start.{without};
 ghost use Rattle.layout.specs.Layouts.{rank_limit, padded, extents_of, strides_of};
-ghost use Rattle.axis_lists.specs.Held.{numbers_of, steps_of, held_numbers, held_steps, put_number, put_step, same_list};
+ghost use Rattle.axis_lists.specs.Held.{steps_of, entries_of, held, held_numbers, held_steps, same_list};
 
 use layout::{Layout, RAW_FUSED_RANK_LIMIT};
 
-// Axes, extents or window sizes. Past the count stand zeros.
-#[derive(Clone, Copy)]
-pub struct Numbers {
+// A list by value.
+#[derive(Clone, Copy, PartialEq, Eq)]
+pub struct AxisList<T> {
     pub count: usize,
-    pub entries: [u64; RAW_FUSED_RANK_LIMIT],
+    pub entries: [T; RAW_FUSED_RANK_LIMIT],
 }
+
+// Axes, extents or window sizes. Past the count stand zeros.
+pub type Numbers = AxisList<u64>;
 
 // Strides or steps. Past the count stand zeros.
-#[derive(Clone, Copy)]
-pub struct Steps {
-    pub count: usize,
-    pub entries: [i64; RAW_FUSED_RANK_LIMIT],
-}
+pub type Steps = AxisList<i64>;
 
-// A lent list; of one that is too long the first entries are held.
-pub fn numbers_from(list: &[u64]) -> Numbers
-    ensures { result ≡ held_numbers list.now }
-{
-    let out = layout::padded_numbers(list, 0);
-    Numbers {
-        count: list.len(),
-        entries: out,
+impl<T: Copy> AxisList<T> {
+    // A lent list, and `rest` past it; of a list that is too long the first entries are held.
+    pub fn from_slice(list: &[T], rest: T) -> AxisList<T>
+        ensures { result ≡ held rest list.now }
+    {
+        let mut entries = [rest; RAW_FUSED_RANK_LIMIT];
+        let n = layout::axis_count(list.len());
+        entries[..n].copy_from_slice(&list[..n]);
+        AxisList {
+            count: list.len(),
+            entries,
+        }
+    }
+
+    // The entries that count.
+    pub fn as_slice(&self) -> &[T]
+        ensures { result.now ≡ entries_of self.now }
+    {
+        &self.entries[..layout::axis_count(self.count)]
     }
 }
 
@@ -40,189 +50,84 @@ pub fn numbers_from(list: &[u64]) -> Numbers
 pub fn extents_of(layout: Layout) -> Numbers
     ensures { result ≡ held_numbers (extents_of layout) }
 {
-    let extents = layout.extents;
     let n = layout::axis_count(layout.rank);
-    numbers_from(&extents[0..n])
+    Numbers::from_slice(&layout.extents[..n], 0)
 }
 
 // A layout's strides.
 pub fn strides_of(layout: Layout) -> Steps
     ensures { result ≡ held_steps (strides_of layout) }
 {
-    let strides = layout.strides;
     let n = layout::axis_count(layout.rank);
-    let out = layout::padded_strides(&strides[0..n]);
-    Steps {
-        count: n,
-        entries: out,
-    }
-}
-
-// Whether the list has the axis.
-pub fn contains(list: &[u64], axis: u64) -> bool
-    ensures { result ≡ has list.now axis }
-{
-    let mut i: usize = 0;
-    while i < list.len() {
-        if list[i] == axis {
-            return true;
-        }
-        i += 1;
-    }
-    false
+    Steps::from_slice(&layout.strides[..n], 0)
 }
 
 // The axes below n, or below the limit, that the list has not, rising.
 pub fn other_axes(n: usize, list: &[u64]) -> Numbers
     ensures { result ≡ held_numbers (others (min n rank_limit) list.now) }
 {
-    let rank = layout::axis_count(n);
-    let mut out = [0u64; RAW_FUSED_RANK_LIMIT];
+    let mut entries = [0u64; RAW_FUSED_RANK_LIMIT];
     let mut count: usize = 0;
-    let mut i: usize = 0;
-    while i < rank {
+    for i in 0..layout::axis_count(n) {
         let axis = i as u64;
-        i += 1;
-        if contains(list, axis) {
-            continue;
+        if !list.contains(&axis) {
+            entries[count] = axis;
+            count += 1;
         }
-        out[count] = axis;
-        count += 1;
     }
-    Numbers {
-        count,
-        entries: out,
+    Numbers { count, entries }
+}
+
+// Entry `axis` of a lent list, and `rest` past its end.
+fn entry_or<T: Copy>(list: &[T], axis: u64, rest: T) -> T
+    ensures { result ≡ get_or list.now axis rest }
+{
+    list.get(axis as usize).copied().unwrap_or(rest)
+}
+
+// Entry `axis` of a lent list, and 0 past its end.
+pub fn entry_at(list: &[u64], axis: u64) -> u64
+    ensures { result ≡ get_or list.now axis 0 }
+{
+    entry_or(list, axis, 0)
+}
+
+// Entry `axis` of lent strides, and 0 past their end.
+pub fn stride_at(list: &[i64], axis: u64) -> i64
+    ensures { result ≡ get_or list.now axis (pos 0) }
+{
+    entry_or(list, axis, 0)
+}
+
+// The entries of a lent list on the axes, in the axes' order, and `rest` for an axis that is past its end.
+pub fn pick<T: Copy>(axes: &[u64], list: &[T], rest: T) -> AxisList<T>
+    ensures { result ≡ held rest (pick rest axes.now list.now) }
+{
+    let mut entries = [rest; RAW_FUSED_RANK_LIMIT];
+    for i in 0..layout::axis_count(axes.len()) {
+        entries[i] = entry_or(list, axes[i], rest);
+    }
+    AxisList {
+        count: axes.len(),
+        entries,
     }
 }
 
-// Entry `axis` of a list, and 0 past its end.
-pub fn number_at(list: Numbers, axis: u64) -> u64
-    ensures { result ≡ get_or (numbers_of list) axis 0 }
+// n entries, or as many as the limit: on each of the axes the entry that stands with it, `other` on every other axis, and `rest`
+// past them.
+pub fn spread<T: Copy>(n: usize, axes: &[u64], list: &[T], other: T, rest: T) -> AxisList<T>
+    ensures { result ≡ held rest (spread other (min n rank_limit) axes.now list.now) }
 {
-    let entries = list.entries;
-    let n = layout::axis_count(list.count);
-    if axis < n as u64 {
-        let i = axis as usize;
-        entries[i]
-    } else {
-        0
+    let count = layout::axis_count(n);
+    let all = [other; RAW_FUSED_RANK_LIMIT];
+    let mut entries = AxisList::from_slice(&all[..count], rest).entries;
+    for i in (0..axes.len().min(list.len())).rev() {
+        let axis = axes[i];
+        if axis < count as u64 {
+            entries[axis as usize] = list[i];
+        }
     }
-}
-
-pub fn step_at(list: Steps, axis: u64) -> i64
-    ensures { result ≡ get_or (steps_of list) axis (pos 0) }
-{
-    let entries = list.entries;
-    let n = layout::axis_count(list.count);
-    if axis < n as u64 {
-        let i = axis as usize;
-        entries[i]
-    } else {
-        0
-    }
-}
-
-// The entries on the axes, in the axes' order.
-pub fn pick_steps(axes: Numbers, list: Steps) -> Steps
-    ensures { result ≡ held_steps (pick (pos 0) (numbers_of axes) (steps_of list)) }
-{
-    let entries = axes.entries;
-    let n = layout::axis_count(axes.count);
-    let mut out = [0i64; RAW_FUSED_RANK_LIMIT];
-    let mut i: usize = 0;
-    while i < n {
-        out[i] = step_at(list, entries[i]);
-        i += 1;
-    }
-    Steps {
-        count: n,
-        entries: out,
-    }
-}
-
-// The list with the step at one of its places; another place changes nothing.
-fn with_step(list: Steps, place: u64, value: i64) -> Steps
-    ensures { result ≡ put_step list place value }
-{
-    let n = layout::axis_count(list.count);
-    if place < n as u64 {
-        let mut next = list.entries;
-        let i = place as usize;
-        next[i] = value;
-        return Steps {
-            count: list.count,
-            entries: next,
-        };
-    }
-    list
-}
-
-fn with_number(list: Numbers, place: u64, value: u64) -> Numbers
-    ensures { result ≡ put_number list place value }
-{
-    let n = layout::axis_count(list.count);
-    if place < n as u64 {
-        let mut next = list.entries;
-        let i = place as usize;
-        next[i] = value;
-        return Numbers {
-            count: list.count,
-            entries: next,
-        };
-    }
-    list
-}
-
-// How many entries two lists both have.
-fn both_counts(a: usize, b: usize) -> usize
-    ensures { result ≡ min (min a rank_limit) (min b rank_limit) }
-{
-    let n = layout::axis_count(a);
-    let m = layout::axis_count(b);
-    if n < m { n } else { m }
-}
-
-// n entries, or as many as the limit: on each axis of the list the step that stands with it, and 0 on every other.
-pub fn spread_steps(n: usize, axes: Numbers, list: Steps) -> Steps
-    ensures { result ≡ held_steps (spread (pos 0) (min n rank_limit) (numbers_of axes) (steps_of list)) }
-{
-    let places = axes.entries;
-    let values = list.entries;
-    let zeros = [0i64; RAW_FUSED_RANK_LIMIT];
-    let mut out = Steps {
-        count: layout::axis_count(n),
-        entries: zeros,
-    };
-    let mut i = both_counts(axes.count, list.count);
-    while i > 0 {
-        i -= 1;
-        out = with_step(out, places[i], values[i]);
-    }
-    out
-}
-
-// The same of numbers, with 1 on every other axis.
-pub fn spread_numbers(n: usize, axes: Numbers, list: Numbers) -> Numbers
-    ensures { result ≡ held_numbers (spread 1 (min n rank_limit) (numbers_of axes) (numbers_of list)) }
-{
-    let places = axes.entries;
-    let values = list.entries;
-    let mut out = ones(n);
-    let mut i = both_counts(axes.count, list.count);
-    while i > 0 {
-        i -= 1;
-        out = with_number(out, places[i], values[i]);
-    }
-    out
-}
-
-// n ones, or as many as the limit.
-fn ones(n: usize) -> Numbers
-    ensures { result ≡ held_numbers (replicate (min n rank_limit) 1) }
-{
-    let all = [1u64; RAW_FUSED_RANK_LIMIT];
-    let m = layout::axis_count(n);
-    numbers_from(&all[0..m])
+    AxisList { count, entries }
 }
 
 // Where entry i of a list stands once `axis` is put back in.
@@ -238,67 +143,13 @@ fn put_back(i: usize, axis: u64) -> u64
 pub fn without_step(axis: u64, list: Steps) -> Steps
     ensures { result ≡ held_steps (without axis (steps_of list)) }
 {
-    let n = left_over(list.count, axis);
-    let mut out = [0i64; RAW_FUSED_RANK_LIMIT];
-    let mut i: usize = 0;
-    while i < n {
-        out[i] = step_at(list, put_back(i, axis));
-        i += 1;
+    let n = layout::axis_count(list.count);
+    let count = if axis < n as u64 { n - 1 } else { n };
+    let mut entries = [0i64; RAW_FUSED_RANK_LIMIT];
+    for i in 0..count {
+        entries[i] = stride_at(list.as_slice(), put_back(i, axis));
     }
-    Steps {
-        count: n,
-        entries: out,
-    }
-}
-
-// How many entries are left of a list without one axis.
-fn left_over(count: usize, axis: u64) -> usize
-    ensures { result ≡ cond (ltb axis (min count rank_limit)) (min count rank_limit - 1) (min count rank_limit) }
-{
-    let n = layout::axis_count(count);
-    if axis < n as u64 { n - 1 } else { n }
-}
-
-// Entry `axis` of a lent list, and 0 past its end.
-pub fn entry_at(list: &[u64], axis: u64) -> u64
-    ensures { result ≡ get_or list.now axis 0 }
-{
-    if axis < list.len() as u64 {
-        let i = axis as usize;
-        list[i]
-    } else {
-        0
-    }
-}
-
-// The entries of a lent list on the axes, in the axes' order.
-pub fn pick_entries(axes: Numbers, list: &[u64]) -> Numbers
-    ensures { result ≡ held_numbers (pick 0 (numbers_of axes) list.now) }
-{
-    let entries = axes.entries;
-    let n = layout::axis_count(axes.count);
-    let mut out = [0u64; RAW_FUSED_RANK_LIMIT];
-    let mut i: usize = 0;
-    while i < n {
-        out[i] = entry_at(list, entries[i]);
-        i += 1;
-    }
-    Numbers {
-        count: n,
-        entries: out,
-    }
-}
-
-// Entry `axis` of lent strides, and 0 past their end.
-pub fn stride_at(list: &[i64], axis: u64) -> i64
-    ensures { result ≡ get_or list.now axis (pos 0) }
-{
-    if axis < list.len() as u64 {
-        let i = axis as usize;
-        list[i]
-    } else {
-        0
-    }
+    Steps { count, entries }
 }
 
 // Whether the entries of `list` on the axes are those of `sizes` on the others.
@@ -308,23 +159,12 @@ pub fn picked_same(axes: &[u64], list: &[u64], others: &[u64], sizes: &[u64]) ->
     if axes.len() != others.len() {
         return false;
     }
-    let mut i: usize = 0;
-    while i < axes.len() {
-        let a = entry_at(list, axes[i]);
-        let b = entry_at(sizes, others[i]);
-        if a != b {
+    for i in 0..axes.len() {
+        if entry_at(list, axes[i]) != entry_at(sizes, others[i]) {
             return false;
         }
-        i += 1;
     }
     true
-}
-
-// The lesser of two counts.
-fn fewer(a: usize, b: usize) -> usize
-    ensures { result ≡ min a b }
-{
-    if a < b { a } else { b }
 }
 
 // n steps, or as many as the limit: at each place the stride on the axis that stands with it, and 0 at every other.
@@ -336,16 +176,12 @@ pub fn spread_picked(
 ) -> [i64; RAW_FUSED_RANK_LIMIT]
     ensures { result ≡ padded rank_limit (pos 0) (spread (pos 0) (min n rank_limit) places.now (pick (pos 0) axes.now list.now)) }
 {
-    let m = layout::axis_count(n) as u64;
+    let count = layout::axis_count(n) as u64;
     let mut out = [0i64; RAW_FUSED_RANK_LIMIT];
-    let mut i = fewer(places.len(), axes.len());
-    while i > 0 {
-        i -= 1;
+    for i in (0..places.len().min(axes.len())).rev() {
         let place = places[i];
-        let step = stride_at(list, axes[i]);
-        if place < m {
-            let k = place as usize;
-            out[k] = step;
+        if place < count {
+            out[place as usize] = stride_at(list, axes[i]);
         }
     }
     out

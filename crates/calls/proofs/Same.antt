@@ -13,15 +13,6 @@ use Rattle.equality.specs.Same.{same_by}
 use Rattle.equality.proofs.Compare.{numbers-decide, ints-decide, lists-decide}
 use Rattle.calls.specs.Calls.{same_view}
 
--- tests one after the other
-pub first-no : (a r : Bool) → a ≡ false → false ≡ (a && r)
-first-no true r e = absurd (true≢false e)
-first-no false r e = refl
-
-pub first-yes : (a r q : Bool) → a ≡ true → q ≡ r → q ≡ (a && r)
-first-yes true r q e f = f
-first-yes false r q e f = absurd (true≢false (sym e))
-
 -- two flags that decide the same are the same
 decide-same : {A : Type 0} {r s : Bool} {a b : A} → Decides r a b → Decides s a b → r ≡ s
 decide-same {r = r} {s = s} p q = both_ways r s (λ e. q.no (p.yes e)) (λ e. p.no (q.yes e))

@@ -6,46 +6,10 @@ ghost use Rattle.integer.specs.Defs.{eq_z};
 ghost use Rattle.layout.specs.Answers.{or_else};
 ghost use Rattle.layout.specs.Layouts.{extents_of, strides_of};
 ghost use Rattle.layout.specs.Reach.{buffer_bounds};
-ghost use Rattle.axis_lists.specs.Held.{Decides};
 ghost use Rattle.equality.specs.Same.{same_by};
 ghost use Rattle.calls.specs.Calls.{plan_refusal};
 
 use layout::{Answer, Layout, Reach};
-
-// Whether two lists of extents are the same.
-pub fn same_extents(a: &[u64], b: &[u64]) -> bool
-    ensures { Decides result a.now b.now }
-{
-    if a.len() != b.len() {
-        return false;
-    }
-    let mut i: usize = 0;
-    while i < a.len() {
-        if a[i] != b[i] {
-            return false;
-        }
-        i += 1;
-    }
-    true
-}
-
-fn same_strides(a: &[i64], b: &[i64]) -> bool
-    ensures { Decides result a.now b.now }
-{
-    if a.len() != b.len() {
-        return false;
-    }
-    let mut i: usize = 0;
-    while i < a.len() {
-        let x = a[i];
-        let y = b[i];
-        if !equality::same_i64(x, y) {
-            return false;
-        }
-        i += 1;
-    }
-    true
-}
 
 // Whether two views have the same extents and the same strides.
 pub fn same_view(
@@ -56,28 +20,20 @@ pub fn same_view(
 ) -> bool
     ensures { result ≡ (same_by eqb extents.now other_extents.now && same_by eq_z strides.now other_strides.now) }
 {
-    if same_extents(extents, other_extents) {
-        same_strides(strides, other_strides)
-    } else {
-        false
-    }
+    extents == other_extents && strides == other_strides
 }
 
 // The same of two layouts by value: what stands past the rank does not count.
 pub fn same_layout(a: Layout, b: Layout) -> bool
     ensures { result ≡ (same_by eqb (extents_of a) (extents_of b) && same_by eq_z (strides_of a) (strides_of b)) }
 {
-    let a_extents = a.extents;
-    let a_strides = a.strides;
-    let b_extents = b.extents;
-    let b_strides = b.strides;
     let n = layout::axis_count(a.rank);
     let m = layout::axis_count(b.rank);
     same_view(
-        &a_extents[0..n],
-        &a_strides[0..n],
-        &b_extents[0..m],
-        &b_strides[0..m],
+        &a.extents[..n],
+        &a.strides[..n],
+        &b.extents[..m],
+        &b.strides[..m],
     )
 }
 

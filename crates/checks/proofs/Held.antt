@@ -9,8 +9,7 @@ use lib.IntN.{ℤ, pos}
 use Rattle.indexing.specs.Coordinates.{others}
 use Rattle.layout.specs.Answers.{is_done}
 use Rattle.layout.specs.Layouts.{rank_limit, padded, stride_length, rank_at_most}
-use Rattle.axis_lists.specs.Held.{held_numbers}
-use Rattle.axis_lists.specs.declared.Numbers.{Numbers}
+use Rattle.axis_lists.specs.Held.{held_numbers, Numbers}
 use Rattle.axis_lists.proofs.Filling.{read_back, length-others}
 use Rattle.checks.specs.Checks.{layouts_refusal}
 use Rattle.checks.proofs.Made.{or-done, same_length, few-axes}

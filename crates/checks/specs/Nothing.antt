@@ -2,8 +2,7 @@
 use Rattle.std.specs.Prelude.{replicate, pos}
 use Rattle.layout.specs.declared.Layout.{Layout}
 use Rattle.layout.specs.Layouts.{rank_limit}
-use Rattle.axis_lists.specs.declared.Numbers.{Numbers}
-use Rattle.axis_lists.specs.declared.Steps.{Steps}
+use Rattle.axis_lists.specs.Held.{Numbers, Steps}
 
 abbrev pub no_layout : Layout
 no_layout = record { rank = 0; extents = replicate rank_limit 1; strides = replicate rank_limit (pos 0) }

@@ -1,16 +1,13 @@
 -- To be believed. Whether two lists, two layouts, two lists by value are the same. Definitions only.
-use Rattle.std.specs.Prelude.{Bool, true, false, ◌&&◌, List, [], ◌∷◌, eqb}
+use Rattle.std.specs.Prelude.{Bool, ◌&&◌, List, eqb}
+use lib.Pointwise.{pointwise}
 use Rattle.integer.specs.Defs.{eq_z}
 use Rattle.layout.specs.declared.Layout.{Layout}
-use Rattle.axis_lists.specs.declared.Numbers.{Numbers}
-use Rattle.axis_lists.specs.declared.Steps.{Steps}
+use Rattle.axis_lists.specs.Held.{Numbers, Steps}
 
 -- whether two lists are the same, by a test of their entries
-unfoldable pub same_by : {A : Type 0} → (A → A → Bool) → List A → List A → Bool
-same_by test [] [] = true
-same_by test [] (b ∷ ys) = false
-same_by test (a ∷ xs) [] = false
-same_by test (a ∷ xs) (b ∷ ys) = test a b && same_by test xs ys
+abbrev pub same_by : {A : Type 0} → (A → A → Bool) → List A → List A → Bool
+same_by = pointwise
 
 -- field by field, arrays past their counts as well
 abbrev pub same_layout : Layout → Layout → Bool

@@ -152,12 +152,6 @@ fn check_counts(
     checks::or_else(a, checks::or_else(b, c))
 }
 
-fn both(a: bool, b: bool) -> bool
-    ensures { result ≡ (a && b) }
-{
-    if a { b } else { false }
-}
-
 // Whether the destination has the window extents on `offset_dims` and the batch extents on its other axes: the window's sizes on the
 // axes shown, the index view's extents on its batch axes.
 fn shape_fits(
@@ -173,9 +167,9 @@ fn shape_fits(
     ensures { result ≡ shape_by shown.now starts.now others.now ie.now de.now offset_dims.now sizes.now }
 {
     let rank = starts.len() as u64 + offset_dims.len() as u64;
-    let windows = axis_lists::picked_same(offset_dims, de, shown, sizes);
-    let batch = axis_lists::picked_same(others, de, starts, ie);
-    both(de.len() as u64 == rank, both(windows, batch))
+    de.len() as u64 == rank
+        && axis_lists::picked_same(offset_dims, de, shown, sizes)
+        && axis_lists::picked_same(others, de, starts, ie)
 }
 
 // 7 where the destination's shape is not the expected one.

@@ -15,8 +15,7 @@ use Rattle.layout.specs.declared.Reach.{Reach}
 use Rattle.layout.specs.Answers.{is_done, or_else}
 use Rattle.layout.specs.Layouts.{rank_limit, padded}
 use Rattle.layout.specs.Reach.{buffer_bounds}
-use Rattle.axis_lists.specs.Held.{held_steps}
-use Rattle.axis_lists.specs.declared.Steps.{Steps}
+use Rattle.axis_lists.specs.Held.{held_steps, Steps}
 use Rattle.checks.specs.Values.{offset_or}
 use Rattle.checks.proofs.Held.{never}
 use Rattle.components.specs.Components.{limit_at, unless_none}

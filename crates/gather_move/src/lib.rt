@@ -63,7 +63,7 @@ pub fn batch_extents(
     let mut out = [1u64; RAW_FUSED_RANK_LIMIT];
     let mut a: usize = 0;
     while a < RAW_FUSED_RANK_LIMIT {
-        let shown = axis_lists::contains(offset_dims, a as u64);
+        let shown = offset_dims.contains(&(a as u64));
         let extent = batch_extent(shown, extents[a]);
         out[a] = extent;
         a += 1;

@@ -11,9 +11,7 @@ use Rattle.indexing.specs.Steps.{vector_stride}
 use Rattle.layout.specs.declared.Answer.TheVariants as A
 use Rattle.layout.specs.declared.MadeLayout.{MadeLayout}
 use Rattle.layout.specs.Layouts.{rank_limit, padded, layout_from}
-use Rattle.axis_lists.specs.Held.{numbers_of, held_numbers, held_steps}
-use Rattle.axis_lists.specs.declared.Numbers.{Numbers}
-use Rattle.axis_lists.specs.declared.Steps.{Steps}
+use Rattle.axis_lists.specs.Held.{numbers_of, held_numbers, held_steps, Numbers, Steps}
 use Rattle.axis_lists.proofs.Filling.{read_back}
 use Rattle.checks.specs.Values.{offset_or, total_or}
 use Rattle.checks.proofs.Made.{made}

@@ -17,14 +17,14 @@ use integer::{Checked, CheckedU};
 use layout::{Answer, Layout, RAW_FUSED_RANK_LIMIT};
 
 // A destination axis is a batch axis, or a window axis that shows one operand axis.
-#[derive(Clone, Copy)]
+#[derive(Clone, Copy, PartialEq, Eq)]
 pub enum Role {
     Batch,
     Window(u64),
 }
 
 // Steps and resets along one destination axis: in the destination, in the operand, in the index view.
-#[derive(Clone, Copy)]
+#[derive(Clone, Copy, PartialEq, Eq)]
 pub struct GatherReplayAxis {
     pub role: Role,
     pub dest_step: i64,
@@ -35,7 +35,7 @@ pub struct GatherReplayAxis {
     pub index_batch_reset: i64,
 }
 
-#[derive(Clone, Copy)]
+#[derive(Clone, Copy, PartialEq, Eq)]
 pub struct GatherPlan {
     pub operand: Layout,
     pub index: Layout,
@@ -181,15 +181,13 @@ fn axes_of(
 {
     let none = no_axis();
     let mut out = [none; RAW_FUSED_RANK_LIMIT];
-    let mut i: usize = 0;
-    while i < extents.len() {
+    for i in 0..extents.len() {
         let k = i as u64;
         let role = role_at(offset_dims, shown, k);
         let s = axis_lists::stride_at(dest, k);
-        let w = axis_lists::step_at(window, k);
-        let b = axis_lists::step_at(batch, k);
+        let w = axis_lists::stride_at(window.as_slice(), k);
+        let b = axis_lists::stride_at(batch.as_slice(), k);
         out[i] = axis_with(role, extents[i], s, w, b);
-        i += 1;
     }
     out
 }
@@ -244,20 +242,16 @@ fn plan_of(
         count: start_index_map.len(),
         entries,
     };
-    let a = axis_lists::numbers_from(offset_dims);
-    let b = axis_lists::numbers_from(collapsed_slice_dims);
-    let c = axis_lists::numbers_from(start_index_map);
-    let d = axis_lists::numbers_from(slice_sizes);
     let total = total_value(dest_extents);
     GatherPlan {
         operand,
         index,
         dest,
-        offset_dims: a,
-        collapsed_slice_dims: b,
-        start_index_map: c,
+        offset_dims: Numbers::from_slice(offset_dims, 0),
+        collapsed_slice_dims: Numbers::from_slice(collapsed_slice_dims, 0),
+        start_index_map: Numbers::from_slice(start_index_map, 0),
         index_vector_dim,
-        slice_sizes: d,
+        slice_sizes: Numbers::from_slice(slice_sizes, 0),
         axes,
         index_component_offsets: offsets,
         index_operand_strides: strides,

@@ -23,26 +23,17 @@ same_axis a b =
     && (eq_z a.window_step b.window_step && (eq_z a.window_reset b.window_reset
     && (eq_z a.index_batch_step b.index_batch_step && eq_z a.index_batch_reset b.index_batch_reset)))))
 
--- the layouts, the spec, and what the walk takes
-unfoldable pub same_layouts : GatherPlan → GatherPlan → Bool
-same_layouts a b = same_layout a.operand b.operand && (same_layout a.index b.index && same_layout a.dest b.dest)
-
-unfoldable pub same_spec : GatherPlan → GatherPlan → Bool
-same_spec a b =
-    same_numbers a.offset_dims b.offset_dims
-    && (same_numbers a.collapsed_slice_dims b.collapsed_slice_dims
-    && (same_numbers a.start_index_map b.start_index_map
-    && (eqb a.index_vector_dim b.index_vector_dim && same_numbers a.slice_sizes b.slice_sizes)))
-
-unfoldable pub same_walk : GatherPlan → GatherPlan → Bool
-same_walk a b =
-    same_by same_axis a.axes b.axes
-    && (same_steps a.index_component_offsets b.index_component_offsets
-    && (same_steps a.index_operand_strides b.index_operand_strides && eqb a.total b.total))
-
 -- whether two plans are the same (`same-plan-decides`)
 unfoldable pub same_plan : GatherPlan → GatherPlan → Bool
-same_plan a b = same_layouts a b && (same_spec a b && same_walk a b)
+same_plan a b =
+    same_layout a.operand b.operand && (same_layout a.index b.index && (same_layout a.dest b.dest
+    && (same_numbers a.offset_dims b.offset_dims
+    && (same_numbers a.collapsed_slice_dims b.collapsed_slice_dims
+    && (same_numbers a.start_index_map b.start_index_map
+    && (eqb a.index_vector_dim b.index_vector_dim && (same_numbers a.slice_sizes b.slice_sizes
+    && (same_by same_axis a.axes b.axes
+    && (same_steps a.index_component_offsets b.index_component_offsets
+    && (same_steps a.index_operand_strides b.index_operand_strides && eqb a.total b.total))))))))))
 
 -- "the plan is .. what compile gives for the layouts and spec in it, 4 not tried again"
 unfoldable pub is_compiled : GatherPlan → Bool

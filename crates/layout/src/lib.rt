@@ -135,7 +135,7 @@ pub fn refused_call(answer: Answer) -> CallAnswer
 }
 
 // Extents with strides. Past the rank stand extents of 1 with strides of 0.
-#[derive(Clone, Copy)]
+#[derive(Clone, Copy, PartialEq, Eq)]
 pub struct Layout {
     pub rank: usize,
     pub extents: [u64; RAW_FUSED_RANK_LIMIT],

@@ -3,7 +3,6 @@ use Rattle.std.specs.Prelude.{◌≡◌, refl, List, [], ◌∷◌, ℕ, pos, ne
 use Rattle.std.proofs.Common.{ap}
 use Rattle.axis_lists.specs.Held.{same_list}
 use Rattle.checks.specs.Checks.{first_of, windows_from}
-use Rattle.equality.specs.Same.{same_by}
 use Rattle.gather_checks.specs.Refusals.{collapsed_one, shape_fits, sizes_refusal as gather_sizes, spec_refusal as gather_spec}
 use Rattle.indexing.specs.Coordinates.{has, others_from, pick, spread}
 use Rattle.indexing.specs.Gather.{batch_dims, shown_dims}
@@ -35,9 +34,9 @@ abbrev pub harbour_gather : LinkedGather
 harbour_gather = LinkedGather.lists harbour_windows harbour_windows.operand harbour_windows.indices harbour_windows.result (pos 4 ∷ negsuc 0 ∷ [])
 
 pub scatter-accepted : (rule : ℕ) → rule_refusal rules_i32 rule ≡ A.Done → (scatter_call (harbour_scatter rule)).answer 5 ≡ A.Done
-unfolding same_list first_of windows_from same_by has others_from pick spread highest lowest batch_shape scatter_dims window_dims window_shape windows without batch_steps land_steps update_batch_steps update_window_steps window_steps checked checked_u padded unique_axes exceeds has_zero insert long_axes nested ordered view_reach offset_add reach_of reset_of span_from total_from widened given_axes merged_from later_fit compiled_replay batch_walk window_walk scatter_sizes scatter_spec
+unfolding same_list first_of windows_from has others_from pick spread highest lowest batch_shape scatter_dims window_dims window_shape windows without batch_steps land_steps update_batch_steps update_window_steps window_steps checked checked_u padded unique_axes exceeds has_zero insert long_axes nested ordered view_reach offset_add reach_of reset_of span_from total_from widened given_axes merged_from later_fit compiled_replay batch_walk window_walk scatter_sizes scatter_spec
 scatter-accepted rule e = ap (λ (x : Answer). or_else x ((by_lists harbour_updates harbour_updates.indices harbour_updates.updates harbour_updates.result (pos 0 ∷ pos 0 ∷ pos 9 ∷ []) (pos 3 ∷ pos 4 ∷ pos 5 ∷ [])).answer 5)) e
 
 pub gather-accepted : (gather_call harbour_gather).answer 5 4 ≡ A.Done
-unfolding same_list first_of windows_from same_by collapsed_one shape_fits gather_sizes gather_spec has others_from pick spread batch_dims shown_dims highest lowest without batch_steps land_steps update_batch_steps update_window_steps window_steps checked checked_u padded unique_axes exceeds has_zero insert long_axes nested ordered view_reach offset_add reach_of reset_of span_from total_from widened
+unfolding same_list first_of windows_from collapsed_one shape_fits gather_sizes gather_spec has others_from pick spread batch_dims shown_dims highest lowest without batch_steps land_steps update_batch_steps update_window_steps window_steps checked checked_u padded unique_axes exceeds has_zero insert long_axes nested ordered view_reach offset_add reach_of reset_of span_from total_from widened
 gather-accepted = refl

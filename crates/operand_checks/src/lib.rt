@@ -45,7 +45,7 @@ fn check_layouts(
 fn check_extents(dest: &[u64], operand: &[u64]) -> Answer
     ensures { result ≡ extents_refusal dest.now operand.now }
 {
-    if calls::same_extents(dest, operand) {
+    if dest == operand {
         Answer::Done
     } else {
         Answer::ShapeMismatch(dest.len() as u64, operand.len() as u64)

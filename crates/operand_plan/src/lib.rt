@@ -98,27 +98,19 @@ pub fn compile(
 fn sizes_of(operand: Layout, index: Layout, updates: Layout, dest: Layout) -> Answer
     ensures { result ≡ sizes_refusal (extents_of operand) (strides_of operand) (extents_of index) (strides_of index) (extents_of updates) (strides_of updates) (extents_of dest) (strides_of dest) }
 {
-    let oe = operand.extents;
-    let os = operand.strides;
-    let ie = index.extents;
-    let is = index.strides;
-    let ue = updates.extents;
-    let us = updates.strides;
-    let de = dest.extents;
-    let ds = dest.strides;
     let n = layout::axis_count(operand.rank);
     let m = layout::axis_count(index.rank);
     let k = layout::axis_count(updates.rank);
     let l = layout::axis_count(dest.rank);
     operand_checks::check_sizes(
-        &oe[0..n],
-        &os[0..n],
-        &ie[0..m],
-        &is[0..m],
-        &ue[0..k],
-        &us[0..k],
-        &de[0..l],
-        &ds[0..l],
+        &operand.extents[..n],
+        &operand.strides[..n],
+        &index.extents[..m],
+        &index.strides[..m],
+        &updates.extents[..k],
+        &updates.strides[..k],
+        &dest.extents[..l],
+        &dest.strides[..l],
     )
 }
 
@@ -126,15 +118,11 @@ fn sizes_of(operand: Layout, index: Layout, updates: Layout, dest: Layout) -> An
 fn held_again(l: Layout) -> Layout
     ensures { result ≡ layout_of (extents_of l) (strides_of l) }
 {
-    let extents = l.extents;
-    let strides = l.strides;
     let n = layout::axis_count(l.rank);
-    let es = layout::padded_numbers(&extents[0..n], 1);
-    let ss = layout::padded_strides(&strides[0..n]);
     Layout {
         rank: n,
-        extents: es,
-        strides: ss,
+        extents: layout::padded_numbers(&l.extents[..n], 1),
+        strides: layout::padded_strides(&l.strides[..n]),
     }
 }
 
@@ -146,15 +134,9 @@ pub fn is_compiled(
 ) -> bool
     ensures { result ≡ is_compiled plan batch_rows window_rows }
 {
-    let operand = plan.operand;
     let scatter = plan.scatter;
-    let index = scatter.index;
-    let updates = scatter.updates;
-    let dest = scatter.dest;
-    let sizes = sizes_of(operand, index, updates, dest);
-    let fresh = held_again(operand);
-    let done = layout::is_done(sizes);
-    let same = equality::same_layout(operand, fresh);
-    let rest = scatter_same::is_compiled(scatter, batch_rows, window_rows);
-    equality::both(done, equality::both(same, rest))
+    let sizes = sizes_of(plan.operand, scatter.index, scatter.updates, scatter.dest);
+    layout::is_done(sizes)
+        && plan.operand == held_again(plan.operand)
+        && scatter_same::is_compiled(scatter, batch_rows, window_rows)
 }

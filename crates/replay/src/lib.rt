@@ -21,7 +21,7 @@ pub struct WindowReplayAxis {
 }
 
 // The lowest and the highest offset that the window reaches on each side, relative to its base.
-#[derive(Clone, Copy)]
+#[derive(Clone, Copy, PartialEq, Eq)]
 pub struct ReplaySpans {
     pub source_low: i64,
     pub source_high: i64,
@@ -30,7 +30,7 @@ pub struct ReplaySpans {
 }
 
 // The extents of the merged axes, 1 past the rank. The steps and resets are rows, held beside it.
-#[derive(Clone, Copy)]
+#[derive(Clone, Copy, PartialEq, Eq)]
 pub struct WindowReplay {
     pub rank: usize,
     pub extents: [u64; RAW_FUSED_RANK_LIMIT],
@@ -152,10 +152,10 @@ fn join(before: WindowReplayAxis, extent: u64, source: i64, dest: i64) -> Joined
     match expected_source {
         Checked::Fits(s) => match expected_dest {
             Checked::Fits(d) => {
-                if !equality::same_i64(source, s) {
+                if source != s {
                     return apart(extent, source, dest);
                 }
-                if !equality::same_i64(dest, d) {
+                if dest != d {
                     return apart(extent, source, dest);
                 }
                 merge(size, extent, source_step, dest_step)

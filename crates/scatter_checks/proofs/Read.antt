@@ -7,8 +7,7 @@ use lib.ListN.{length, take, drop}
 use lib.IntN.{ℤ, pos}
 use Rattle.indexing.specs.Coordinates.{others}
 use Rattle.layout.specs.Layouts.{rank_limit, padded}
-use Rattle.axis_lists.specs.Held.{numbers_of, held_numbers}
-use Rattle.axis_lists.specs.declared.Numbers.{Numbers}
+use Rattle.axis_lists.specs.Held.{numbers_of, held_numbers, Numbers}
 use Rattle.axis_lists.proofs.Filling.{read_back}
 use Rattle.checks.proofs.Held.{held_fits, held-part, others-held, few-others}
 use Rattle.replay.specs.Replays.{compiled_replay}

@@ -16,8 +16,7 @@ use Rattle.layout.specs.Answers.{is_done, or_else}
 use Rattle.layout.specs.Layouts.{rank_limit, padded}
 use Rattle.layout.specs.Reach.{buffer_bounds}
 use Rattle.layout.proofs.First.{done-is}
-use Rattle.axis_lists.specs.Held.{held_steps}
-use Rattle.axis_lists.specs.declared.Steps.{Steps}
+use Rattle.axis_lists.specs.Held.{held_steps, Steps}
 use Rattle.replay.specs.Replays.{rows_of}
 use Rattle.replay.specs.declared.CompiledReplay.{CompiledReplay}
 use Rattle.checks.specs.Values.{value_of_u, offset_or, total_or}

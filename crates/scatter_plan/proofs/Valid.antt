@@ -26,7 +26,7 @@ use Rattle.scatter_plan.proofs.Accepted.{passed}
 
 -- the same entries one by one
 lists-same : (xs ys : List ℕ) → same_list xs ys ≡ same_by eqb xs ys
-unfolding same_list same_by
+unfolding same_list
 lists-same [] [] = refl
 lists-same [] (b ∷ ys) = refl
 lists-same (a ∷ xs) [] = refl

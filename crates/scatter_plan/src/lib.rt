@@ -18,7 +18,7 @@ use replay::{CompiledReplay, WindowReplay, WindowReplayAxis};
 use scatter_checks::Examined;
 
 // `windows` is the window's extent on each operand axis, `batches` and `cells` how many batches and cells of a window there are.
-#[derive(Clone, Copy)]
+#[derive(Clone, Copy, PartialEq, Eq)]
 pub struct ScatterPlan {
     pub index: Layout,
     pub updates: Layout,
@@ -121,9 +121,8 @@ fn windows_of(dest: &[u64], updates: &[u64], window: &[u64], inserted: &[u64]) -
     ensures { result ≡ held_numbers (spread 1 (length dest.now) (others (length dest.now) inserted.now) (pick 0 window.now updates.now)) }
 {
     let kept = axis_lists::other_axes(dest.len(), inserted);
-    let axes = axis_lists::numbers_from(window);
-    let shape = axis_lists::pick_entries(axes, updates);
-    axis_lists::spread_numbers(dest.len(), kept, shape)
+    let shape = axis_lists::pick(window, updates, 0);
+    axis_lists::spread(dest.len(), kept.as_slice(), shape.as_slice(), 1, 0)
 }
 
 // The plan of a scatter that is not refused, with the walks that compile's checks found.
@@ -158,9 +157,6 @@ fn plan_of(
         count: map.len(),
         entries,
     };
-    let a = axis_lists::numbers_from(window);
-    let b = axis_lists::numbers_from(inserted);
-    let c = axis_lists::numbers_from(map);
     let batches = batch_elems(updates_extents, window);
     let cells = product_value(window, updates_extents);
     let batch = from_batch.replay;
@@ -169,9 +165,9 @@ fn plan_of(
         index,
         updates,
         dest,
-        update_window_dims: a,
-        inserted_window_dims: b,
-        scatter_dims_to_operand_dims: c,
+        update_window_dims: Numbers::from_slice(window, 0),
+        inserted_window_dims: Numbers::from_slice(inserted, 0),
+        scatter_dims_to_operand_dims: Numbers::from_slice(map, 0),
         index_vector_dim: vector,
         batch,
         window: in_window,

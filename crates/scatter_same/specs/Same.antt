@@ -19,30 +19,19 @@ same_spans a b =
 unfoldable pub same_replay : WindowReplay → WindowReplay → Bool
 same_replay a b = eqb a.rank b.rank && (same_by eqb a.extents b.extents && same_spans a.spans b.spans)
 
--- the layouts, the spec, the two walks with their counts, and what the starts take
-unfoldable pub same_layouts : ScatterPlan → ScatterPlan → Bool
-same_layouts a b = same_layout a.index b.index && (same_layout a.updates b.updates && same_layout a.dest b.dest)
-
-unfoldable pub same_spec : ScatterPlan → ScatterPlan → Bool
-same_spec a b =
-    same_numbers a.update_window_dims b.update_window_dims
-    && (same_numbers a.inserted_window_dims b.inserted_window_dims
-    && (same_numbers a.scatter_dims_to_operand_dims b.scatter_dims_to_operand_dims
-    && eqb a.index_vector_dim b.index_vector_dim))
-
-unfoldable pub same_walks : ScatterPlan → ScatterPlan → Bool
-same_walks a b =
-    same_replay a.batch b.batch
-    && (same_replay a.window b.window && (eqb a.batch_elems b.batch_elems && eqb a.window_elems b.window_elems))
-
-unfoldable pub same_starts : ScatterPlan → ScatterPlan → Bool
-same_starts a b =
-    same_numbers a.window_shape b.window_shape
-    && (same_steps a.index_component_offsets b.index_component_offsets && same_steps a.index_operand_strides b.index_operand_strides)
-
 -- whether two plans are the same (`same-plan-decides`)
 unfoldable pub same_plan : ScatterPlan → ScatterPlan → Bool
-same_plan a b = same_layouts a b && (same_spec a b && (same_walks a b && same_starts a b))
+same_plan a b =
+    same_layout a.index b.index && (same_layout a.updates b.updates && (same_layout a.dest b.dest
+    && (same_numbers a.update_window_dims b.update_window_dims
+    && (same_numbers a.inserted_window_dims b.inserted_window_dims
+    && (same_numbers a.scatter_dims_to_operand_dims b.scatter_dims_to_operand_dims
+    && (eqb a.index_vector_dim b.index_vector_dim
+    && (same_replay a.batch b.batch && (same_replay a.window b.window
+    && (same_numbers a.window_shape b.window_shape
+    && (same_steps a.index_component_offsets b.index_component_offsets
+    && (same_steps a.index_operand_strides b.index_operand_strides
+    && (eqb a.batch_elems b.batch_elems && eqb a.window_elems b.window_elems))))))))))))
 
 -- whether two walks' rows are the same (`rows-decide`)
 abbrev pub same_rows : List (List ℤ) → List (List ℤ) → Bool
