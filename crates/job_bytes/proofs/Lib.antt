@@ -2,3 +2,4 @@ pub mod Bytes
 pub mod Putting
 pub mod Reading
 pub mod Back
+pub mod Signs

@@ -35,6 +35,9 @@ got g (fault k) r h = absurd cc
 pub was_read : {A : Type 0} (f : Field A) (r : Read A) → Ok r ≡ held f → f ≡ read r.value r.at
 was_read f r h = let p = got (λ x. x) f r h in p.is ∙ ap (λ x. read x r.at) (sym p.made)
 
+pub gives : {A B : Type 0} (g : A → B) (f : Field A) (x : A) (k : ℕ) (y : B) → f ≡ read x k → y ≡ g x → Ok (record { value = y; at = k }) ≡ held_as g f
+gives g f x k y e h = rw (e, h)
+
 -- a fault that `?` passes on
 pub passed_on : {A B : Type 0} (g : A → B) (f : Field A) (e x : Fault) (r : Result (Read B) Fault) → r ≡ Err x → x ≡ e → f ≡ fault e.at → r ≡ held_as g f
 passed_on g f e x r p q h = p ∙ ap (λ (y : Fault). Err y) q ∙ sym (ap (held_as g) h)
