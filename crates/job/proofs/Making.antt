@@ -1,5 +1,5 @@
 -- A job from its parts, and that it is one that can be stored. Assumes nothing.
-use mathlib.Core.Path.{◌≡◌, refl, sym, ap, ap₂, ◌∙◌}
+use mathlib.Core.Path.{◌≡◌, refl, sym, ap, ◌∙◌}
 use mathlib.Core.Bool.{Bool, true, false}
 use mathlib.Core.List.{List, []}
 use Prim.Native.Nat.{ℕ, ◌≤◌, ◌<◌, ◌^◌}
@@ -9,7 +9,6 @@ use mir.Syntax.{w64}
 use mir.Val.{SFits}
 use Rattle.layout.specs.declared.Answer.{Answer}
 use Rattle.layout.specs.declared.Answer.TheVariants as A
-use Rattle.layout.specs.declared.View.{View}
 use Rattle.layout.specs.Answers.{is_done, or_else}
 use Rattle.layout.specs.Layouts.{stride_length}
 use Rattle.checks.proofs.Made.{or-done, same_length, at_most}
@@ -18,24 +17,9 @@ use Rattle.job_bytes.specs.Below.{AllBelow, AllFit}
 use Rattle.job.specs.declared.Kind.{Kind}
 use Rattle.job.specs.declared.Kind.TheVariants as K
 use Rattle.job.specs.declared.Element.{Element}
-use Rattle.job.specs.declared.List16.{List16}
-use Rattle.job.specs.declared.Spec.{Spec}
 use Rattle.job.specs.declared.Job.{Job}
-use Rattle.job.specs.declared.MadeJob.{MadeJob}
 use Rattle.job.specs.Jobs.{held_list, view_of, views_of, spec_of, rank_stored, list_at_most, views_refusal, lists_refusal, made_job, job_from}
 use Rattle.job.specs.Made.{MadeView, MadeList, MadeSizes, Made}
-
-pub making : (kind : Kind) (element : Element) (e1 : List ℕ) (s1 : List ℤ) (o1 : ℤ) (e2 : List ℕ) (s2 : List ℤ) (o2 : ℤ) (e3 : List ℕ) (s3 : List ℤ) (o3 : ℤ) (window unit map : List ℕ) (vector : ℕ) (sizes : List ℕ)
-    → (r : MadeJob) (x a b : Answer) (j : Job) (f g h : View) (sp : Spec) (lw lu lm ls : List16) → r ≡ made_job x j → x ≡ or_else a b
-    → a ≡ views_refusal (length e1) (length s1) (length e2) (length s2) (length e3) (length s3) → b ≡ lists_refusal lw.count lu.count lm.count ls.count
-    → j ≡ record { kind = kind; element = element; views = views_of f g h; spec = sp } → f ≡ view_of e1 s1 o1 → g ≡ view_of e2 s2 o2 → h ≡ view_of e3 s3 o3
-    → sp ≡ record { window_dims = lw; unit_dims = lu; start_map = lm; index_vector_dim = vector; slice_sizes = ls } → lw ≡ held_list window → lu ≡ held_list unit → lm ≡ held_list map → ls ≡ held_list sizes
-    → r ≡ job_from kind element e1 s1 o1 e2 s2 o2 e3 s3 o3 window unit map vector sizes
-unfolding job_from
-making kind element e1 s1 o1 e2 s2 o2 e3 s3 o3 window unit map vector sizes r x a b j f g h sp lw lu lm ls pr px pa pb pj pf pg ph ps pw pu pm pz =
-    let ss : sp ≡ spec_of window unit map vector sizes = ps ∙ (λ i. record { window_dims = pw i; unit_dims = pu i; start_map = pm i; index_vector_dim = vector; slice_sizes = pz i }) in
-    let bb : b ≡ lists_refusal (length window) (length unit) (length map) (length sizes) = pb ∙ (λ i. lists_refusal (pw i).count (pu i).count (pm i).count (pz i).count) in
-    pr ∙ ap₂ made_job (px ∙ ap₂ or_else pa bb) (pj ∙ (λ i. record { kind = kind; element = element; views = views_of (pf i) (pg i) (ph i); spec = ss i }))
 
 -- ---- what a job that is not refused tells of its counts
 pub record Counted (e1 s1 e2 s2 e3 s3 window unit map sizes : ℕ) : Type 0 where

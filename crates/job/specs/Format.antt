@@ -1,5 +1,5 @@
 -- To be believed. Document 01, "The stored job (added)": the format, written and read. Definitions only.
-use Rattle.std.specs.Prelude.{cond, List, [], ◌++◌, map, ℕ, ◌+◌, ◌*◌, min, eqb, length, take, ℤ}
+use Rattle.std.specs.Prelude.{cond, List, [], ◌++◌, map, ℕ, ◌+◌, ◌*◌, min, eqb, length, take, ℤ, Result, Ok, Err}
 use Rattle.layout.specs.declared.Layout.{Layout}
 use Rattle.layout.specs.declared.View.{View}
 use Rattle.job_bytes.specs.Fields.{Field, read, fault, and_then, bytes_of, words_of, word_of, signed_of, number_at, byte_at, words_at}
@@ -8,6 +8,7 @@ use Rattle.job.specs.declared.Kind.{Kind}
 use Rattle.job.specs.declared.Kind.TheVariants as K
 use Rattle.job.specs.declared.Element.{Element}
 use Rattle.job.specs.declared.Element.TheVariants as E
+use Rattle.job.specs.declared.Unlisted.{Unlisted}
 use Rattle.job.specs.declared.List16.{List16}
 use Rattle.job.specs.declared.Views.{Views}
 use Rattle.job.specs.declared.Spec.{Spec}
@@ -22,6 +23,10 @@ kind_byte K.Scatter = 2
 abbrev pub kind_of : ℕ → Kind
 kind_of n = cond (eqb n 1) K.Gather K.Scatter
 
+-- the same where the byte may be any other
+abbrev pub listed_kind : ℕ → Result Kind Unlisted
+listed_kind n = cond (eqb n 1) (Ok K.Gather) (cond (eqb n 2) (Ok K.Scatter) (Err (record {})))
+
 -- "element byte 1 i32 or 2 f64"
 abbrev pub element_byte : Element → ℕ
 element_byte E.I32 = 1
@@ -29,6 +34,9 @@ element_byte E.F64 = 2
 
 abbrev pub element_of : ℕ → Element
 element_of n = cond (eqb n 1) E.I32 E.F64
+
+abbrev pub listed_element : ℕ → Result Element Unlisted
+listed_element n = cond (eqb n 1) (Ok E.I32) (cond (eqb n 2) (Ok E.F64) (Err (record {})))
 
 -- ---- written
 -- what is stored of a layout: as many axes as its rank says, and no more than the format has

@@ -5,21 +5,76 @@
 ghost use Rattle.std.specs.Prelude.{◌≡◌, [], length, pos};
 ghost use Rattle.layout.specs.Answers.{or_else};
 ghost use Rattle.job.specs.declared.Kind.TheVariants as K;
-ghost use Rattle.job.specs.Jobs.{held_list, view_of, views_of, spec_of, no_job, rank_stored, list_at_most, views_refusal, lists_refusal, stored_sizes, job_refusal, made_job, job_from};
+ghost use Rattle.job.specs.Format.{kind_byte, element_byte, listed_kind, listed_element};
+ghost use Rattle.job.specs.Jobs.{held_list, view_of, entries_of, no_job, rank_stored, list_at_most, views_refusal, lists_refusal, stored_sizes, job_refusal, made_job, job_from};
 
 use job_bytes::{LIST_LIMIT, STORED_RANK_LIMIT};
 use layout::{Answer, Layout, RAW_FUSED_RANK_LIMIT, View};
 
-#[derive(Clone, Copy)]
+#[derive(Clone, Copy, Debug, PartialEq, Eq)]
 pub enum Kind {
     Gather,
     Scatter,
 }
 
-#[derive(Clone, Copy)]
+#[derive(Clone, Copy, Debug, PartialEq, Eq)]
 pub enum Element {
     I32,
     F64,
+}
+
+// A number that stands for no kind or no element.
+#[derive(Clone, Copy, Debug, PartialEq, Eq)]
+pub struct Unlisted;
+
+impl From<Kind> for u64 {
+    ghost from_gives = { λ kind byte. byte ≡ kind_byte kind };
+
+    fn from(kind: Kind) -> u64 {
+        match kind {
+            Kind::Gather => 1,
+            Kind::Scatter => 2,
+        }
+    }
+}
+
+impl TryFrom<u64> for Kind {
+    type Error = Unlisted;
+
+    ghost try_from_gives = { λ byte kind. kind ≡ listed_kind byte };
+
+    fn try_from(byte: u64) -> Result<Kind, Unlisted> {
+        match byte {
+            1 => Ok(Kind::Gather),
+            2 => Ok(Kind::Scatter),
+            _ => Err(Unlisted),
+        }
+    }
+}
+
+impl From<Element> for u64 {
+    ghost from_gives = { λ element byte. byte ≡ element_byte element };
+
+    fn from(element: Element) -> u64 {
+        match element {
+            Element::I32 => 1,
+            Element::F64 => 2,
+        }
+    }
+}
+
+impl TryFrom<u64> for Element {
+    type Error = Unlisted;
+
+    ghost try_from_gives = { λ byte element. element ≡ listed_element byte };
+
+    fn try_from(byte: u64) -> Result<Element, Unlisted> {
+        match byte {
+            1 => Ok(Element::I32),
+            2 => Ok(Element::F64),
+            _ => Err(Unlisted),
+        }
+    }
 }
 
 // A list of up to `LIST_LIMIT` entries. Past the count stand zeros.
@@ -27,6 +82,15 @@ pub enum Element {
 pub struct List16 {
     pub count: usize,
     pub entries: [u64; LIST_LIMIT],
+}
+
+impl List16 {
+    // The entries that count.
+    pub fn counted(&self) -> &[u64]
+        ensures { result.now ≡ entries_of self.now }
+    {
+        &self.entries[..self.count.min(LIST_LIMIT)]
+    }
 }
 
 // In view order. Gather: operand, index, destination; scatter: index, updates, destination.
@@ -66,60 +130,33 @@ pub struct MadeJob {
 pub fn no_view() -> View
     ensures { result ≡ view_of [] [] (pos 0) }
 {
-    let extents = [1u64; RAW_FUSED_RANK_LIMIT];
-    let strides = [0i64; RAW_FUSED_RANK_LIMIT];
-    View {
-        layout: Layout {
-            rank: 0,
-            extents,
-            strides,
-        },
-        offset: 0,
-    }
+    view_from(&[], &[], 0)
 }
 
 pub fn no_list() -> List16
     ensures { result ≡ held_list [] }
 {
-    let entries = [0u64; LIST_LIMIT];
-    List16 { count: 0, entries }
-}
-
-pub fn no_spec() -> Spec
-    ensures { result ≡ spec_of [] [] [] 0 [] }
-{
-    let window_dims = no_list();
-    let unit_dims = no_list();
-    let start_map = no_list();
-    let slice_sizes = no_list();
-    Spec {
-        window_dims,
-        unit_dims,
-        start_map,
-        index_vector_dim: 0,
-        slice_sizes,
-    }
+    list_from(&[])
 }
 
 pub fn no_job() -> Job
     ensures { result ≡ no_job }
 {
-    let kind = Kind::Gather;
-    let element = Element::I32;
-    let first = no_view();
-    let second = no_view();
-    let third = no_view();
-    let views = Views {
-        first,
-        second,
-        third,
-    };
-    let spec = no_spec();
     Job {
-        kind,
-        element,
-        views,
-        spec,
+        kind: Kind::Gather,
+        element: Element::I32,
+        views: Views {
+            first: no_view(),
+            second: no_view(),
+            third: no_view(),
+        },
+        spec: Spec {
+            window_dims: no_list(),
+            unit_dims: no_list(),
+            start_map: no_list(),
+            index_vector_dim: 0,
+            slice_sizes: no_list(),
+        },
     }
 }
 
@@ -127,13 +164,11 @@ pub fn no_job() -> Job
 pub fn view_from(extents: &[u64], strides: &[i64], offset: i64) -> View
     ensures { result ≡ view_of extents.now strides.now offset }
 {
-    let e = layout::padded_extents(extents);
-    let s = layout::padded_strides(strides);
     View {
         layout: Layout {
             rank: extents.len(),
-            extents: e,
-            strides: s,
+            extents: layout::padded_extents(extents),
+            strides: layout::padded_strides(strides),
         },
         offset,
     }
@@ -143,12 +178,9 @@ pub fn view_from(extents: &[u64], strides: &[i64], offset: i64) -> View
 pub fn list_from(list: &[u64]) -> List16
     ensures { result ≡ held_list list.now }
 {
+    let n = list.len().min(LIST_LIMIT);
     let mut entries = [0u64; LIST_LIMIT];
-    let mut i: usize = 0;
-    while i < LIST_LIMIT && i < list.len() {
-        entries[i] = list[i];
-        i += 1;
-    }
+    entries[..n].copy_from_slice(&list[..n]);
     List16 {
         count: list.len(),
         entries,
@@ -166,23 +198,25 @@ fn check_rank(n: usize) -> Answer
     }
 }
 
-// 1 for all views, then 2: the counts of extents and of strides.
+// 1 for all views, given the counts of their strides, then 2.
+#[tactic(auto, unfolding(crate::specs::Jobs::views_refusal))]
 fn check_views(
-    first_extents: usize,
+    views: Views,
     first_strides: usize,
-    second_extents: usize,
     second_strides: usize,
-    third_extents: usize,
     third_strides: usize,
 ) -> Answer
-    ensures { result ≡ views_refusal first_extents first_strides second_extents second_strides third_extents third_strides }
+    ensures { result ≡ views_refusal views.first.layout.rank first_strides views.second.layout.rank second_strides views.third.layout.rank third_strides }
 {
-    let a = layout::check_stride_length(first_extents, first_strides);
-    let b = layout::check_stride_length(second_extents, second_strides);
-    let c = layout::check_stride_length(third_extents, third_strides);
-    let d = check_rank(first_extents);
-    let e = check_rank(second_extents);
-    let f = check_rank(third_extents);
+    let first = views.first.layout.rank;
+    let second = views.second.layout.rank;
+    let third = views.third.layout.rank;
+    let a = layout::check_stride_length(first, first_strides);
+    let b = layout::check_stride_length(second, second_strides);
+    let c = layout::check_stride_length(third, third_strides);
+    let d = check_rank(first);
+    let e = check_rank(second);
+    let f = check_rank(third);
     let ranks = checks::or_else(d, checks::or_else(e, f));
     checks::or_else(a, checks::or_else(b, checks::or_else(c, ranks)))
 }
@@ -198,16 +232,6 @@ fn check_list(n: usize) -> Answer
     }
 }
 
-fn check_lists(window: List16, unit: List16, map: List16, sizes: List16) -> Answer
-    ensures { result ≡ lists_refusal window.count unit.count map.count sizes.count }
-{
-    let a = check_list(window.count);
-    let b = check_list(unit.count);
-    let c = check_list(map.count);
-    let d = check_list(sizes.count);
-    checks::or_else(a, checks::or_else(b, checks::or_else(c, d)))
-}
-
 // The slice sizes that are stored: of a scatter none.
 fn stored_sizes(kind: Kind, sizes: List16) -> List16
     ensures { result ≡ stored_sizes kind sizes }
@@ -218,23 +242,28 @@ fn stored_sizes(kind: Kind, sizes: List16) -> List16
     }
 }
 
+// 5 for the lists as they are declared.
+#[tactic(auto, unfolding(crate::specs::Jobs::lists_refusal))]
+fn check_lists(kind: Kind, spec: Spec) -> Answer
+    ensures { result ≡ lists_refusal spec.window_dims.count spec.unit_dims.count spec.start_map.count (stored_sizes kind spec.slice_sizes).count }
+{
+    let a = check_list(spec.window_dims.count);
+    let b = check_list(spec.unit_dims.count);
+    let c = check_list(spec.start_map.count);
+    let d = check_list(stored_sizes(kind, spec.slice_sizes).count);
+    checks::or_else(a, checks::or_else(b, checks::or_else(c, d)))
+}
+
 // 2 and 5 of a job by value, whoever made it.
 pub fn job_refusal(job: Job) -> Answer
     ensures { result ≡ job_refusal job }
 {
-    let kind = job.kind;
     let views = job.views;
-    let spec = job.spec;
     let first = views.first.layout.rank;
     let second = views.second.layout.rank;
     let third = views.third.layout.rank;
-    let window = spec.window_dims;
-    let unit = spec.unit_dims;
-    let map = spec.start_map;
-    let slice_sizes = spec.slice_sizes;
-    let sizes = stored_sizes(kind, slice_sizes);
-    let a = check_views(first, first, second, second, third, third);
-    let b = check_lists(window, unit, map, sizes);
+    let a = check_views(views, first, second, third);
+    let b = check_lists(job.kind, job.spec);
     checks::or_else(a, b)
 }
 
@@ -250,49 +279,22 @@ fn made_job(answer: Answer, job: Job) -> MadeJob
     }
 }
 
-// A job from its parts: refusals 1, 2, 5, or the job.
-fn make_job(
-    kind: Kind,
-    element: Element,
-    first_extents: &[u64],
-    first_strides: &[i64],
-    first_offset: i64,
-    second_extents: &[u64],
-    second_strides: &[i64],
-    second_offset: i64,
-    third_extents: &[u64],
-    third_strides: &[i64],
-    third_offset: i64,
-    window_dims: &[u64],
-    unit_dims: &[u64],
-    start_map: &[u64],
-    index_vector_dim: u64,
-    slice_sizes: &[u64],
+// The job, given the counts of the strides that were lent: refusals 1, 2, 5, or the job.
+fn checked_job(
+    job: Job,
+    first_strides: usize,
+    second_strides: usize,
+    third_strides: usize,
 ) -> MadeJob
-    ensures { result ≡ job_from kind element first_extents.now first_strides.now first_offset second_extents.now second_strides.now second_offset third_extents.now third_strides.now third_offset window_dims.now unit_dims.now start_map.now index_vector_dim slice_sizes.now }
+    ensures { result ≡ made_job (or_else (views_refusal job.views.first.layout.rank first_strides job.views.second.layout.rank second_strides job.views.third.layout.rank third_strides) (lists_refusal job.spec.window_dims.count job.spec.unit_dims.count job.spec.start_map.count (stored_sizes job.kind job.spec.slice_sizes).count)) job }
 {
-    let a = check_views(
-        first_extents.len(),
-        first_strides.len(),
-        second_extents.len(),
-        second_strides.len(),
-        third_extents.len(),
-        third_strides.len(),
-    );
-    let first = view_from(first_extents, first_strides, first_offset);
-    let second = view_from(second_extents, second_strides, second_offset);
-    let third = view_from(third_extents, third_strides, third_offset);
-    let window = list_from(window_dims);
-    let unit = list_from(unit_dims);
-    let map = list_from(start_map);
-    let sizes = list_from(slice_sizes);
-    let b = check_lists(window, unit, map, sizes);
-    let spec = spec_from(window, unit, map, index_vector_dim, sizes);
-    let job = job_from(kind, element, first, second, third, spec);
+    let a = check_views(job.views, first_strides, second_strides, third_strides);
+    let b = check_lists(job.kind, job.spec);
     made_job(checks::or_else(a, b), job)
 }
 
 // A gather from its parts.
+#[tactic(auto, unfolding(crate::specs::Jobs::job_from))]
 pub fn make_gather_job(
     element: Element,
     operand_extents: &[u64],
@@ -312,27 +314,34 @@ pub fn make_gather_job(
 ) -> MadeJob
     ensures { result ≡ job_from K.Gather element operand_extents.now operand_strides.now operand_offset index_extents.now index_strides.now index_offset dest_extents.now dest_strides.now dest_offset offset_dims.now collapsed_slice_dims.now start_index_map.now index_vector_dim slice_sizes.now }
 {
-    make_job(
-        Kind::Gather,
-        element,
-        operand_extents,
-        operand_strides,
-        operand_offset,
-        index_extents,
-        index_strides,
-        index_offset,
-        dest_extents,
-        dest_strides,
-        dest_offset,
-        offset_dims,
-        collapsed_slice_dims,
-        start_index_map,
+    let views = Views {
+        first: view_from(operand_extents, operand_strides, operand_offset),
+        second: view_from(index_extents, index_strides, index_offset),
+        third: view_from(dest_extents, dest_strides, dest_offset),
+    };
+    let spec = Spec {
+        window_dims: list_from(offset_dims),
+        unit_dims: list_from(collapsed_slice_dims),
+        start_map: list_from(start_index_map),
         index_vector_dim,
-        slice_sizes,
+        slice_sizes: list_from(slice_sizes),
+    };
+    let job = Job {
+        kind: Kind::Gather,
+        element,
+        views,
+        spec,
+    };
+    checked_job(
+        job,
+        operand_strides.len(),
+        index_strides.len(),
+        dest_strides.len(),
     )
 }
 
 // A scatter from its parts.
+#[tactic(auto, unfolding(crate::specs::Jobs::job_from))]
 pub fn make_scatter_job(
     element: Element,
     index_extents: &[u64],
@@ -351,56 +360,28 @@ pub fn make_scatter_job(
 ) -> MadeJob
     ensures { result ≡ job_from K.Scatter element index_extents.now index_strides.now index_offset update_extents.now update_strides.now update_offset dest_extents.now dest_strides.now dest_offset update_window_dims.now inserted_window_dims.now scatter_dims_to_operand_dims.now index_vector_dim [] }
 {
-    let none = [0u64; 1];
-    make_job(
-        Kind::Scatter,
-        element,
-        index_extents,
-        index_strides,
-        index_offset,
-        update_extents,
-        update_strides,
-        update_offset,
-        dest_extents,
-        dest_strides,
-        dest_offset,
-        update_window_dims,
-        inserted_window_dims,
-        scatter_dims_to_operand_dims,
+    let views = Views {
+        first: view_from(index_extents, index_strides, index_offset),
+        second: view_from(update_extents, update_strides, update_offset),
+        third: view_from(dest_extents, dest_strides, dest_offset),
+    };
+    let spec = Spec {
+        window_dims: list_from(update_window_dims),
+        unit_dims: list_from(inserted_window_dims),
+        start_map: list_from(scatter_dims_to_operand_dims),
         index_vector_dim,
-        &none[0..0],
-    )
-}
-
-fn spec_from(
-    window_dims: List16,
-    unit_dims: List16,
-    start_map: List16,
-    index_vector_dim: u64,
-    slice_sizes: List16,
-) -> Spec
-    ensures { result ≡ record { window_dims = window_dims; unit_dims = unit_dims; start_map = start_map; index_vector_dim = index_vector_dim; slice_sizes = slice_sizes } }
-{
-    Spec {
-        window_dims,
-        unit_dims,
-        start_map,
-        index_vector_dim,
-        slice_sizes,
-    }
-}
-
-fn job_from(kind: Kind, element: Element, first: View, second: View, third: View, spec: Spec) -> Job
-    ensures { result ≡ record { kind = kind; element = element; views = views_of first second third; spec = spec } }
-{
-    Job {
-        kind,
+        slice_sizes: no_list(),
+    };
+    let job = Job {
+        kind: Kind::Scatter,
         element,
-        views: Views {
-            first,
-            second,
-            third,
-        },
+        views,
         spec,
-    }
+    };
+    checked_job(
+        job,
+        index_strides.len(),
+        update_strides.len(),
+        dest_strides.len(),
+    )
 }

@@ -4,7 +4,6 @@ use mathlib.Core.Bool.{Bool, true, false, cond, ◌&&◌}
 use mathlib.Core.List.{List, [], ◌∷◌, ◌++◌}
 use Prim.Native.Nat.{ℕ, zero, suc, ◌+◌, ◌*◌, ◌/◌, ◌%◌, ◌^◌, ◌≤◌, ◌<◌}
 use native.Mathlib.Nat.{mul-le-mul_right, mod-one, mod-eq_of_lt, mul-add-mod_self_right}
-use native.Mathlib.Numerals.{add-one}
 use native.Mathlib.Omega.{arith}
 use lib.Dec.{leb}
 use lib.ListN.{length, take, drop, length-append, length-take, length-drop}
@@ -12,14 +11,11 @@ use lib.Seq.{take-append_seam, drop-append_seam, take-add, take-take, take-lengt
 use lib.Pow.{mod-pow-add, high}
 use Rattle.job_bytes.specs.Fields.{Field, read, fault, and_then, bytes_of, words_of, number_from, number_at, byte_at, words_at}
 use Rattle.job_bytes.specs.Below.{AllBelow, none, more}
-use Rattle.job_bytes.proofs.Counting.{eight-more}
+use Rattle.job_bytes.proofs.Bytes.{eight-suc}
 use Rattle.job_bytes.proofs.Putting.{length-bytes}
 use Rattle.job_bytes.proofs.Reading.{then-read, number-here, number-room, byte-here, fault-read}
 
 -- ---- a number and its bytes
-eight-suc : (k : ℕ) → 2 ^ (8 * suc k) ≡ 2 ^ (8 * k) * 256
-eight-suc k = ap (λ (i : ℕ). 2 ^ (8 * i)) (sym (add-one k)) ∙ eight-more k
-
 number-bytes : (k acc v : ℕ) → number_from acc (bytes_of k v) ≡ acc * 2 ^ (8 * k) + v % 2 ^ (8 * k)
 unfolding bytes_of number_from
 number-bytes zero acc v = omega (arith, mod-one v)

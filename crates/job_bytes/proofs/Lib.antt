@@ -1,5 +1,5 @@
-pub mod Counting
+pub mod Bytes
 pub mod Putting
 pub mod Reading
-pub mod Signs
 pub mod Back
+pub mod Signs

@@ -1,12 +1,18 @@
 -- Numbers and words stored byte by byte. Assumes nothing.
 use mathlib.Core.Path.{◌≡◌, refl, sym, ap, ◌∙◌}
-use mathlib.Core.List.{List, [], ◌∷◌, ◌++◌}
-use Prim.Native.Nat.{ℕ, zero, suc, ◌+◌, ◌-◌, ◌*◌, ◌/◌, ◌%◌, ◌^◌, ◌≤◌, ◌<◌}
+use mathlib.Core.List.{List, [], ◌∷◌, ◌++◌, append_assoc}
+use Prim.Native.Nat.{ℕ, zero, suc, ◌+◌, ◌-◌, ◌*◌, ◌≤◌, ◌<◌}
 use native.Mathlib.Numerals.{add-one}
 use native.Mathlib.Omega.{arith}
-use lib.ListN.{length, drop, get_or, set, length-set, length-append, drop_of_length-le}
-use lib.Seq.{sets, length-sets, drop-cons}
+use lib.ListN.{length, take, drop, get_or, set, length-append, drop_of_length-le}
+use lib.Seq.{sets, length-sets, drop-cons, take_all}
+use Rattle.std.proofs.lemmas.List.Edits.{sets-eq, paste_all}
+use Rattle.std.proofs.lemmas.Slice.{put_mid-paste}
+use Rattle.std.specs.Int.{w64, to_be_bytes}
+use Rattle.std.specs.List.{between}
+use borrow.Rule.Slice.PartMut.{put_mid}
 use Rattle.job_bytes.specs.Fields.{bytes_of, words_of}
+use Rattle.job_bytes.proofs.Bytes.{bytes-high, bytes_last}
 
 -- one run of stores behind another
 pub sets-append : (l : List ℕ) (i : ℕ) (xs ys : List ℕ) → sets l i (xs ++ ys) ≡ sets (sets l i xs) (i + length xs) ys
@@ -23,38 +29,7 @@ unfolding words_of
 length-words [] = refl
 length-words (w ∷ ws) = omega (arith, length-append (bytes_of 8 w) (words_of ws), length-bytes 8 w, length-words ws)
 
--- after i bytes of a number: the rest stored gives all of it stored
-pub record Putting (l₀ : List ℕ) (at width v : ℕ) (l : List ℕ) (i : ℕ) : Type 0 where
-  pub here : i ≤ width
-  pub same : length l ≡ length l₀
-  pub left : sets l (at + i) (bytes_of (width - i) v) ≡ sets l₀ at (bytes_of width v)
-
-pub none-put : (l : List ℕ) (at width v : ℕ) → Putting l at width v l 0
-none-put l at width v =
-    let e : width - 0 ≡ width = omega arith in
-    let f : at + 0 ≡ at = omega arith in
-    record { here = omega arith; same = refl; left = rw (e, f) }
-
-pub one-put : (l₀ : List ℕ) (at width v : ℕ) (l : List ℕ) (i d : ℕ) → i < width → d ≡ v / 2 ^ (8 * (width - 1 - i)) % 256 → Putting l₀ at width v l i → Putting l₀ at width v (set l (at + i) d) (i + 1)
-unfolding bytes_of
-one-put l₀ at width v l i d h e p =
-    record {
-      here = omega arith;
-      same = length-set l (at + i) d ∙ p.same;
-      left = sym (turn (omega arith) (omega arith) (omega arith)) ∙ p.left;
-    }
-  where
-    turn : width - i ≡ suc (width - (i + 1)) → width - 1 - i ≡ width - (i + 1) → at + (i + 1) ≡ suc (at + i) → sets l (at + i) (bytes_of (width - i) v) ≡ sets (set l (at + i) d) (at + (i + 1)) (bytes_of (width - (i + 1)) v)
-    turn n m p = rw (n, e, m, p)
-
-pub all-put : (l₀ : List ℕ) (at width v : ℕ) (l : List ℕ) (i : ℕ) → width ≤ i → Putting l₀ at width v l i → l ≡ sets l₀ at (bytes_of width v)
-unfolding bytes_of
-all-put l₀ at width v l i h p = none (omega arith) ∙ p.left
-  where
-    none : width - i ≡ 0 → l ≡ sets l (at + i) (bytes_of (width - i) v)
-    none n = rw n
-
--- the same of words
+-- after i words: the rest stored gives all of them stored
 pub record PuttingWords (l₀ : List ℕ) (at : ℕ) (ws : List ℕ) (l : List ℕ) (i : ℕ) : Type 0 where
   pub here : i ≤ length ws
   pub same : length l ≡ length l₀
@@ -83,3 +58,15 @@ all-words-put l₀ at ws l i h p = none (drop_of_length-le ws h) ∙ p.left
   where
     none : drop i ws ≡ [] → l ≡ sets l (at + 8 * i) (words_of (drop i ws))
     none n = rw n
+
+-- the last bytes of a word, stored as one part
+pub put-part : (out : List ℕ) (at width v : ℕ) (part : List ℕ) → at + width ≤ length out → width ≤ 8 → part ≡ between (8 - width) 8 (to_be_bytes w64 v) → put_mid at (at + width - at) out part ≡ sets out at (bytes_of width v)
+put-part out at width v part h w e =
+    let n : length (bytes_of width v) ≡ width = length-bytes width v in
+    let d : 8 - width + width ≡ 8 = omega arith in
+    let b : drop (8 - width) (to_be_bytes w64 v) ≡ bytes_of width v = ap (drop (8 - width)) (sym (bytes-high 8 v) ∙ ap (λ (k : ℕ). bytes_of k v) (sym d)) ∙ bytes_last (8 - width) width v in
+    let p : part ≡ bytes_of width v = e ∙ ap (take (8 - (8 - width))) b ∙ take_all (8 - (8 - width)) (bytes_of width v) (omega arith) in
+    put_mid-paste at (at + width - at) out part (bytes_of width v) width p (omega arith) (sym n)
+    ∙ paste_all out at (bytes_of width v) width (sym n)
+    ∙ ap (λ (k : ℕ). take at out ++ (bytes_of width v ++ drop (at + k) out)) (sym n)
+    ∙ sym (sets-eq (bytes_of width v) out at (omega arith) ∙ append_assoc (take at out) (bytes_of width v) (drop (at + length (bytes_of width v)) out))

@@ -8,21 +8,39 @@ use native.Mathlib.Omega.{arith}
 use borrow.Author.Tests.{le-leb, lt-leb, leb-true}
 use lib.Dec.{leb}
 use lib.ListN.{length, take, drop, get_or, set, replicate, length-set, take-append-drop}
-use lib.Seq.{take-suc-set, drop-set-lt, drop-cons, take_all, length-take-le, take-append_seam}
+use lib.Seq.{take-suc-set, drop-set-lt, drop-cons, take_all, length-take-le}
 use Rattle.layout.specs.Layouts.{padded}
-use Rattle.job_bytes.specs.Fields.{Field, read, fault, and_then, number_from, number_at, byte_at, words_at, held_number, held_words}
-use Rattle.job_bytes.specs.declared.Number.{Number}
-use Rattle.job_bytes.specs.declared.Words.{Words}
+use Rattle.layout.proofs.Fill.{padded-back}
+use Rattle.job_bytes.specs.Fields.{Field, read, fault, and_then, number_from, number_at, byte_at, words_at, held_as, held, held_words}
+use Rattle.job_bytes.specs.declared.Read.{Read}
+use Rattle.job_bytes.specs.declared.Fault.{Fault}
+use Rattle.std.proofs.Common.{Result, Ok, Err}
 use Rattle.job_bytes.specs.Version.{list_limit}
 
--- what a number handed back says of the field
-pub number_read : (f : Field ℕ) (r : Number) → r ≡ held_number f → r.ok ≡ true → f ≡ read r.value r.at
-number_read (read v k) r e h = rw e
-number_read (fault k) r e h = let z : false ≡ true = sym (ap (λ (n : Number). n.ok) e) ∙ h in cc
+-- what is handed back of a field tells of it: where it is at fault, and what was read
+pub stopped : {A B : Type 0} (g : A → B) (f : Field A) (e : Fault) → Err e ≡ held_as g f → f ≡ fault e.at
+stopped g (read x k) e h = cc
+stopped g (fault k) e h = let p : e ≡ record { at = k } = cc in rw p
 
-pub number-fault : (f : Field ℕ) (r : Number) → r ≡ held_number f → r.ok ≡ false → f ≡ fault r.at
-number-fault (read v k) r e h = let z : true ≡ false = sym (ap (λ (n : Number). n.ok) e) ∙ h in cc
-number-fault (fault k) r e h = rw e
+-- what was read, of which the value handed back is one form
+pub record Got {A B : Type 0} (g : A → B) (f : Field A) (r : Read B) : Type 0 where
+  pub value : A
+  pub is : f ≡ read value r.at
+  pub made : r.value ≡ g value
+
+pub got : {A B : Type 0} (g : A → B) (f : Field A) (r : Read B) → Ok r ≡ held_as g f → Got g f r
+got g (read x k) r h = let p : r ≡ record { value = g x; at = k } = cc in record { value = x; is = rw p; made = rw p }
+got g (fault k) r h = absurd cc
+
+pub was_read : {A : Type 0} (f : Field A) (r : Read A) → Ok r ≡ held f → f ≡ read r.value r.at
+was_read f r h = let p = got (λ x. x) f r h in p.is ∙ ap (λ x. read x r.at) (sym p.made)
+
+pub gives : {A B : Type 0} (g : A → B) (f : Field A) (x : A) (k : ℕ) (y : B) → f ≡ read x k → y ≡ g x → Ok (record { value = y; at = k }) ≡ held_as g f
+gives g f x k y e h = rw (e, h)
+
+-- a fault that `?` passes on
+pub passed_on : {A B : Type 0} (g : A → B) (f : Field A) (e x : Fault) (r : Result (Read B) Fault) → r ≡ Err x → x ≡ e → f ≡ fault e.at → r ≡ held_as g f
+passed_on g f e x r p q h = p ∙ ap (λ (y : Fault). Err y) q ∙ sym (ap (held_as g) h)
 
 -- words in front of those that are read
 abbrev pub ahead : List ℕ → Field (List ℕ) → Field (List ℕ)
@@ -80,11 +98,11 @@ module _ (n : ℕ) (bs : List ℕ) (at : ℕ) (out : List ℕ) (place i : ℕ) (
             ∙ r.left));
       }
 
-pub all_words : (n : ℕ) (bs : List ℕ) (at : ℕ) (out : List ℕ) (place i : ℕ) → n ≤ list_limit → n ≤ i → Reading n bs at out place i → record { ok = true; at = place; entries = out } ≡ held_words (words_at n bs at)
+pub all_words : (n : ℕ) (bs : List ℕ) (at : ℕ) (out : List ℕ) (place i : ℕ) → n ≤ list_limit → n ≤ i → Reading n bs at out place i → Ok (record { value = out; at = place }) ≡ held_words (words_at n bs at)
 unfolding words_at padded
 all_words n bs at out place i m h r = let e : i ≡ n = omega (arith, r.here) in go e
   where
-    go : i ≡ n → record { ok = true; at = place; entries = out } ≡ held_words (words_at n bs at)
+    go : i ≡ n → Ok (record { value = out; at = place }) ≡ held_words (words_at n bs at)
     go e =
         let z : n - i ≡ 0 = omega arith in
         let f : words_at n bs at ≡ read (take i out) place = sym r.left ∙ rw z (ap (λ (l : List ℕ). read l place) (append-nil (take i out))) in
@@ -151,25 +169,12 @@ words_count (suc n) bs at ws k e =
     sym (ap length f) ∙ ap suc (words_count n bs a.1 b.0 b.1 b.2)
 
 -- what words handed back say of them
-module _ (n : ℕ) (bs : List ℕ) (at : ℕ) (r : Words) (e : r ≡ held_words (words_at n bs at)) where
-  pub words-read : n ≤ list_limit → r.ok ≡ true → words_at n bs at ≡ read (take n r.entries) r.at
-  unfolding padded
-  words-read m h = go (words_at n bs at) refl
-    where
-      go : (f : Field (List ℕ)) → words_at n bs at ≡ f → words_at n bs at ≡ read (take n r.entries) r.at
-      go (read ws k) q =
-          let s : length ws ≡ n = words_count n bs at ws k q in
-          let g : r ≡ held_words (read ws k) = e ∙ ap held_words q in
-          let b : take n (padded list_limit 0 ws) ≡ ws = rw (take_all list_limit ws (omega arith), ← s) (take-append_seam ws (replicate (list_limit - length ws) 0)) in
-          rw (g, b) q
-      go (fault k) q = let z : false ≡ true = sym (ap (λ (w : Words). w.ok) (e ∙ ap held_words q)) ∙ h in cc
-
-  pub words-fault : r.ok ≡ false → words_at n bs at ≡ fault r.at
-  words-fault h = go (words_at n bs at) refl
-    where
-      go : (f : Field (List ℕ)) → words_at n bs at ≡ f → words_at n bs at ≡ fault r.at
-      go (read ws k) q = let z : true ≡ false = sym (ap (λ (w : Words). w.ok) (e ∙ ap held_words q)) ∙ h in cc
-      go (fault k) q = rw (e ∙ ap held_words q) q
+pub words-read : (n : ℕ) (bs : List ℕ) (at : ℕ) (r : Read (List ℕ)) → n ≤ list_limit → Ok r ≡ held_words (words_at n bs at) → words_at n bs at ≡ read (take n r.value) r.at
+words-read n bs at r m h =
+    let p = got (padded list_limit 0) (words_at n bs at) r h in
+    let s : length p.value ≡ n = words_count n bs at p.value r.at p.is in
+    let b : take n (padded list_limit 0 p.value) ≡ p.value = padded-back list_limit 0 n p.value (sym s) (omega arith) in
+    p.is ∙ ap (λ (ws : List ℕ). read ws r.at) (sym b ∙ ap (take n) (sym p.made))
 
 pub number-room : (n : ℕ) (bs : List ℕ) (at v k : ℕ) → number_at n bs at ≡ read v k → (k ≡ at + n) × (at + n ≤ length bs)
 unfolding number_at

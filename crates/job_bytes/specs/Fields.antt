@@ -1,11 +1,11 @@
 -- To be believed. Document 01, "The stored job": numbers as bytes, and fields as they are read, one after another. Definitions only.
-use Rattle.std.specs.Prelude.{true, false, cond, ◌&&◌, List, [], ◌∷◌, ◌++◌, ℕ, zero, suc, ◌+◌, ◌*◌, ◌/◌, ◌%◌, ◌^◌, leb, length, take, drop, replicate, ℤ}
+use Rattle.std.specs.Prelude.{cond, ◌&&◌, List, [], ◌∷◌, ◌++◌, ℕ, zero, suc, ◌+◌, ◌*◌, ◌/◌, ◌%◌, ◌^◌, leb, length, take, drop, ℤ, Result, Ok, Err}
 use Rattle.std.specs.Int.{w64}
 use Rattle.std.proofs.Common.{of_z, to_z}
 use Rattle.layout.specs.Layouts.{padded}
 use Rattle.job_bytes.specs.Version.{list_limit}
-use Rattle.job_bytes.specs.declared.Number.{Number}
-use Rattle.job_bytes.specs.declared.Words.{Words}
+use Rattle.job_bytes.specs.declared.Read.{Read}
+use Rattle.job_bytes.specs.declared.Fault.{Fault}
 
 -- "Big-endian": v in k bytes, the highest first
 unfoldable pub bytes_of : ℕ → ℕ → List ℕ
@@ -52,11 +52,14 @@ unfoldable pub words_at : ℕ → List ℕ → ℕ → Field (List ℕ)
 words_at zero bs at = read [] at
 words_at (suc n) bs at = and_then (number_at 8 bs at) (λ w k. and_then (words_at n bs k) (λ ws m. read (w ∷ ws) m))
 
--- fields as they are handed back by value: zeros where none was read
-abbrev pub held_number : Field ℕ → Number
-held_number (read v k) = record { ok = true; at = k; value = v }
-held_number (fault k) = record { ok = false; at = k; value = 0 }
+-- a field as it is handed back by value: what was read, made into a value of the machine, with the place after it; or the place of the field at fault
+abbrev pub held_as : {A B : Type 0} → (A → B) → Field A → Result (Read B) Fault
+held_as g (read x k) = Ok (record { value = g x; at = k })
+held_as g (fault k) = Err (record { at = k })
 
-abbrev pub held_words : Field (List ℕ) → Words
-held_words (read ws k) = record { ok = true; at = k; entries = padded list_limit 0 ws }
-held_words (fault k) = record { ok = false; at = k; entries = replicate list_limit 0 }
+abbrev pub held : {A : Type 0} → Field A → Result (Read A) Fault
+held f = held_as (λ x. x) f
+
+-- words, with zeros behind them
+abbrev pub held_words : Field (List ℕ) → Result (Read (List ℕ)) Fault
+held_words f = held_as (padded list_limit 0) f

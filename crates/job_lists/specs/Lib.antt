@@ -1,2 +1,2 @@
--- What the reader of views and lists hands back.
+-- What the reader of lists hands back.
 pub mod Held

@@ -1,24 +1,23 @@
 -- The parts of a job, read field after field: where one is at fault, and what they come to. Assumes nothing.
 use mathlib.Core.Path.{◌≡◌, sym, ap, ◌∙◌}
-use mathlib.Core.Bool.{true, false}
 use mathlib.Core.List.{List}
 use Prim.Native.Nat.{ℕ, ◌+◌}
 use borrow.Author.Tests.{eq-eqb, ne_eqb}
 use lib.ListN.{length}
 use Rattle.layout.specs.declared.View.{View}
 use Rattle.job_bytes.specs.Fields.{Field, read, fault, number_at, byte_at}
+use Rattle.std.proofs.Common.{Ok}
+use Rattle.job_bytes.specs.declared.Read.{Read}
+use Rattle.job_bytes.proofs.Reading.{got}
+use Rattle.job_reader.specs.declared.Head.{Head}
+use Rattle.job_reader.specs.Held.{head_of, held_head}
 use Rattle.job.specs.declared.Kind.{Kind}
 use Rattle.job.specs.declared.Element.{Element}
-use Rattle.job.specs.declared.List16.{List16}
 use Rattle.job.specs.declared.Views.{Views}
 use Rattle.job.specs.declared.Spec.{Spec}
-use Rattle.job_reader.specs.declared.ReadViews.{ReadViews}
-use Rattle.job_reader.specs.declared.ReadSpec.{ReadSpec}
-use Rattle.job_reader.specs.declared.ReadHead.{ReadHead}
-use Rattle.job.specs.Jobs.{held_list, views_of, spec_of}
+use Rattle.job.specs.Jobs.{views_of, spec_of}
 use Rattle.job.specs.Format.{kind_of, element_of, view_at, views_at, list_at, sizes_at, spec_at, count_at, head_at, job_at}
 use Rattle.job_bytes.specs.Version.{version}
-use Rattle.job_reader.specs.Held.{held_views, held_spec, held_head}
 
 -- ---- three views
 module _ (bs : List ℕ) (at : ℕ) where
@@ -37,14 +36,6 @@ module _ (bs : List ℕ) (at : ℕ) where
   pub views-4 : (a : View) (k : ℕ) (b : View) (l : ℕ) (c : View) (m : ℕ) → view_at bs at ≡ read a k → view_at bs k ≡ read b l → view_at bs l ≡ read c m → views_at bs at ≡ read (views_of a b c) m
   unfolding views_at
   views-4 a k b l c m e f g = rw (e, f, g)
-
-pub got-views : (f : Field Views) (r : ReadViews) → r ≡ held_views f → r.ok ≡ true → f ≡ read r.views r.at
-got-views (read v k) r e h = rw e
-got-views (fault k) r e h = let z : false ≡ true = sym (ap (λ (n : ReadViews). n.ok) e) ∙ h in cc
-
-pub no-views : (f : Field Views) (r : ReadViews) → r ≡ held_views f → r.ok ≡ false → f ≡ fault r.at
-no-views (read v k) r e h = let z : true ≡ false = sym (ap (λ (n : ReadViews). n.ok) e) ∙ h in cc
-no-views (fault k) r e h = rw e
 
 -- ---- a spec
 module _ (kind : Kind) (bs : List ℕ) (at : ℕ) where
@@ -71,18 +62,6 @@ module _ (kind : Kind) (bs : List ℕ) (at : ℕ) where
   pub spec-6 : (a : List ℕ) (k : ℕ) (b : List ℕ) (l : ℕ) (c : List ℕ) (m v o : ℕ) (d : List ℕ) (p : ℕ) → list_at bs at ≡ read a k → list_at bs k ≡ read b l → list_at bs l ≡ read c m → number_at 8 bs m ≡ read v o → sizes_at kind bs o ≡ read d p → spec_at kind bs at ≡ read (spec_of a b c v d) p
   unfolding spec_at
   spec-6 a k b l c m v o d p e f g h i = rw (e, f, g, h, i)
-
-pub got-spec : (f : Field Spec) (r : ReadSpec) → r ≡ held_spec f → r.ok ≡ true → f ≡ read r.spec r.at
-got-spec (read v k) r e h = rw e
-got-spec (fault k) r e h = let z : false ≡ true = sym (ap (λ (n : ReadSpec). n.ok) e) ∙ h in cc
-
-pub no-spec : (f : Field Spec) (r : ReadSpec) → r ≡ held_spec f → r.ok ≡ false → f ≡ fault r.at
-no-spec (read v k) r e h = let z : true ≡ false = sym (ap (λ (n : ReadSpec). n.ok) e) ∙ h in cc
-no-spec (fault k) r e h = rw e
-
-pub spec-held : (a b c d : List ℕ) (v p : ℕ) (x y z w : List16) → x ≡ held_list a → y ≡ held_list b → z ≡ held_list c → w ≡ held_list d
-    → record { ok = true; at = p; spec = record { window_dims = x; unit_dims = y; start_map = z; index_vector_dim = v; slice_sizes = w } } ≡ held_spec (read (spec_of a b c v d) p)
-spec-held a b c d v p x y z w e f g h = rw (e, f, g, h)
 
 -- ---- the count of bytes
 module _ (bs : List ℕ) where
@@ -140,13 +119,5 @@ module _ (bs : List ℕ) where
   unfolding job_at
   job-5 h k vs l s m e f g n = rw (e, f, g, eq-eqb m (length bs) n)
 
-pub head-held : (a b o : ℕ) (kind : Kind) (element : Element) → kind ≡ kind_of a → element ≡ element_of b → record { ok = true; at = o; kind = kind; element = element } ≡ held_head (read (kind_of a, element_of b) o)
-head-held a b o kind element e f = rw (e, f)
-
-pub got-head : (f : Field (Kind × Element)) (r : ReadHead) → r ≡ held_head f → r.ok ≡ true → f ≡ read (r.kind, r.element) r.at
-got-head (read v k) r e h = rw e
-got-head (fault k) r e h = let z : false ≡ true = sym (ap (λ (n : ReadHead). n.ok) e) ∙ h in cc
-
-pub no-head : (f : Field (Kind × Element)) (r : ReadHead) → r ≡ held_head f → r.ok ≡ false → f ≡ fault r.at
-no-head (read v k) r e h = let z : true ≡ false = sym (ap (λ (n : ReadHead). n.ok) e) ∙ h in cc
-no-head (fault k) r e h = rw e
+pub got-head : (f : Field (Kind × Element)) (r : Read Head) → Ok r ≡ held_head f → f ≡ read (r.value.kind, r.value.element) r.at
+got-head f r h = let p = got head_of f r h in p.is ∙ ap (λ (x : Head). read (x.kind, x.element) r.at) (sym p.made)

@@ -1,5 +1,5 @@
 -- Parts of a job as bytes: how many they are, and one stored behind another. Assumes nothing.
-use mathlib.Core.Path.{◌≡◌, refl, sym, ap, ap₂, ◌∙◌}
+use mathlib.Core.Path.{◌≡◌, refl, sym, ap, ap₂, subst, ◌∙◌}
 use mathlib.Core.Bool.{Bool, true, false, cond}
 use mathlib.Core.List.{List, [], ◌++◌, map}
 use Prim.Native.Nat.{ℕ, ◌+◌, ◌*◌, ◌≤◌, ◌<◌, min}
@@ -16,7 +16,6 @@ use Rattle.layout.specs.declared.Answer.TheVariants as A
 use Rattle.layout.specs.Answers.{is_done}
 use Rattle.layout.specs.declared.View.{View}
 use Rattle.layout.specs.Layouts.{rank_limit}
-use Rattle.spans.proofs.Parts.{take_count}
 use Rattle.job_bytes.specs.Fields.{bytes_of, words_of, word_of}
 use Rattle.job_bytes.proofs.Putting.{sets-append, length-bytes, length-words}
 use Rattle.job.specs.declared.Kind.{Kind}
@@ -26,7 +25,7 @@ use Rattle.job.specs.declared.Spec.{Spec}
 use Rattle.job.specs.declared.Job.{Job}
 use Rattle.job.specs.Jobs.{entries_of, job_refusal}
 use Rattle.job.specs.Format.{stored_extents, stored_strides, view_bytes, list_bytes, sizes_bytes, spec_bytes, views_bytes, body_bytes, encoded, view_most, list_most, views_most, spec_most, kind_byte, element_byte}
-use Rattle.job_bytes.specs.Version.{version, stored_rank_limit, list_limit, stored-held}
+use Rattle.job_bytes.specs.Version.{version, stored_rank_limit, stored-held}
 use Rattle.job_writer.specs.Written.{Put, PutJob, Written, Sized, room_refusal}
 
 -- ---- how many bytes
@@ -41,10 +40,10 @@ length-view v e s =
     let zs : List ℕ = bytes_of 8 (word_of v.offset) in
     omega (arith, stored-held, length-append (bytes_of 1 n) (xs ++ (ys ++ zs)), length-append xs (ys ++ zs), length-append ys zs, length-bytes 1 n, length-bytes 8 (word_of v.offset), length-words es, length-words (map word_of ss), length-map ss word_of, length-take (min v.layout.rank stored_rank_limit) v.layout.extents, length-take (min v.layout.rank stored_rank_limit) v.layout.strides)
 
-pub length-list : (l : List16) → length l.entries ≡ list_limit → length (list_bytes l) ≡ 1 + 8 * min l.count list_limit
+pub length-list : (l : List16) → length (list_bytes l) ≡ 1 + 8 * length (entries_of l)
 unfolding list_bytes
-length-list l e =
-    omega (arith, length-append (bytes_of 1 (length (entries_of l))) (words_of (entries_of l)), length-bytes 1 (length (entries_of l)), length-words (entries_of l), length-take l.count l.entries)
+length-list l =
+    omega (arith, length-append (bytes_of 1 (length (entries_of l))) (words_of (entries_of l)), length-bytes 1 (length (entries_of l)), length-words (entries_of l))
 
 -- ---- sums of sizes
 pub sized-two : (a b : List ℕ) (m n x y : ℕ) → Sized a m x → Sized b n y → Sized (a ++ b) (m + n) (x + y)
@@ -82,15 +81,13 @@ pub put_same : {before after part : List ℕ} {at next : ℕ} → Put before aft
 put_same {before} {after} {part} {at} {next} p = ap length p.cells ∙ length-sets before at part
 
 -- ---- the parts themselves
-pub put-list-is : (l : List16) (n at : ℕ) (before mid after : List ℕ) → length l.entries ≡ list_limit → n ≡ min l.count list_limit
-    → mid ≡ sets before at (bytes_of 1 n) → after ≡ sets mid (at + 1) (words_of (take n l.entries)) → Put before after at (list_bytes l) (at + 1 + 8 * n)
+pub put-list-is : (l : List16) (es : List ℕ) (at : ℕ) (before mid after : List ℕ) → es ≡ entries_of l
+    → mid ≡ sets before at (bytes_of 1 (length es)) → after ≡ sets mid (at + 1) (words_of es) → Put before after at (list_bytes l) (at + 1 + 8 * length es)
 unfolding list_bytes
-put-list-is l n at before mid after s h e f =
-    let t : take n l.entries ≡ entries_of l = take_count n l.count l.entries (omega arith) in
-    let m : n ≡ length (entries_of l) = omega (arith, length-take l.count l.entries) in
-    let p : Put before mid at (bytes_of 1 (length (entries_of l))) (at + 1) = put_of (rw (← m) e) (omega (arith, length-bytes 1 (length (entries_of l)))) in
-    let q : Put mid after (at + 1) (words_of (entries_of l)) (at + 1 + 8 * n) = put_of (rw (← t) f) (omega (arith, length-words (entries_of l))) in
-    put_then p q
+put-list-is l es at before mid after h e f =
+    let p : Put before mid at (bytes_of 1 (length es)) (at + 1) = put_of e (omega (arith, length-bytes 1 (length es))) in
+    let q : Put mid after (at + 1) (words_of es) (at + 1 + 8 * length es) = put_of f (omega (arith, length-words es)) in
+    subst (λ (xs : List ℕ). Put before after at (bytes_of 1 (length xs) ++ words_of xs) (at + 1 + 8 * length es)) h (put_then p q)
 
 pub put-view-is : (v : View) (n k at w : ℕ) (ws before a b c after : List ℕ) → length v.layout.extents ≡ rank_limit → length v.layout.strides ≡ rank_limit → n ≡ min v.layout.rank stored_rank_limit
     → ws ≡ map word_of v.layout.strides → w ≡ word_of v.offset → k ≡ 9 + 16 * n

@@ -2,14 +2,14 @@
 // entries than are stored is refused.
 #![tactic(auto)]
 
-ghost use Rattle.std.specs.Prelude.{◌≡◌, map, ◌+◌, ◌*◌, ◌≤◌, min, length};
+ghost use Rattle.std.specs.Prelude.{◌≡◌, map, ◌+◌, ◌*◌, ◌≤◌, length};
 ghost use Rattle.job_bytes.specs.Fields.{word_of};
-ghost use Rattle.job.specs.Format.{kind_byte, element_byte, view_bytes, list_bytes, sizes_bytes, spec_bytes, views_bytes, body_bytes, view_most, list_most, views_most, spec_most};
-ghost use Rattle.job_bytes.specs.Version.{stored_rank_limit, list_limit};
+ghost use Rattle.job.specs.Format.{view_bytes, list_bytes, sizes_bytes, spec_bytes, views_bytes, body_bytes, view_most, list_most, views_most, spec_most};
+ghost use Rattle.job_bytes.specs.Version.{stored_rank_limit};
 ghost use Rattle.job_writer.specs.Written.{Put, PutJob, Written, Sized};
 
-use job::{Element, Job, Kind, List16, Spec, Views};
-use job_bytes::{LIST_LIMIT, STORED_RANK_LIMIT, VERSION};
+use job::{Job, Kind, List16, Spec, Views};
+use job_bytes::{STORED_RANK_LIMIT, VERSION};
 use layout::{Answer, RAW_FUSED_RANK_LIMIT, View};
 
 // The stored size of a layout with its offset, by its rank.
@@ -22,50 +22,22 @@ fn layout_size(rank: usize) -> usize
     LAYOUT_SIZES[rank]
 }
 
-// How many axes of a layout are stored.
-fn stored_count(rank: usize) -> usize
-    ensures { result ≡ min rank stored_rank_limit }
-{
-    if rank < STORED_RANK_LIMIT {
-        rank
-    } else {
-        STORED_RANK_LIMIT
-    }
-}
-
 fn view_size(view: View) -> usize
     ensures { Sized (view_bytes view) view_most result }
 {
-    let l = view.layout;
-    let n = stored_count(l.rank);
-    layout_size(n)
+    layout_size(view.layout.rank.min(STORED_RANK_LIMIT))
 }
 
 fn views_size(views: Views) -> usize
     ensures { Sized (views_bytes views) views_most result }
 {
-    let first = views.first;
-    let second = views.second;
-    let third = views.third;
-    let a = view_size(first);
-    let b = view_size(second);
-    let c = view_size(third);
-    a + (b + c)
-}
-
-// How many entries of a list count.
-fn list_count(list: List16) -> usize
-    ensures { result ≡ min list.count list_limit }
-{
-    let n = list.count;
-    if n < LIST_LIMIT { n } else { LIST_LIMIT }
+    view_size(views.first) + (view_size(views.second) + view_size(views.third))
 }
 
 fn list_size(list: List16) -> usize
     ensures { Sized (list_bytes list) list_most result }
 {
-    let n = list_count(list);
-    1 + 8 * n
+    1 + 8 * list.counted().len()
 }
 
 fn sizes_size(kind: Kind, list: List16) -> usize
@@ -80,59 +52,25 @@ fn sizes_size(kind: Kind, list: List16) -> usize
 fn spec_size(kind: Kind, spec: Spec) -> usize
     ensures { Sized (spec_bytes kind spec) spec_most result }
 {
-    let window = spec.window_dims;
-    let unit = spec.unit_dims;
-    let map = spec.start_map;
-    let sizes = spec.slice_sizes;
-    let a = list_size(window);
-    let b = list_size(unit);
-    let c = list_size(map);
-    let d = sizes_size(kind, sizes);
-    a + (b + (c + (8 + d)))
+    let window = list_size(spec.window_dims);
+    let unit = list_size(spec.unit_dims);
+    let map = list_size(spec.start_map);
+    let sizes = sizes_size(kind, spec.slice_sizes);
+    window + (unit + (map + (8 + sizes)))
 }
 
 // The bytes that follow the count.
 fn body_size(job: Job) -> usize
     ensures { Sized (body_bytes job) (3 + (views_most + spec_most)) result }
 {
-    let kind = job.kind;
-    let views = job.views;
-    let spec = job.spec;
-    let a = views_size(views);
-    let b = spec_size(kind, spec);
-    3 + (a + b)
+    3 + (views_size(job.views) + spec_size(job.kind, job.spec))
 }
 
-fn kind_byte(kind: Kind) -> u64
-    ensures { result ≡ kind_byte kind }
-{
-    match kind {
-        Kind::Gather => 1,
-        Kind::Scatter => 2,
-    }
-}
-
-fn element_byte(element: Element) -> u64
-    ensures { result ≡ element_byte element }
-{
-    match element {
-        Element::I32 => 1,
-        Element::F64 => 2,
-    }
-}
-
-// Strides as words.
+// Strides as words, in two's complement.
 fn stride_words(strides: [i64; RAW_FUSED_RANK_LIMIT]) -> [u64; RAW_FUSED_RANK_LIMIT]
     ensures { result ≡ map word_of strides }
 {
-    let mut out = [0u64; RAW_FUSED_RANK_LIMIT];
-    let mut i: usize = 0;
-    while i < RAW_FUSED_RANK_LIMIT {
-        let stride = strides[i];
-        out[i] = job_bytes::word_of(stride);
-        i += 1;
-    }
-    out
+    strides.map(|stride| stride.cast_unsigned())
 }
 
 // Writes a layout with its offset from `at`.
@@ -140,17 +78,13 @@ fn put_view(out: &mut [u8], at: usize, view: View) -> usize
     requires { at + length (view_bytes view) ≤ length out.old }
     ensures { Put out.old out.new at (view_bytes view) result }
 {
-    let l = view.layout;
-    let extents = l.extents;
-    let strides = l.strides;
-    let offset = view.offset;
-    let n = stored_count(l.rank);
-    let words = stride_words(strides);
-    let word = job_bytes::word_of(offset);
+    let layout = view.layout;
+    let n = layout.rank.min(STORED_RANK_LIMIT);
+    let words = stride_words(layout.strides);
     job_bytes::put_number(out, at, 1, n as u64);
-    job_bytes::put_words(out, at + 1, &extents[..n]);
+    job_bytes::put_words(out, at + 1, &layout.extents[..n]);
     job_bytes::put_words(out, at + 1 + 8 * n, &words[..n]);
-    job_bytes::put_number(out, at + 1 + 16 * n, 8, word);
+    job_bytes::put_number(out, at + 1 + 16 * n, 8, view.offset.cast_unsigned());
     at + layout_size(n)
 }
 
@@ -158,23 +92,19 @@ fn put_views(out: &mut [u8], at: usize, views: Views) -> usize
     requires { at + length (views_bytes views) ≤ length out.old }
     ensures { Put out.old out.new at (views_bytes views) result }
 {
-    let first = views.first;
-    let second = views.second;
-    let third = views.third;
-    let a = put_view(out, at, first);
-    let b = put_view(out, a, second);
-    put_view(out, b, third)
+    let second = put_view(out, at, views.first);
+    let third = put_view(out, second, views.second);
+    put_view(out, third, views.third)
 }
 
 fn put_list(out: &mut [u8], at: usize, list: List16) -> usize
     requires { at + length (list_bytes list) ≤ length out.old }
     ensures { Put out.old out.new at (list_bytes list) result }
 {
-    let entries = list.entries;
-    let n = list_count(list);
-    job_bytes::put_number(out, at, 1, n as u64);
-    job_bytes::put_words(out, at + 1, &entries[..n]);
-    at + 1 + 8 * n
+    let entries = list.counted();
+    job_bytes::put_number(out, at, 1, entries.len() as u64);
+    job_bytes::put_words(out, at + 1, entries);
+    at + 1 + 8 * entries.len()
 }
 
 fn put_sizes(out: &mut [u8], at: usize, kind: Kind, list: List16) -> usize
@@ -191,16 +121,11 @@ fn put_spec(out: &mut [u8], at: usize, kind: Kind, spec: Spec) -> usize
     requires { at + length (spec_bytes kind spec) ≤ length out.old }
     ensures { Put out.old out.new at (spec_bytes kind spec) result }
 {
-    let window = spec.window_dims;
-    let unit = spec.unit_dims;
-    let map = spec.start_map;
-    let sizes = spec.slice_sizes;
-    let vector = spec.index_vector_dim;
-    let a = put_list(out, at, window);
-    let b = put_list(out, a, unit);
-    let c = put_list(out, b, map);
-    job_bytes::put_number(out, c, 8, vector);
-    put_sizes(out, c + 8, kind, sizes)
+    let unit = put_list(out, at, spec.window_dims);
+    let map = put_list(out, unit, spec.unit_dims);
+    let vector = put_list(out, map, spec.start_map);
+    job_bytes::put_number(out, vector, 8, spec.index_vector_dim);
+    put_sizes(out, vector + 8, kind, spec.slice_sizes)
 }
 
 // Writes the job from the first byte on, or refuses by 9 with the bytes that are needed. Of a scatter no slice sizes are written.
@@ -211,16 +136,12 @@ fn put_job(job: Job, out: &mut [u8]) -> Answer
     if out.len() < 4 + size {
         return Answer::BufferBounds(0, 4 + size as u64);
     }
-    let kind = job.kind;
-    let element = job.element;
-    let views = job.views;
-    let spec = job.spec;
     job_bytes::put_number(out, 0, 4, size as u64);
     job_bytes::put_number(out, 4, 1, VERSION);
-    job_bytes::put_number(out, 5, 1, kind_byte(kind));
-    job_bytes::put_number(out, 6, 1, element_byte(element));
-    let next = put_views(out, 7, views);
-    put_spec(out, next, kind, spec);
+    job_bytes::put_number(out, 5, 1, u64::from(job.kind));
+    job_bytes::put_number(out, 6, 1, u64::from(job.element));
+    let next = put_views(out, 7, job.views);
+    put_spec(out, next, job.kind, job.spec);
     Answer::Done
 }
 
