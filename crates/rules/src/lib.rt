@@ -68,11 +68,43 @@ impl Combine<i32> for Add {
     }
 }
 
+impl Combine<f64> for Add {
+    ghost combined = { λ _. add_f64 };
+
+    fn apply(self, old: f64, update: f64) -> f64 {
+        old + update
+    }
+}
+
 impl Combine<i32> for Lowest {
     ghost combined = { λ _. lowest };
 
     fn apply(self, old: i32, update: i32) -> i32 {
+        old.min(update)
+    }
+}
+
+impl Combine<f64> for Lowest {
+    ghost combined = { λ _. lowest_f64 };
+
+    fn apply(self, old: f64, update: f64) -> f64 {
         if update < old { update } else { old }
+    }
+}
+
+impl Combine<i32> for Highest {
+    ghost combined = { λ _. highest };
+
+    fn apply(self, old: i32, update: i32) -> i32 {
+        old.max(update)
+    }
+}
+
+impl Combine<f64> for Highest {
+    ghost combined = { λ _. highest_f64 };
+
+    fn apply(self, old: f64, update: f64) -> f64 {
+        if update > old { update } else { old }
     }
 }
 
@@ -103,7 +135,7 @@ impl Combine<f64> for Ceiling {
     }
 }
 
-// For i32 grids.
+// Which rule a call on an i32 grid names.
 #[derive(Clone, Copy)]
 pub enum Rule {
     Add,
@@ -112,7 +144,7 @@ pub enum Rule {
     Replace,
 }
 
-// For f64 grids: Ceiling carries its limit.
+// On an f64 grid: Ceiling carries its limit.
 #[derive(Clone, Copy)]
 pub enum RuleF64 {
     Add,
@@ -122,29 +154,29 @@ pub enum RuleF64 {
     Ceiling(f64),
 }
 
-// What a cell that held `old` holds after an update.
-pub fn apply(rule: Rule, old: i32, update: i32) -> i32
-    ensures { result ≡ rule_i32 rule old update }
-{
-    match rule {
-        Rule::Add => integer::wrapping_add_i32(old, update),
-        Rule::Lowest => if update < old { update } else { old },
-        Rule::Highest => if update > old { update } else { old },
-        Rule::Replace => update,
+impl Combine<i32> for Rule {
+    ghost combined = { rule_i32 };
+
+    fn apply(self, old: i32, update: i32) -> i32 {
+        match self {
+            Rule::Add => Add.apply(old, update),
+            Rule::Lowest => Lowest.apply(old, update),
+            Rule::Highest => Highest.apply(old, update),
+            Rule::Replace => Replace.apply(old, update),
+        }
     }
 }
 
-pub fn apply_f64(rule: RuleF64, old: f64, update: f64) -> f64
-    ensures { result ≡ rule_f64 rule old update }
-{
-    match rule {
-        RuleF64::Add => old + update,
-        RuleF64::Lowest => if update < old { update } else { old },
-        RuleF64::Highest => if update > old { update } else { old },
-        RuleF64::Replace => update,
-        RuleF64::Ceiling(limit) => {
-            let sum = old + update;
-            if sum > limit { limit } else { sum }
+impl Combine<f64> for RuleF64 {
+    ghost combined = { rule_f64 };
+
+    fn apply(self, old: f64, update: f64) -> f64 {
+        match self {
+            RuleF64::Add => Add.apply(old, update),
+            RuleF64::Lowest => Lowest.apply(old, update),
+            RuleF64::Highest => Highest.apply(old, update),
+            RuleF64::Replace => Replace.apply(old, update),
+            RuleF64::Ceiling(limit) => Ceiling(limit).apply(old, update),
         }
     }
 }
