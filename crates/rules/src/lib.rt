@@ -1,7 +1,7 @@
 // How an update is put on a cell: the combining rules of a scatter. A gather's copy is Replace, and a stored job's scatter is Add.
 #![tactic(auto)]
 
-ghost use Rattle.std.specs.Prelude.{◌≡◌, pos, length};
+ghost use Rattle.std.specs.Prelude.{◌≡◌, ◌<◌, ◌^◌, pos, length};
 ghost use Rattle.std.specs.Float.{nan};
 ghost use Rattle.indexing.specs.Coordinates.{element_at, store};
 ghost use Rattle.indexing.specs.Loops.{in_order};
@@ -15,14 +15,22 @@ pub const FEW: usize = 8;
 pub trait Element: Copy {
     // What a list of elements gives past its end; no call reads there.
     ghost absent: { Self };
+
+    // Does nothing. An element takes up room, so that each index of a slice is an i64: sums of places rest on it.
+    fn short(cells: &[Self])
+        ensures { length cells.now < 2 ^ 63 };
 }
 
 impl Element for i32 {
     ghost absent = { pos 0 };
+
+    fn short(_cells: &[i32]) {}
 }
 
 impl Element for f64 {
     ghost absent = { nan };
+
+    fn short(_cells: &[f64]) {}
 }
 
 // A rule as a type of its own, so that a loop over cells has none to ask for.
