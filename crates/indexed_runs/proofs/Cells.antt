@@ -41,10 +41,6 @@ module _ (starts offsets strides : List ℤ) (limits : List ℕ) (count : ℕ) (
       pub place_is : sn < 2 ^ 63 → pos (nat_abs (read r)) ≡ moved_at starts offsets strides limits count (line (read s) (read ss)) (line (read t) (read ts)) i
       place_is l = (place-index l).is ∙ e ∙ ap₂ (λ (u v : ℤ). u +ℤ start_at starts offsets strides limits v count) p.read_is q.read_is
 
-pub takes-ask : (starts offsets strides : List ℤ) (limits : List ℕ) (count : ℕ) (s t d ss ts ds : ℤ) (n sn dn : ℕ) → SFits w64 s → SFits w64 t → SFits w64 d → SFits w64 ss → SFits w64 ts → SFits w64 ds
-    → Taking starts offsets strides limits count s t d ss ts ds n sn dn → Taking starts offsets strides limits count (read s) (read t) (read d) (read ss) (read ts) (read ds) n sn dn
-takes-ask starts offsets strides limits count s t d ss ts ds n sn dn fs ft fd fss fts fds w = simp (back fs, back ft, back fd, back fss, back fts, back fds) w
-
 pub cells-end : {A : Type 0} (z : A) (rule : A → A → A) (src : List A) (starts offsets strides : List ℤ) (limits : List ℕ) (count : ℕ) (s t d ss ts ds : ℤ) (i n : ℕ) (x y : List A)
     → SFits w64 s → SFits w64 t → SFits w64 d → SFits w64 ss → SFits w64 ts → SFits w64 ds → i ≡ n
     → y ≡ in_order (cell_at z rule src (moved_at starts offsets strides limits count (line (read s) (read ss)) (line (read t) (read ts))) (line (read d) (read ds))) i x

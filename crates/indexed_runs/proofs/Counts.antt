@@ -11,7 +11,7 @@ use mir.Val.{SFits}
 use Rattle.integer.specs.Z.{back}
 use Rattle.indexing.specs.Coordinates.{element_at}
 use Rattle.indexing.specs.Slid.{moved, how_many}
-use Rattle.indexing.specs.Counting.{many-none, many_more, many_below, bit_below, many-on, many-same, many-false}
+use Rattle.indexing.specs.Counting.{many-none, many_more, many_below, bit_below, many-on, many-false}
 use Rattle.runs.specs.Runs.{line}
 use Rattle.runs.proofs.Place.{read, machine, Step}
 use Rattle.indexed_runs.specs.IndexedRuns.{start_moved, starts_moved, moves_at}
@@ -50,17 +50,6 @@ pub many-first : (b : ℕ) (p : ℕ → Bool) (d : ℕ) → d ≡ how_many (b - 
 many-first b p d e =
     let f : d ≡ 0 + d = omega arith in
     f ∙ many-on 0 b p 0 d (omega arith) (many-none 0 p (omega arith)) e
-
--- those up to c, behind those from a up to b
-pub many-further : (a b c : ℕ) (p : ℕ → Bool) (u v : ℕ) → a ≤ b → b ≤ c → u ≡ how_many (b - a) (λ k. p (k + a)) → v ≡ how_many (c - b) (λ k. p (k + b)) → u + v ≡ how_many (c - a) (λ k. p (k + a))
-many-further a b c p u v h l eu ev =
-    let q : c - a - (b - a) ≡ c - b = omega arith in
-    let s : (k : ℕ) → k + b ≡ k + (b - a) + a = λ k. omega arith in
-    many-on (b - a) (c - a) (λ k. p (k + a)) u v (omega arith) eu
-    (ev ∙ many-same (c - b) (λ k. p (k + b)) (λ k. p (k + (b - a) + a)) (λ k _. ap p (s k)) ∙ ap (λ (m : ℕ). how_many m (λ k. p (k + (b - a) + a))) (sym q))
-
-pub further-below : (a b c : ℕ) (p q : ℕ → Bool) (u v : ℕ) → a ≤ b → b ≤ c → u ≡ how_many (b - a) p → v ≡ how_many (c - b) q → u + v ≤ c
-further-below a b c p q u v h l eu ev = omega (arith, many_below (b - a) p, many_below (c - b) q, eu, ev)
 
 -- ---- a start that is read along a line
 pub moves-is : (starts : List ℤ) (t ts : ℤ) (limit i tn : ℕ) → Step t ts i tn → SFits w64 (get_or starts (nat_abs (machine t ts i)) (pos 0)) → (b : Bool)

@@ -1,11 +1,9 @@
 -- Runs by clamped starts where every step is 1: a cell's place, and the parts of the slices that such a run is on. Assumes nothing.
 use mathlib.Core.Path.{◌≡◌, refl, sym, ap, ap₂, subst, ◌∙◌}
-use mathlib.Core.Bool.{Bool}
 use mathlib.Core.List.{List, ◌++◌}
-use Prim.Native.Nat.{ℕ, zero, suc, ◌+◌, ◌-◌, ◌*◌, ◌<◌, ◌≤◌, ◌^◌, min}
-use native.Mathlib.Nat.{mul-suc, mul-zero}
+use Prim.Native.Nat.{ℕ, zero, suc, ◌+◌, ◌-◌, ◌<◌, ◌≤◌, min}
 use native.Mathlib.Omega.{arith}
-use lib.ListN.{length, get_or, take, drop, length-drop, take-append-drop}
+use lib.ListN.{length, take, drop, length-drop, take-append-drop}
 use lib.Seq.{length-take-le, get_or-take, get_or-drop}
 use lib.IntN.{ℤ, pos, nat_abs, ◌+ℤ◌, ◌*ℤ◌, *ℤ_comm, *ℤ-one}
 use lib.Signed.{◌≤ℤ◌}
@@ -23,7 +21,7 @@ use Rattle.indexing.specs.Loops.{in_order}
 use Rattle.indexing.proofs.Parts.{element-mid, store-mid}
 use Rattle.runs.specs.Runs.{cell_at, line}
 use Rattle.runs.proofs.Turns.{more, split, same-turns, same-places, length-cells}
-use Rattle.runs.proofs.Place.{read, Index, index}
+use Rattle.runs.proofs.Place.{read}
 use Rattle.indexed_runs.specs.IndexedRuns.{clamped_at, moves_at, Clamped, one_at, Ones}
 
 -- ---- the clamp
@@ -34,28 +32,7 @@ one-times : (z : ℤ) → pos 1 *ℤ z ≡ z
 unfolding lib.IntN.one
 one-times z = *ℤ_comm (pos 1) z ∙ *ℤ-one z
 
--- ---- the place of cell i, where y is its start, clamped
-module _ (starts : List ℤ) (limit : ℤ) (n cn : ℕ) (w : Ones starts limit n cn) (fl : SFits w64 limit) (r : cn < 2 ^ 63) (i : ℕ) (h : i < n) (fx : SFits w64 (get_or starts i (pos 0))) (y : ℤ)
-    (e : y ≡ clamp (read (get_or starts i (pos 0))) (nat_abs (read limit)) 0) where
-  start_is : y ≡ one_at starts limit i
-  start_is = e ∙ ap₂ (λ (u v : ℤ). clamp u (nat_abs v) 0) (back fx) (back fl)
-
-  pub ones-index : Index y cn
-  ones-index = index y cn (subst (InSlice cn) (sym start_is) (w.clamped i h)) r
-
-  pub ones_is : pos (nat_abs (read y)) ≡ one_at starts limit i
-  ones_is = ones-index.is ∙ start_is
-
--- whether start i is moved
-pub ones-moved : (starts : List ℤ) (limit : ℤ) (i : ℕ) → SFits w64 limit → SFits w64 (get_or starts i (pos 0)) → (b : Bool) → b ≡ moved (read (get_or starts i (pos 0))) (nat_abs (read limit)) 0 → b ≡ moves_at starts pos (nat_abs limit) i
-ones-moved starts limit i fl fx b e = e ∙ ap₂ (λ (u v : ℤ). moved u (nat_abs v) 0) (back fx) (back fl)
-
 -- ---- turns
-module _ {A : Type 0} (z : A) (rule : A → A → A) (src : List A) where
-  -- a turn as the machine makes it: v is stored at index b
-  pub one-turn : (f g : ℕ → ℤ) (y : List A) (i a b : ℕ) (v : A) → pos a ≡ f i → pos b ≡ g i → v ≡ rule (get_or y b z) (get_or src a z) → store y (pos b) v ≡ cell_at z rule src f g i y
-  one-turn f g y i a b v p q w = ap (store y (pos b)) w ∙ ap₂ (λ (s d : ℤ). store y d (rule (element_at z y d) (element_at z src s))) p q
-
 -- turns from a on: one more, and all that are made so
 module _ {C : Type 0} (turn : ℕ → C → C) (a : ℕ) where
   pub turn_more : (i : ℕ) (x y z : C) → a ≤ i → y ≡ in_order (λ k. turn (k + a)) (i - a) x → z ≡ turn i y → z ≡ in_order (λ k. turn (k + a)) (i + 1 - a) x
@@ -68,25 +45,6 @@ module _ {C : Type 0} (turn : ℕ → C → C) (a : ℕ) where
   turns-on b x y z h e f =
       let p : a + (b - a) ≡ b = omega arith in
       f ∙ ap (in_order (λ k. turn (k + a)) (b - a)) e ∙ sym (split turn a (b - a) x) ∙ ap (λ (m : ℕ). in_order turn m x) p
-
-  -- and those up to c, behind those up to b
-  pub turns-further : (b c : ℕ) (x y z : C) → a ≤ b → b ≤ c → y ≡ in_order (λ k. turn (k + a)) (b - a) x → z ≡ in_order (λ k. turn (k + b)) (c - b) y → z ≡ in_order (λ k. turn (k + a)) (c - a) x
-  turns-further b c x y z h l e f =
-      let q : b - a + (c - b) ≡ c - a = omega arith in
-      let s : (k : ℕ) → k + b ≡ k + (b - a) + a = λ k. omega arith in
-      f ∙ ap (in_order (λ k. turn (k + b)) (c - b)) e
-      ∙ same-turns (λ k. turn (k + b)) (λ k. turn (k + (b - a) + a)) (c - b) (λ k _ u. ap (λ (i : ℕ). turn i u) (s k)) (in_order (λ k. turn (k + a)) (b - a) x)
-      ∙ sym (split (λ k. turn (k + a)) (b - a) (c - b) x) ∙ ap (λ (m : ℕ). in_order (λ k. turn (k + a)) m x) q
-
--- where turns are left there is one, and then one fewer
-pub turn-left : (i width q n : ℕ) → i + width * q ≡ n → 0 < q → i + width + width * (q - 1) ≡ n
-turn-left i width zero n e h = absurd (omega arith)
-turn-left i width (suc p) n e h =
-    let s : suc p - 1 ≡ p = omega arith in
-    ap (λ (m : ℕ). i + width + width * m) s ∙ omega (arith, mul-suc width p, e)
-
-pub none_left : (i width q n : ℕ) → i + width * q ≡ n → q ≡ 0 → i ≡ n
-none_left i width q n e h = omega (arith, e, ap (λ (m : ℕ). width * m) h, mul-zero width)
 
 -- the end: the places by the parameters themselves
 module _ {A : Type 0} (z : A) (rule : A → A → A) (src : List A) (starts : List ℤ) (limit : ℤ) (i n : ℕ) (x y : List A) (fl : SFits w64 limit) (e : i ≡ n) where
@@ -248,8 +206,3 @@ module _ (ts stride by : ℤ) (ft : SFits w64 ts) (fs : SFits w64 stride) (fy : 
     pub put-row-end : y ≡ in_order (cell_at z rule src (line (read other) (pos 1)) (clamped_at starts (line (read t) (pos 1)) (read base) (pos 1) limit)) n x
         → y ≡ in_order (cell_at z rule src (line other by) (clamped_at starts (line t ts) base stride limit)) n x
     put-row-end h = h ∙ same-places z rule src _ _ _ _ n (λ i _. plain other i k) (λ i _. clamps starts t base limit i f g) x
-
--- by any steps, as they are read back
-pub strided-asks : (starts : List ℤ) (t ts base stride other by : ℤ) (limit n cn pn : ℕ) → SFits w64 t → SFits w64 ts → SFits w64 base → SFits w64 stride → SFits w64 other → SFits w64 by
-    → Clamped starts t ts base stride other by limit n cn pn → Clamped starts (read t) (read ts) (read base) (read stride) (read other) (read by) limit n cn pn
-strided-asks starts t ts base stride other by limit n cn pn f1 f2 f3 f4 f5 f6 w = simp (back f1, back f2, back f3, back f4, back f5, back f6) w

@@ -14,10 +14,15 @@ use Rattle.indexing.specs.Coordinates.{InSlice, element_at}
 use Rattle.indexing.specs.Start.{clamp}
 use Rattle.indexing.proofs.Inside.{clamp-high}
 use Rattle.indexing.specs.Loops.{in_order}
+use Rattle.std.proofs.lemmas.List.{get_or_default}
 use Rattle.runs.specs.Runs.{cell_at, line}
 use Rattle.runs.proofs.Turns.{same-places}
 use Rattle.runs.proofs.Place.{read, machine, Step, step, step-at}
 use Rattle.indexed_runs.specs.IndexedRuns.{clamped_at, Clamped}
+
+-- an element that is read is the list's, whatever is given past its end
+pub element : {A : Type 0} (xs : List A) (i : ℕ) (a z : A) → i < length xs → a ≡ get_or xs i a → a ≡ get_or xs i z
+element xs i a z h e = e ∙ get_or_default xs i a z h
 
 line_read : (s ss : ℤ) (k : ℕ) → SFits w64 s → SFits w64 ss → line (read s) (read ss) k ≡ line s ss k
 line_read s ss k fs fss = ap₂ (λ (u v : ℤ). line u v k) (back fs) (back fss)

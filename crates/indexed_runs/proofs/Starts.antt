@@ -39,9 +39,6 @@ module _ (starts offsets strides : List ℤ) (limits : List ℕ) where
     pub component-index : length starts < 2 ^ 63 → Index (read t +ℤ read (get_or offsets c (pos 0))) (length starts)
     component-index q = index _ (length starts) (subst (InSlice (length starts)) (sym (ap₂ ◌+ℤ◌ (back ft) (back fo))) (w.reads c h)) q
 
-    pub component-fits : length starts < 2 ^ 63 → SFits w64 (read t +ℤ read (get_or offsets c (pos 0)))
-    component-fits q = in-fits _ (length starts) (subst (InSlice (length starts)) (sym (ap₂ ◌+ℤ◌ (back ft) (back fo))) (w.reads c h)) q
-
     -- whether it is moved, where i is its index
     pub component-moved : (i : ℕ) → pos i ≡ read t +ℤ read (get_or offsets c (pos 0)) → SFits w64 (get_or starts i (pos 0)) → (b : Bool) → b ≡ moved (read (get_or starts i (pos 0))) (get_or limits c 0) 0 → b ≡ component_moved starts offsets limits (read t) c
     component-moved i ei fx b e =

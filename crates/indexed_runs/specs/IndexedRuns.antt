@@ -7,6 +7,10 @@ use Rattle.indexing.specs.Axes.{sum_of}
 use Rattle.layout.specs.Layouts.{rank_limit}
 use Rattle.runs.specs.Runs.{line, Line}
 
+-- an update that replaces what was there
+abbrev pub replaced : {A : Type 0} → A → A → A
+replaced x u = u
+
 -- what component j of the start read at t adds to a place: its stride times the component, clamped to 0 .. limit
 abbrev pub component_at : List ℤ → List ℤ → List ℤ → List ℕ → ℤ → ℕ → ℤ
 component_at starts offsets strides limits t j = get_or strides j (pos 0) *ℤ clamp (element_at (pos 0) starts (t +ℤ get_or offsets j (pos 0))) (get_or limits j 0) 0

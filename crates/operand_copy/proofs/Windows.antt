@@ -16,7 +16,7 @@ use Rattle.indexing.specs.Operand.{operand_copied}
 use Rattle.layout.specs.Layouts.{rank_limit, padded}
 use Rattle.runs.proofs.Place.{read}
 use Rattle.runs.proofs.Turns.{none}
-use Rattle.windows.specs.Windows.{windowed, Region, Window, RunAxis, Level}
+use Rattle.windows.specs.Windows.{windowed, Region, Window}
 use Rattle.fused_axes.specs.declared.FusedAxis.{FusedAxis}
 use Rattle.fused_axes.specs.declared.FusedAxes.{FusedAxes}
 use Rattle.fused_axes.specs.Fusing.{cells_copied, dims, dsts, srcs, unit_axis, copy_axes, held_axes}
@@ -26,9 +26,6 @@ use Rattle.operand_copy.specs.Views.{held_view, Cells}
 
 -- ---- over arrays that a call returned, by the numbers that the machine holds
 module _ (s d : ℤ) (ext : List ℕ) (ss ts : List ℤ) (rank : ℕ) (fs : SFits w64 s) (fd : SFits w64 d) where
-  pub cells-level : (sn dn low : ℕ) → Cells s d ext ss ts rank sn dn → RunAxis low ext rank → Level (read s) (read d) ext ss ts low rank sn dn
-  cells-level sn dn low c r = simp (back fs, back fd) (record { below = r.below; units = r.units; positive = c.positive; window = c.window })
-
   module _ (ext' : List ℕ) (ss' ts' : List ℤ) (a : ext' ≡ ext) (b : ss' ≡ ss) (c : ts' ≡ ts) where
     pub cells-by : (sn dn : ℕ) → Cells s d ext ss ts rank sn dn → Cells (read s) (read d) ext' ss' ts' rank sn dn
     cells-by sn dn w = rw (a, b, c) (simp (back fs, back fd) w)

@@ -2,10 +2,8 @@
 // last one copied stays.
 #![tactic(auto)]
 
-ghost use Rattle.std.specs.Prelude.{◌≡◌, pos, length};
+ghost use Rattle.std.specs.Prelude.{◌≡◌, length};
 ghost use Rattle.indexing.specs.Operand.{operand_copied};
-ghost use Rattle.rules.specs.Rules.{rule_i32};
-ghost use Rattle.rules.specs.declared.Rule.TheVariants as R;
 ghost use Rattle.windows.specs.Windows.{windowed, Window};
 ghost use Rattle.fused_axes.specs.Fusing.{dims, dsts, srcs};
 ghost use Rattle.operand_copy.specs.Views.{held_view, Cells};
@@ -13,12 +11,12 @@ ghost use Rattle.operand_copy.specs.Views.{held_view, Cells};
 use fused_axes::FusedAxes;
 use integer::CheckedU;
 use layout::RAW_FUSED_RANK_LIMIT;
-use rules::Rule;
+use rules::{Element, Replace};
 
 // The copy over the axes as they are given, a run at a time. There are axes and cells.
-fn over_axes(
-    src: &[i32],
-    dst: &mut [i32],
+fn over_axes<E: Element>(
+    src: &[E],
+    dst: &mut [E],
     extents: [u64; RAW_FUSED_RANK_LIMIT],
     ss: [i64; RAW_FUSED_RANK_LIMIT],
     ds: [i64; RAW_FUSED_RANK_LIMIT],
@@ -27,29 +25,27 @@ fn over_axes(
     d: i64,
 )
     requires { Cells s d extents ss ds rank (length src.now) (length dst.old) }
-    ensures { dst.new ≡ windowed (pos 0) (rule_i32 R.Replace) src.now s d extents ss ds rank dst.old }
+    ensures { dst.new ≡ windowed E.absent (λ _ u. u) src.now s d extents ss ds rank dst.old }
 {
     let low = windows::run_axis(&extents, rank);
-    windows::axes(Rule::Replace, src, dst, &extents, &ss, &ds, low, rank, s, d);
+    windows::axes(Replace, src, dst, &extents, &ss, &ds, low, rank, s, d);
 }
 
 // The same over fused axes.
-fn over_fused(src: &[i32], dst: &mut [i32], f: FusedAxes, s: i64, d: i64)
+fn over_fused<E: Element>(src: &[E], dst: &mut [E], f: FusedAxes, s: i64, d: i64)
     requires { Cells s d (dims f.axes) (srcs f.axes) (dsts f.axes) f.rank (length src.now) (length dst.old) }
-    ensures { dst.new ≡ windowed (pos 0) (rule_i32 R.Replace) src.now s d (dims f.axes) (srcs f.axes) (dsts f.axes) f.rank dst.old }
+    ensures { dst.new ≡ windowed E.absent (λ _ u. u) src.now s d (dims f.axes) (srcs f.axes) (dsts f.axes) f.rank dst.old }
 {
-    let axes = f.axes;
-    let n = f.rank;
-    let extents = fused_axes::dims_of(axes);
-    let ss = fused_axes::srcs_of(axes);
-    let ds = fused_axes::dsts_of(axes);
-    over_axes(src, dst, extents, ss, ds, n, s, d);
+    let extents = fused_axes::dims_of(f.axes);
+    let ss = fused_axes::srcs_of(f.axes);
+    let ds = fused_axes::dsts_of(f.axes);
+    over_axes(src, dst, extents, ss, ds, f.rank, s, d);
 }
 
 // The operand at offset s with strides ss, copied into the cells at offset d with strides ds.
-pub fn copy_operand(
-    src: &[i32],
-    dst: &mut [i32],
+pub fn copy_operand<E: Element>(
+    src: &[E],
+    dst: &mut [E],
     extents: [u64; RAW_FUSED_RANK_LIMIT],
     ss: [i64; RAW_FUSED_RANK_LIMIT],
     ds: [i64; RAW_FUSED_RANK_LIMIT],
@@ -58,7 +54,7 @@ pub fn copy_operand(
     d: i64,
 )
     requires { Window s d extents ss ds rank (length src.now) (length dst.old) }
-    ensures { dst.new ≡ operand_copied (pos 0) (held_view extents ss rank s) (held_view extents ds rank d) src.now dst.old }
+    ensures { dst.new ≡ operand_copied E.absent (held_view extents ss rank s) (held_view extents ds rank d) src.now dst.old }
 {
     let total = fused_axes::total_len(extents, rank);
     match total {

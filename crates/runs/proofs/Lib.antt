@@ -1,4 +1,3 @@
 pub mod Turns
 pub mod Place
 pub mod Runs
-pub mod Blocks

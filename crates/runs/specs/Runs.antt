@@ -25,10 +25,6 @@ pub record Run (s d ss ds : ℤ) (n sn dn : ℕ) : Type 0 where
 abbrev pub run_at : {A : Type 0} → A → (A → A → A) → List A → ℤ → ℤ → ℤ → ℤ → ℤ → ℤ → ℕ → ℕ → List A → List A
 run_at z rule src s d ss ds st dt n j = in_order (cell_at z rule src (line (line s st j) ss) (line (line d dt j) ds)) n
 
--- the most cells that are copied at a time
-abbrev pub block_cells : ℕ
-block_cells = 4096
-
 -- m runs of n cells each lie inside their slices
 pub record Plane (s d ss ds st dt : ℤ) (n m sn dn : ℕ) : Type 0 where
   pub some : 0 < n

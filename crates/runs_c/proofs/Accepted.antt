@@ -138,21 +138,18 @@ module _ {A : Type 0} (test : Bool) (turn : ℕ → List A → List A) (times : 
   ran y k e f h = record { is = sym e; leaves = h ∙ ap (λ (m : ℕ). in_order turn m x) f ∙ sym (ap (λ (t : Bool). cond t (in_order turn times x) x) e) }
 
 -- the same turns by the parameters themselves
-module _ {A R : Type 0} (z : A) (rule : R → A → A → A) (src : List A) (r t : R) (s d : ℤ) (e : r ≡ t) (fs : SFits w64 s) (fd : SFits w64 d) (i : ℕ) (x y : List A) where
-  pub runs_by : (ss ds : ℤ) (n : ℕ) → SFits w64 ss → SFits w64 ds → y ≡ in_order (λ _ x. in_order (cell_at z (rule r) src (line (read s) (read ss)) (line (read d) (read ds))) n x) i x
-      → y ≡ in_order (λ _ x. in_order (cell_at z (rule t) src (line s ss) (line d ds)) n x) i x
+module _ {A : Type 0} (z : A) (rule : A → A → A) (src : List A) (s d : ℤ) (fs : SFits w64 s) (fd : SFits w64 d) (i : ℕ) (x y : List A) where
+  pub runs_by : (ss ds : ℤ) (n : ℕ) → SFits w64 ss → SFits w64 ds → y ≡ in_order (λ _ x. in_order (cell_at z rule src (line (read s) (read ss)) (line (read d) (read ds))) n x) i x
+      → y ≡ in_order (λ _ x. in_order (cell_at z rule src (line s ss) (line d ds)) n x) i x
   runs_by ss ds n fss fds h =
       h
-      ∙ ap (λ (q : R). in_order (λ _ x. in_order (cell_at z (rule q) src (line (read s) (read ss)) (line (read d) (read ds))) n x) i x) e
-      ∙ ap₂ (λ (a b : ℤ). in_order (λ _ x. in_order (cell_at z (rule t) src (line a (read ss)) (line b (read ds))) n x) i x) (back fs) (back fd)
-      ∙ ap₂ (λ (a b : ℤ). in_order (λ _ x. in_order (cell_at z (rule t) src (line s a) (line d b)) n x) i x) (back fss) (back fds)
+      ∙ ap₂ (λ (a b : ℤ). in_order (λ _ x. in_order (cell_at z rule src (line a (read ss)) (line b (read ds))) n x) i x) (back fs) (back fd)
+      ∙ ap₂ (λ (a b : ℤ). in_order (λ _ x. in_order (cell_at z rule src (line s a) (line d b)) n x) i x) (back fss) (back fds)
 
-  pub windows-by : (shape : List ℕ) (ss ds : List ℤ) (rank : ℕ) → y ≡ in_order (λ _ x. windowed z (rule r) src (read s) (read d) shape ss ds rank x) i x
-      → y ≡ in_order (λ _ x. windowed z (rule t) src s d shape ss ds rank x) i x
+  pub windows-by : (shape : List ℕ) (ss ds : List ℤ) (rank : ℕ) → y ≡ in_order (λ _ x. windowed z rule src (read s) (read d) shape ss ds rank x) i x
+      → y ≡ in_order (λ _ x. windowed z rule src s d shape ss ds rank x) i x
   windows-by shape ss ds rank h =
-      h
-      ∙ ap (λ (q : R). in_order (λ _ x. windowed z (rule q) src (read s) (read d) shape ss ds rank x) i x) e
-      ∙ ap₂ (λ (a b : ℤ). in_order (λ _ x. windowed z (rule t) src a b shape ss ds rank x) i x) (back fs) (back fd)
+      h ∙ ap₂ (λ (a b : ℤ). in_order (λ _ x. windowed z rule src a b shape ss ds rank x) i x) (back fs) (back fd)
 
 -- the test of numbers read back
 pub read_back : (rank : ℕ) (shape : List ℕ) (ss ds : List ℤ) (s d : ℤ) (sn dn : ℕ) → SFits w64 s → SFits w64 d → accepted rank shape ss ds (read s) (read d) sn dn ≡ accepted rank shape ss ds s d sn dn

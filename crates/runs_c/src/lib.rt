@@ -12,19 +12,17 @@ ghost use Rattle.windows.specs.Windows.{windowed};
 ghost use Rattle.runs_c.specs.Bench.{all_few, covers, accepted, Tested, adds_i32, adds_f64, Ran};
 
 use layout::{Layout, RAW_FUSED_RANK_LIMIT, View};
-use rules::{Rule, RuleF64};
+use rules::{Add, Combine, Element, Replace};
 
 // Whether no extent is above 2^63.
 fn all_few(extents: [u64; RAW_FUSED_RANK_LIMIT], rank: usize) -> bool
     requires { rank ≤ rank_limit }
     ensures { result ≡ all_few (take rank extents) }
 {
-    let mut i: usize = 0;
-    while i < rank {
+    for i in 0..rank {
         if 9223372036854775808 < extents[i] {
             return false;
         }
-        i += 1;
     }
     true
 }
@@ -81,16 +79,55 @@ fn accepts(
     inside(extents, ds, rank, d, dn)
 }
 
-fn rule_i32(add: bool) -> Rule
-    ensures { result ≡ adds_i32 add }
+// A run, `times` times, where its cells are accepted.
+fn run<E: Element, R: Combine<E>>(
+    rule: R,
+    src: &[E],
+    dst: &mut [E],
+    n: u64,
+    s: i64,
+    d: i64,
+    ss: i64,
+    ds: i64,
+    times: u64,
+) -> bool
+    ensures { Ran result (accepted 1 (replicate rank_limit n) (replicate rank_limit ss) (replicate rank_limit ds) s d (length src.now) (length dst.old)) (λ _ x. in_order (cell_at E.absent (R.combined rule) src.now (line s ss) (line d ds)) n x) times dst.old dst.new }
 {
-    if add { Rule::Add } else { Rule::Replace }
+    let extents = [n; RAW_FUSED_RANK_LIMIT];
+    let source = [ss; RAW_FUSED_RANK_LIMIT];
+    let dest = [ds; RAW_FUSED_RANK_LIMIT];
+    if !accepts(extents, source, dest, 1, s, d, src.len(), dst.len()) {
+        return false;
+    }
+    for _ in 0..times {
+        runs::plane(rule, src, dst, n as usize, 1, s, d, ss, ds, 0, 0);
+    }
+    true
 }
 
-fn rule_f64(add: bool) -> RuleF64
-    ensures { result ≡ adds_f64 add }
+// A window, `times` times, where its cells are accepted.
+fn window<E: Element, R: Combine<E>>(
+    rule: R,
+    src: &[E],
+    dst: &mut [E],
+    extents: &[u64; RAW_FUSED_RANK_LIMIT],
+    ss: &[i64; RAW_FUSED_RANK_LIMIT],
+    ds: &[i64; RAW_FUSED_RANK_LIMIT],
+    rank: usize,
+    s: i64,
+    d: i64,
+    times: u64,
+) -> bool
+    ensures { Ran result (accepted rank extents.now ss.now ds.now s d (length src.now) (length dst.old)) (λ _ x. windowed E.absent (R.combined rule) src.now s d extents.now ss.now ds.now rank x) times dst.old dst.new }
 {
-    if add { RuleF64::Add } else { RuleF64::Replace }
+    if !accepts(*extents, *ss, *ds, rank, s, d, src.len(), dst.len()) {
+        return false;
+    }
+    for _ in 0..times {
+        let low = windows::run_axis(extents, rank);
+        windows::axes(rule, src, dst, extents, ss, ds, low, rank, s, d);
+    }
+    true
 }
 
 #[unsafe(no_mangle)]
@@ -107,19 +144,11 @@ pub extern "C" fn bench_run_i32(
 ) -> bool
     ensures { Ran result (accepted 1 (replicate rank_limit n) (replicate rank_limit ss) (replicate rank_limit ds) s d (length src.now) (length dst.old)) (λ _ x. in_order (cell_at (pos 0) (rule_i32 (adds_i32 add)) src.now (line s ss) (line d ds)) n x) times dst.old dst.new }
 {
-    let extents = [n; RAW_FUSED_RANK_LIMIT];
-    let source = [ss; RAW_FUSED_RANK_LIMIT];
-    let dest = [ds; RAW_FUSED_RANK_LIMIT];
-    if !accepts(extents, source, dest, 1, s, d, src.len(), dst.len()) {
-        return false;
+    if add {
+        run(Add, src, dst, n, s, d, ss, ds, times)
+    } else {
+        run(Replace, src, dst, n, s, d, ss, ds, times)
     }
-    let rule = rule_i32(add);
-    let mut i: u64 = 0;
-    while i < times {
-        runs::plane(rule, src, dst, n as usize, 1, s, d, ss, ds, 0, 0);
-        i += 1;
-    }
-    true
 }
 
 #[unsafe(no_mangle)]
@@ -137,17 +166,11 @@ pub extern "C" fn bench_window_i32(
 ) -> bool
     ensures { Ran result (accepted rank extents.now ss.now ds.now s d (length src.now) (length dst.old)) (λ _ x. windowed (pos 0) (rule_i32 (adds_i32 add)) src.now s d extents.now ss.now ds.now rank x) times dst.old dst.new }
 {
-    if !accepts(*extents, *ss, *ds, rank, s, d, src.len(), dst.len()) {
-        return false;
+    if add {
+        window(Add, src, dst, extents, ss, ds, rank, s, d, times)
+    } else {
+        window(Replace, src, dst, extents, ss, ds, rank, s, d, times)
     }
-    let rule = rule_i32(add);
-    let mut i: u64 = 0;
-    while i < times {
-        let low = windows::run_axis(extents, rank);
-        windows::axes(rule, src, dst, extents, ss, ds, low, rank, s, d);
-        i += 1;
-    }
-    true
 }
 
 #[unsafe(no_mangle)]
@@ -164,19 +187,11 @@ pub extern "C" fn bench_run_f64(
 ) -> bool
     ensures { Ran result (accepted 1 (replicate rank_limit n) (replicate rank_limit ss) (replicate rank_limit ds) s d (length src.now) (length dst.old)) (λ _ x. in_order (cell_at nan (rule_f64 (adds_f64 add)) src.now (line s ss) (line d ds)) n x) times dst.old dst.new }
 {
-    let extents = [n; RAW_FUSED_RANK_LIMIT];
-    let source = [ss; RAW_FUSED_RANK_LIMIT];
-    let dest = [ds; RAW_FUSED_RANK_LIMIT];
-    if !accepts(extents, source, dest, 1, s, d, src.len(), dst.len()) {
-        return false;
+    if add {
+        run(Add, src, dst, n, s, d, ss, ds, times)
+    } else {
+        run(Replace, src, dst, n, s, d, ss, ds, times)
     }
-    let rule = rule_f64(add);
-    let mut i: u64 = 0;
-    while i < times {
-        runs_f64::plane(rule, src, dst, n as usize, 1, s, d, ss, ds, 0, 0);
-        i += 1;
-    }
-    true
 }
 
 #[unsafe(no_mangle)]
@@ -194,15 +209,9 @@ pub extern "C" fn bench_window_f64(
 ) -> bool
     ensures { Ran result (accepted rank extents.now ss.now ds.now s d (length src.now) (length dst.old)) (λ _ x. windowed nan (rule_f64 (adds_f64 add)) src.now s d extents.now ss.now ds.now rank x) times dst.old dst.new }
 {
-    if !accepts(*extents, *ss, *ds, rank, s, d, src.len(), dst.len()) {
-        return false;
+    if add {
+        window(Add, src, dst, extents, ss, ds, rank, s, d, times)
+    } else {
+        window(Replace, src, dst, extents, ss, ds, rank, s, d, times)
     }
-    let rule = rule_f64(add);
-    let mut i: u64 = 0;
-    while i < times {
-        let low = windows::run_axis(extents, rank);
-        windows_f64::axes(rule, src, dst, extents, ss, ds, low, rank, s, d);
-        i += 1;
-    }
-    true
 }

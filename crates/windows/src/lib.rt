@@ -5,25 +5,22 @@
 
 ghost use Rattle.std.specs.Prelude.{◌≡◌, ◌<◌, ◌≤◌, pos, length};
 ghost use Rattle.layout.specs.Layouts.{rank_limit};
-ghost use Rattle.rules.specs.Rules.{rule_i32};
 ghost use Rattle.windows.specs.Windows.{windowed, Level, RunAxis, row_count};
 
 use layout::RAW_FUSED_RANK_LIMIT;
-use rules::Rule;
+use rules::{Combine, Element};
 
 // The axis that runs go along: the first whose extent is not 1, or the last where there is none.
 pub fn run_axis(extents: &[u64; RAW_FUSED_RANK_LIMIT], rank: usize) -> usize
     requires { (0 < rank) × (rank ≤ rank_limit) }
     ensures { RunAxis result extents.now rank }
 {
-    let mut low: usize = 0;
-    while low + 1 < rank {
+    for low in 0..rank - 1 {
         if extents[low] != 1 {
             return low;
         }
-        low += 1;
     }
-    low
+    rank - 1
 }
 
 // How many rows of cells there are along the axis `low` and the last axis, `top`: its extent n, and one where the two are the same axis.
@@ -34,10 +31,10 @@ pub fn row_count(top: usize, low: usize, n: u64) -> u64
 }
 
 // The cells of the first `rank` axes. There are some, and the axes before `low` have one place each.
-pub fn axes(
-    rule: Rule,
-    src: &[i32],
-    dst: &mut [i32],
+pub fn axes<E: Element, R: Combine<E>>(
+    rule: R,
+    src: &[E],
+    dst: &mut [E],
     extents: &[u64; RAW_FUSED_RANK_LIMIT],
     ss: &[i64; RAW_FUSED_RANK_LIMIT],
     ds: &[i64; RAW_FUSED_RANK_LIMIT],
@@ -47,7 +44,7 @@ pub fn axes(
     d: i64,
 )
     requires { Level s d extents.now ss.now ds.now low rank (length src.now) (length dst.old) }
-    ensures { dst.new ≡ windowed (pos 0) (rule_i32 rule) src.now s d extents.now ss.now ds.now rank dst.old }
+    ensures { dst.new ≡ windowed E.absent (R.combined rule) src.now s d extents.now ss.now ds.now rank dst.old }
 {
     let top = rank - 1;
     let n = extents[top];
@@ -61,12 +58,21 @@ pub fn axes(
         runs::plane(rule, src, dst, m as usize, count, s, d, x, y, a, b);
         return;
     }
-    let mut j: u64 = 0;
-    while j < n {
+    E::short(src);
+    E::short(dst);
+    for j in 0..n {
         let k = j as i64;
-        let p = s + a * k;
-        let q = d + b * k;
-        axes(rule, src, dst, extents, ss, ds, low, top, p, q);
-        j += 1;
+        axes(
+            rule,
+            src,
+            dst,
+            extents,
+            ss,
+            ds,
+            low,
+            top,
+            s + a * k,
+            d + b * k,
+        );
     }
 }

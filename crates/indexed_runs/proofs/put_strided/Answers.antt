@@ -1,36 +1,115 @@
-use mathlib.Core.Path.{refl}
-use lib.IntN.{pos}
-use Rattle.indexed_runs.proofs.Ones.{strided-asks}
-use Rattle.rules.specs.Rules.{rule_i32}
-use Rattle.rules.specs.declared.Rule.TheVariants as R
-use Rattle.indexed_runs.proofs.Places.{put-end}
-use Rattle.indexed_runs.proofs.Counts.{moves-end}
+use Rattle.std.proofs.Common.{rules, refl, ap₂, ◌∙◌, length, nat_abs, arith}
+use borrow.Author.Rules.{scaled_Fits}
+use Rattle.indexing.specs.Counting.{many-none, many_more}
+use Rattle.runs.specs.Runs.{line}
+use Rattle.runs.proofs.Turns.{none, cell-more}
+use Rattle.runs.proofs.Place.{read, machine, Step}
+use Rattle.indexed_runs.specs.IndexedRuns.{clamped_at, moves_at}
+use Rattle.indexed_runs.proofs.Places.{element, start-step, plain_step, clamped-step, clamped-is, put-end}
+use Rattle.indexed_runs.proofs.Counts.{one_below, moves-is, moves-end}
 use Rattle.indexed_runs.proofs.put_strided.Goals as goal
 
-pub put_strided_by-requires : goal.put_strided_by-requires
-put_strided_by-requires c = strided-asks _ _ _ _ _ _ _ _ _ _ _ c.ranges.t c.ranges.ts c.ranges.base c.ranges.stride c.ranges.s c.ranges.ss c.requires
+pub loop-i-init : goal.loop-i-init
+loop-i-init g c = (none _ 0 c.args.dst.now refl, many-none 0 _ refl)
 
-pub put_strided_by-requires-in-Lowest : goal.put_strided_by-requires-in-Lowest
-put_strided_by-requires-in-Lowest c = strided-asks _ _ _ _ _ _ _ _ _ _ _ c.ranges.t c.ranges.ts c.ranges.base c.ranges.stride c.ranges.s c.ranges.ss c.requires
+pub overflow_mul-p : goal.overflow_mul-p
+overflow_mul-p g c = (start-step _ _ _ _ _ _ _ _ _ _ _ c.requires c.ranges.t c.ranges.ts (omega arith) _ c.loop-i-test.true).multiple
 
-pub put_strided_by-requires-in-Highest : goal.put_strided_by-requires-in-Highest
-put_strided_by-requires-in-Highest c = strided-asks _ _ _ _ _ _ _ _ _ _ _ c.ranges.t c.ranges.ts c.ranges.base c.ranges.stride c.ranges.s c.ranges.ss c.requires
+pub overflow_add-p : goal.overflow_add-p
+overflow_add-p g c = (start-step _ _ _ _ _ _ _ _ _ _ _ c.requires c.ranges.t c.ranges.ts (omega arith) _ c.loop-i-test.true).fits
 
-pub put_strided_by-requires-in-Replace : goal.put_strided_by-requires-in-Replace
-put_strided_by-requires-in-Replace c = strided-asks _ _ _ _ _ _ _ _ _ _ _ c.ranges.t c.ranges.ts c.ranges.base c.ranges.stride c.ranges.s c.ranges.ss c.requires
+pub overflow_cast-p : goal.overflow_cast-p
+overflow_cast-p g c = (start-step _ _ _ _ _ _ _ _ _ _ _ c.requires c.ranges.t c.ranges.ts (omega arith) _ c.loop-i-test.true).cast
 
-pub returns-in-Add : goal.returns-in-Add
-returns-in-Add c = rw c.in-Add.is
-    (put-end (pos 0) (rule_i32 R.Add) c.args.src.now c.args.starts.now c.args.t c.args.ts c.args.base c.args.stride c.args.s c.args.ss c.args.limit c.args.n c.args.n c.args.dst.now _ c.ranges.t c.ranges.ts c.ranges.base c.ranges.stride c.ranges.s c.ranges.ss refl c.put_strided_by.ensures.0, moves-end c.args.starts.now c.args.t c.args.ts c.args.n c.args.n _ c.ranges.t c.ranges.ts refl c.args.limit c.put_strided_by.ensures.1)
+pub offset_bounds-starts-p : goal.offset_bounds-starts-p
+offset_bounds-starts-p g c = omega (arith, (start-step _ _ _ _ _ _ _ _ _ _ _ c.requires c.ranges.t c.ranges.ts (omega arith) _ c.loop-i-test.true).below)
 
-pub returns-in-Lowest : goal.returns-in-Lowest
-returns-in-Lowest c = rw c.in-Lowest.is
-    (put-end (pos 0) (rule_i32 R.Lowest) c.args.src.now c.args.starts.now c.args.t c.args.ts c.args.base c.args.stride c.args.s c.args.ss c.args.limit c.args.n c.args.n c.args.dst.now _ c.ranges.t c.ranges.ts c.ranges.base c.ranges.stride c.ranges.s c.ranges.ss refl c.put_strided_by-in-Lowest.ensures.0, moves-end c.args.starts.now c.args.t c.args.ts c.args.n c.args.n _ c.ranges.t c.ranges.ts refl c.args.limit c.put_strided_by-in-Lowest.ensures.1)
+pub bounds-starts-p : goal.bounds-starts-p
+bounds-starts-p g c = (start-step _ _ _ _ _ _ _ _ _ _ _ c.requires c.ranges.t c.ranges.ts (omega arith) _ c.loop-i-test.true).below
 
-pub returns-in-Highest : goal.returns-in-Highest
-returns-in-Highest c = rw c.in-Highest.is
-    (put-end (pos 0) (rule_i32 R.Highest) c.args.src.now c.args.starts.now c.args.t c.args.ts c.args.base c.args.stride c.args.s c.args.ss c.args.limit c.args.n c.args.n c.args.dst.now _ c.ranges.t c.ranges.ts c.ranges.base c.ranges.stride c.ranges.s c.ranges.ss refl c.put_strided_by-in-Highest.ensures.0, moves-end c.args.starts.now c.args.t c.args.ts c.args.n c.args.n _ c.ranges.t c.ranges.ts refl c.args.limit c.put_strided_by-in-Highest.ensures.1)
+pub overflow_cast-b : goal.overflow_cast-b
+overflow_cast-b g c =
+    let start : Step c.args.t c.args.ts c.loop-i.i (length c.args.starts.now) = start-step _ _ _ _ _ _ _ _ _ _ _ c.requires c.ranges.t c.ranges.ts (omega arith) _ c.loop-i-test.true in
+    let at : Step c.args.base c.args.stride c.clamp_window_start-y.result.start (length c.args.dst.now) = clamped-step _ _ _ _ _ _ _ _ _ _ _ c.requires c.ranges.t c.ranges.ts c.ranges.base c.ranges.stride (omega arith) _ c.loop-i-test.true start (search rules) _ c.clamp_window_start-y.ensures.0 in
+    at.count
 
-pub returns-in-Replace : goal.returns-in-Replace
-returns-in-Replace c = rw c.in-Replace.is
-    (put-end (pos 0) (rule_i32 R.Replace) c.args.src.now c.args.starts.now c.args.t c.args.ts c.args.base c.args.stride c.args.s c.args.ss c.args.limit c.args.n c.args.n c.args.dst.now _ c.ranges.t c.ranges.ts c.ranges.base c.ranges.stride c.ranges.s c.ranges.ss refl c.put_strided_by-in-Replace.ensures.0, moves-end c.args.starts.now c.args.t c.args.ts c.args.n c.args.n _ c.ranges.t c.ranges.ts refl c.args.limit c.put_strided_by-in-Replace.ensures.1)
+pub overflow_mul-b : goal.overflow_mul-b
+overflow_mul-b g c =
+    let start : Step c.args.t c.args.ts c.loop-i.i (length c.args.starts.now) = start-step _ _ _ _ _ _ _ _ _ _ _ c.requires c.ranges.t c.ranges.ts (omega arith) _ c.loop-i-test.true in
+    let at : Step c.args.base c.args.stride c.clamp_window_start-y.result.start (length c.args.dst.now) = clamped-step _ _ _ _ _ _ _ _ _ _ _ c.requires c.ranges.t c.ranges.ts c.ranges.base c.ranges.stride (omega arith) _ c.loop-i-test.true start (search rules) _ c.clamp_window_start-y.ensures.0 in
+    at.multiple
+
+pub overflow_add-b : goal.overflow_add-b
+overflow_add-b g c =
+    let start : Step c.args.t c.args.ts c.loop-i.i (length c.args.starts.now) = start-step _ _ _ _ _ _ _ _ _ _ _ c.requires c.ranges.t c.ranges.ts (omega arith) _ c.loop-i-test.true in
+    let at : Step c.args.base c.args.stride c.clamp_window_start-y.result.start (length c.args.dst.now) = clamped-step _ _ _ _ _ _ _ _ _ _ _ c.requires c.ranges.t c.ranges.ts c.ranges.base c.ranges.stride (omega arith) _ c.loop-i-test.true start (search rules) _ c.clamp_window_start-y.ensures.0 in
+    at.fits
+
+pub overflow_cast-b-in-loop-i : goal.overflow_cast-b-in-loop-i
+overflow_cast-b-in-loop-i g c =
+    let start : Step c.args.t c.args.ts c.loop-i.i (length c.args.starts.now) = start-step _ _ _ _ _ _ _ _ _ _ _ c.requires c.ranges.t c.ranges.ts (omega arith) _ c.loop-i-test.true in
+    let at : Step c.args.base c.args.stride c.clamp_window_start-y.result.start (length c.args.dst.now) = clamped-step _ _ _ _ _ _ _ _ _ _ _ c.requires c.ranges.t c.ranges.ts c.ranges.base c.ranges.stride (omega arith) _ c.loop-i-test.true start (search rules) _ c.clamp_window_start-y.ensures.0 in
+    at.cast
+
+pub overflow_mul-a : goal.overflow_mul-a
+overflow_mul-a g c = (plain_step _ _ _ _ _ _ _ _ _ _ _ c.requires c.ranges.s c.ranges.ss (omega arith) _ c.loop-i-test.true).multiple
+
+pub overflow_add-a : goal.overflow_add-a
+overflow_add-a g c = (plain_step _ _ _ _ _ _ _ _ _ _ _ c.requires c.ranges.s c.ranges.ss (omega arith) _ c.loop-i-test.true).fits
+
+pub overflow_cast-a : goal.overflow_cast-a
+overflow_cast-a g c = (plain_step _ _ _ _ _ _ _ _ _ _ _ c.requires c.ranges.s c.ranges.ss (omega arith) _ c.loop-i-test.true).cast
+
+pub offset_bounds-dst-b : goal.offset_bounds-dst-b
+offset_bounds-dst-b g c =
+    let start : Step c.args.t c.args.ts c.loop-i.i (length c.args.starts.now) = start-step _ _ _ _ _ _ _ _ _ _ _ c.requires c.ranges.t c.ranges.ts (omega arith) _ c.loop-i-test.true in
+    let at : Step c.args.base c.args.stride c.clamp_window_start-y.result.start (length c.args.dst.now) = clamped-step _ _ _ _ _ _ _ _ _ _ _ c.requires c.ranges.t c.ranges.ts c.ranges.base c.ranges.stride (omega arith) _ c.loop-i-test.true start (search rules) _ c.clamp_window_start-y.ensures.0 in
+    scaled_Fits _ (length c.loop-i.dst) _ (omega (arith, at.below)) (search rules)
+
+pub bounds-dst-b : goal.bounds-dst-b
+bounds-dst-b g c =
+    let start : Step c.args.t c.args.ts c.loop-i.i (length c.args.starts.now) = start-step _ _ _ _ _ _ _ _ _ _ _ c.requires c.ranges.t c.ranges.ts (omega arith) _ c.loop-i-test.true in
+    let at : Step c.args.base c.args.stride c.clamp_window_start-y.result.start (length c.args.dst.now) = clamped-step _ _ _ _ _ _ _ _ _ _ _ c.requires c.ranges.t c.ranges.ts c.ranges.base c.ranges.stride (omega arith) _ c.loop-i-test.true start (search rules) _ c.clamp_window_start-y.ensures.0 in
+    omega (arith, at.below)
+
+pub offset_bounds-dst-b-in-loop-i : goal.offset_bounds-dst-b-in-loop-i
+offset_bounds-dst-b-in-loop-i g c =
+    let start : Step c.args.t c.args.ts c.loop-i.i (length c.args.starts.now) = start-step _ _ _ _ _ _ _ _ _ _ _ c.requires c.ranges.t c.ranges.ts (omega arith) _ c.loop-i-test.true in
+    let at : Step c.args.base c.args.stride c.clamp_window_start-y.result.start (length c.args.dst.now) = clamped-step _ _ _ _ _ _ _ _ _ _ _ c.requires c.ranges.t c.ranges.ts c.ranges.base c.ranges.stride (omega arith) _ c.loop-i-test.true start (search rules) _ c.clamp_window_start-y.ensures.0 in
+    scaled_Fits _ (length c.loop-i.dst) _ (omega (arith, at.below)) (search rules)
+
+pub bounds-dst-b-in-loop-i : goal.bounds-dst-b-in-loop-i
+bounds-dst-b-in-loop-i g c =
+    let start : Step c.args.t c.args.ts c.loop-i.i (length c.args.starts.now) = start-step _ _ _ _ _ _ _ _ _ _ _ c.requires c.ranges.t c.ranges.ts (omega arith) _ c.loop-i-test.true in
+    let at : Step c.args.base c.args.stride c.clamp_window_start-y.result.start (length c.args.dst.now) = clamped-step _ _ _ _ _ _ _ _ _ _ _ c.requires c.ranges.t c.ranges.ts c.ranges.base c.ranges.stride (omega arith) _ c.loop-i-test.true start (search rules) _ c.clamp_window_start-y.ensures.0 in
+    omega (arith, at.below)
+
+pub offset_bounds-src-a : goal.offset_bounds-src-a
+offset_bounds-src-a g c =
+    let plain : Step c.args.s c.args.ss c.loop-i.i (length c.args.src.now) = plain_step _ _ _ _ _ _ _ _ _ _ _ c.requires c.ranges.s c.ranges.ss (omega arith) _ c.loop-i-test.true in
+    omega (arith, plain.below)
+
+pub bounds-src-a : goal.bounds-src-a
+bounds-src-a g c =
+    let plain : Step c.args.s c.args.ss c.loop-i.i (length c.args.src.now) = plain_step _ _ _ _ _ _ _ _ _ _ _ c.requires c.ranges.s c.ranges.ss (omega arith) _ c.loop-i-test.true in
+    plain.below
+
+pub overflow_add-slid : goal.overflow_add-slid
+overflow_add-slid g c = omega (arith, one_below c.loop-i.i _ _ _ c.clamp_window_start-y.result.moved c.loop-i.invariant.1 c.count_if-slid.ensures)
+
+pub loop-i-preserved : goal.loop-i-preserved
+loop-i-preserved g c =
+    let start : Step c.args.t c.args.ts c.loop-i.i (length c.args.starts.now) = start-step _ _ _ _ _ _ _ _ _ _ _ c.requires c.ranges.t c.ranges.ts (omega arith) _ c.loop-i-test.true in
+    let at : Step c.args.base c.args.stride c.clamp_window_start-y.result.start (length c.args.dst.now) = clamped-step _ _ _ _ _ _ _ _ _ _ _ c.requires c.ranges.t c.ranges.ts c.ranges.base c.ranges.stride (omega arith) _ c.loop-i-test.true start (search rules) _ c.clamp_window_start-y.ensures.0 in
+    let plain : Step c.args.s c.args.ss c.loop-i.i (length c.args.src.now) = plain_step _ _ _ _ _ _ _ _ _ _ _ c.requires c.ranges.s c.ranges.ss (omega arith) _ c.loop-i-test.true in (
+      cell-more g.E.Element.absent (g.R.Combine.combined c.args.rule) c.args.src.now (line (read c.args.s) (read c.args.ss)) (clamped_at c.args.starts.now (line (read c.args.t) (read c.args.ts)) (read c.args.base) (read c.args.stride) c.args.limit) c.args.dst.now c.loop-i.dst c.loop-i.i (nat_abs (machine c.args.s c.args.ss c.loop-i.i)) (nat_abs (machine c.args.base c.args.stride c.clamp_window_start-y.result.start)) _ c.loop-i.invariant.0 plain.index_is
+          (clamped-is c.args.starts.now c.args.t c.args.ts c.args.base c.args.stride c.args.limit _ _ _ _ start (search rules) at c.clamp_window_start-y.ensures.0) (c.apply.ensures ∙ ap₂ (g.R.Combine.combined c.args.rule) (element c.loop-i.dst _ _ g.E.Element.absent (omega (arith, at.below)) c.index-dst-b.is) (element c.args.src.now _ _ g.E.Element.absent plain.below c.index-src-a.is)),
+      many_more c.loop-i.i (moves_at c.args.starts.now (line (read c.args.t) (read c.args.ts)) c.args.limit) _ _ c.clamp_window_start-y.result.moved c.loop-i.invariant.1 c.count_if-slid.ensures
+          (moves-is c.args.starts.now _ _ c.args.limit _ _ start (search rules) _ c.clamp_window_start-y.ensures.1),
+    )
+
+pub returns : goal.returns
+returns g c = (
+  put-end g.E.Element.absent (g.R.Combine.combined c.args.rule) c.args.src.now c.args.starts.now c.args.t c.args.ts c.args.base c.args.stride c.args.s c.args.ss c.args.limit c.loop-i.i c.args.n c.args.dst.now c.loop-i.dst c.ranges.t c.ranges.ts c.ranges.base c.ranges.stride c.ranges.s c.ranges.ss (omega arith) c.loop-i.invariant.0,
+  moves-end c.args.starts.now c.args.t c.args.ts c.loop-i.i c.args.n c.loop-i.slid c.ranges.t c.ranges.ts (omega arith) c.args.limit c.loop-i.invariant.1,
+)
