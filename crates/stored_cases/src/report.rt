@@ -1,126 +1,110 @@
-// What the program prints, and the counts that it prints: for each outcome thirteen, one for each number of an answer, one
-// for the gathers and one for the scatters.
-use crate::outcomes::{DIFFERENT, EQUAL, TOO_LARGE};
-use std::io;
-use stored_reader::packed;
+// What the program prints: how many cases had each outcome, and why it reads no further.
+use crate::outcomes::Outcome;
+use std::{fmt, io};
+use stored_reader::packed::{Case, Kind};
 
-pub fn put(rt: &impl Print, text: &[u8]) -> io::Result<()> {
-    rt.write_all(text)
+// How many cases had each outcome.
+#[derive(Clone, Copy, Default)]
+struct Tally {
+    equal: u64,
+    different: u64,
+    too_large: u64,
 }
 
-fn put_with(rt: &impl Print, text: &[u8], n: u64) -> io::Result<()> {
-    put(rt, text)?;
-    rt.print(n)
+impl Tally {
+    fn count(&mut self, outcome: Outcome) {
+        let counted = match outcome {
+            Outcome::Equal => &mut self.equal,
+            Outcome::Different => &mut self.different,
+            Outcome::TooLarge => &mut self.too_large,
+        };
+        *counted = counted.wrapping_add(1);
+    }
+
+    fn total(&self) -> u64 {
+        self.equal
+            .wrapping_add(self.different)
+            .wrapping_add(self.too_large)
+    }
 }
 
-pub fn line(rt: &impl Print, text: &[u8], n: u64) -> io::Result<()> {
-    put_with(rt, text, n)?;
-    put(rt, b"\n")
+impl fmt::Display for Tally {
+    fn fmt<W: fmt::Write>(&self, f: &mut fmt::Formatter<W>) -> fmt::Result {
+        write!(
+            f,
+            "equal {}, different {}, too large {}",
+            self.equal, self.different, self.too_large
+        )
+    }
 }
 
-// The columns of the gathers and of the scatters, past those of the numbers.
-const GATHERS: u64 = 11;
+// All cases, the gathers and the scatters among them, and those of each number of an answer.
+#[derive(Clone, Copy, Default)]
+pub struct Counts {
+    all: Tally,
+    gathers: Tally,
+    scatters: Tally,
+    numbers: [Tally; 11],
+}
 
-const SCATTERS: u64 = 12;
-
-fn place(outcome: usize, column: u64) -> usize {
-    if outcome < 3 {
-        if column < 13 {
-            return outcome * 13 + column as usize;
+impl Counts {
+    pub fn count(&mut self, case: &Case, outcome: Outcome) {
+        self.all.count(outcome);
+        match case.kind {
+            Kind::Gather => self.gathers.count(outcome),
+            Kind::Scatter => self.scatters.count(outcome),
+        }
+        if let Some(tally) = self.numbers.get_mut(case.answered().number as usize) {
+            tally.count(outcome);
         }
     }
-    0
 }
 
-fn count_at(counts: &mut [u64], i: usize) {
-    if i < counts.len() {
-        counts[i] = std::num::wrapping_add_u64(counts[i], 1);
+impl fmt::Display for Counts {
+    fn fmt<W: fmt::Write>(&self, f: &mut fmt::Formatter<W>) -> fmt::Result {
+        writeln!(f, "stored cases: {}", self.all.total())?;
+        writeln!(f, "equal: {}", self.all.equal)?;
+        writeln!(f, "different: {}", self.all.different)?;
+        writeln!(f, "too large: {}", self.all.too_large)?;
+        writeln!(f, "gathers: {}", self.gathers)?;
+        writeln!(f, "scatters: {}", self.scatters)?;
+        for (number, tally) in self.numbers.iter().enumerate() {
+            writeln!(f, "answer {number}: {tally}")?;
+        }
+        Ok(())
     }
 }
 
-// Counts the case of this head and index under its outcome.
-pub fn count(
-    rt: &impl Print,
-    counts: &mut [u64],
-    outcome: usize,
-    head: &[u8],
-    index: u64,
-) -> io::Result<()> {
-    if outcome == DIFFERENT {
-        line(rt, b"different: case ", index)?;
+// Why the cases are not replayed to their end. A number is that of a case; of `MoreStored`, how many the header says.
+#[derive(Debug, Drop)]
+pub enum Stopped {
+    Io(io::Error),
+    EndsBefore(u64),
+    EndsInside(u64),
+    TooLong(u64),
+    Unlisted(u64),
+    MoreStored(u64),
+}
+
+impl From<io::Error> for Stopped {
+    fn from(error: io::Error) -> Stopped {
+        Stopped::Io(error)
     }
-    let kind = if packed::is_gather(head) {
-        GATHERS
-    } else {
-        SCATTERS
-    };
-    count_at(counts, place(outcome, packed::number(head)));
-    count_at(counts, place(outcome, kind));
-    Ok(())
 }
 
-fn at(counts: &[u64], outcome: usize, column: u64) -> u64 {
-    let i = place(outcome, column);
-    if i < counts.len() { counts[i] } else { 0 }
-}
-
-// How many cases had this outcome.
-fn total(counts: &[u64], outcome: usize) -> u64 {
-    let mut sum: u64 = 0;
-    let mut number: u64 = 0;
-    while number < 11 {
-        sum = std::num::wrapping_add_u64(sum, at(counts, outcome, number));
-        number += 1;
+impl fmt::Display for Stopped {
+    fn fmt<W: fmt::Write>(&self, f: &mut fmt::Formatter<W>) -> fmt::Result {
+        match self {
+            Stopped::Io(error) => write!(f, "{error}"),
+            Stopped::EndsBefore(case) => write!(f, "the file ends before case {case}"),
+            Stopped::EndsInside(case) => write!(f, "the file ends inside case {case}"),
+            Stopped::TooLong(case) => {
+                write!(f, "longer than the buffer of 512 words: case {case}")
+            }
+            Stopped::Unlisted(case) => write!(f, "a field has no listed value: case {case}"),
+            Stopped::MoreStored(count) => {
+                write!(f, "more is stored than the cases of the header: {count}")
+            }
+        }
     }
-    sum
-}
-
-fn put_column(rt: &impl Print, counts: &[u64], column: u64) -> io::Result<()> {
-    put_with(rt, b": equal ", at(counts, EQUAL, column))?;
-    put_with(rt, b", different ", at(counts, DIFFERENT, column))?;
-    line(rt, b", too large ", at(counts, TOO_LARGE, column))
-}
-
-fn put_kinds(rt: &impl Print, counts: &[u64]) -> io::Result<()> {
-    put(rt, b"gathers")?;
-    put_column(rt, counts, GATHERS)?;
-    put(rt, b"scatters")?;
-    put_column(rt, counts, SCATTERS)
-}
-
-fn put_row(rt: &impl Print, counts: &[u64], number: u64) -> io::Result<()> {
-    put_with(rt, b"answer ", number)?;
-    put_column(rt, counts, number)
-}
-
-fn put_rows(rt: &impl Print, counts: &[u64]) -> io::Result<()> {
-    let mut number: u64 = 0;
-    while number < 11 {
-        put_row(rt, counts, number)?;
-        number += 1;
-    }
-    Ok(())
-}
-
-fn put_totals(rt: &impl Print, equal: u64, different: u64, too_large: u64) -> io::Result<()> {
-    let answered = std::num::wrapping_add_u64(equal, different);
-    line(
-        rt,
-        b"stored cases: ",
-        std::num::wrapping_add_u64(answered, too_large),
-    )?;
-    line(rt, b"equal: ", equal)?;
-    line(rt, b"different: ", different)?;
-    line(rt, b"too large: ", too_large)
-}
-
-pub fn summary(rt: &impl Print, counts: &[u64]) -> io::Result<()> {
-    put_totals(
-        rt,
-        total(counts, EQUAL),
-        total(counts, DIFFERENT),
-        total(counts, TOO_LARGE),
-    )?;
-    put_kinds(rt, counts)?;
-    put_rows(rt, counts)
 }

@@ -2,90 +2,81 @@
 #![tactic(auto)]
 
 use gather_plan::{CompiledGather, GatherPlan};
-use layout::CallAnswer;
-use stored_reader::packed::{list, signed_list};
-use stored_reader::{packed, views};
+use layout::{CallAnswer, View};
+use stored_reader::packed::{Case, List, Side};
+use stored_reader::views::{call_view, refusal};
 
-fn compile(head: &[u8], words: &[u64], numbers: &[i64]) -> CompiledGather {
+// An element that a gather moves.
+pub trait Gathered: Copy {
+    fn gather(
+        plan: GatherPlan,
+        operand: View,
+        index: View,
+        dest: View,
+        source: &[Self],
+        starts: &[i64],
+        into: &mut [Self],
+    ) -> CallAnswer;
+}
+
+impl Gathered for i32 {
+    fn gather(
+        plan: GatherPlan,
+        operand: View,
+        index: View,
+        dest: View,
+        source: &[i32],
+        starts: &[i64],
+        into: &mut [i32],
+    ) -> CallAnswer {
+        gather::gather_i32(plan, operand, index, dest, source, starts, into)
+    }
+}
+
+impl Gathered for f64 {
+    fn gather(
+        plan: GatherPlan,
+        operand: View,
+        index: View,
+        dest: View,
+        source: &[f64],
+        starts: &[i64],
+        into: &mut [f64],
+    ) -> CallAnswer {
+        gather::gather_f64(plan, operand, index, dest, source, starts, into)
+    }
+}
+
+fn compile(case: &Case) -> CompiledGather {
     gather_plan::compile(
-        list(words, head, 0),
-        signed_list(numbers, head, 1),
-        list(words, head, 2),
-        signed_list(numbers, head, 3),
-        list(words, head, 4),
-        signed_list(numbers, head, 5),
-        list(words, head, 6),
-        list(words, head, 7),
-        list(words, head, 8),
-        packed::word_at(words, packed::VECTOR_AXIS),
-        list(words, head, 9),
+        case.list(List::FirstExtents),
+        case.signed_list(List::FirstStrides),
+        case.list(List::SecondExtents),
+        case.signed_list(List::SecondStrides),
+        case.list(List::ThirdExtents),
+        case.signed_list(List::ThirdStrides),
+        case.list(List::FirstAxes),
+        case.list(List::SecondAxes),
+        case.list(List::ThirdAxes),
+        case.vector_axis(),
+        case.list(List::FourthAxes),
     )
 }
 
-fn run_i32(
-    plan: GatherPlan,
-    head: &[u8],
-    words: &[u64],
-    numbers: &[i64],
-    source: &[i32],
-    into: &mut [i32],
-) -> CallAnswer {
-    let operand = views::call_view(head, words, numbers, 0);
-    let index = views::call_view(head, words, numbers, 1);
-    let dest = views::call_view(head, words, numbers, 2);
-    let starts = signed_list(numbers, head, packed::STARTS);
-    gather::gather_i32(plan, operand, index, dest, source, starts, into)
-}
-
 // The answer of a gather: of compile, or of the call on these slices.
-pub fn call_i32(
-    head: &[u8],
-    words: &[u64],
-    numbers: &[i64],
-    source: &[i32],
-    into: &mut [i32],
-) -> CallAnswer {
-    let compiled = compile(head, words, numbers);
-    let answer = compiled.answer;
-    let plan = compiled.plan;
-    let refused = views::refusal(answer, head, words, numbers);
-    if layout::is_done(refused) {
-        run_i32(plan, head, words, numbers, source, into)
-    } else {
-        layout::refused_call(refused)
+pub fn call<E: Gathered>(case: &Case, source: &[E], into: &mut [E]) -> CallAnswer {
+    let compiled = compile(case);
+    let refused = refusal(compiled.answer, case);
+    if !layout::is_done(refused) {
+        return layout::refused_call(refused);
     }
-}
-
-fn run_f64(
-    plan: GatherPlan,
-    head: &[u8],
-    words: &[u64],
-    numbers: &[i64],
-    source: &[f64],
-    into: &mut [f64],
-) -> CallAnswer {
-    let operand = views::call_view(head, words, numbers, 0);
-    let index = views::call_view(head, words, numbers, 1);
-    let dest = views::call_view(head, words, numbers, 2);
-    let starts = signed_list(numbers, head, packed::STARTS);
-    gather::gather_f64(plan, operand, index, dest, source, starts, into)
-}
-
-// The same for f64.
-pub fn call_f64(
-    head: &[u8],
-    words: &[u64],
-    numbers: &[i64],
-    source: &[f64],
-    into: &mut [f64],
-) -> CallAnswer {
-    let compiled = compile(head, words, numbers);
-    let answer = compiled.answer;
-    let plan = compiled.plan;
-    let refused = views::refusal(answer, head, words, numbers);
-    if layout::is_done(refused) {
-        run_f64(plan, head, words, numbers, source, into)
-    } else {
-        layout::refused_call(refused)
-    }
+    E::gather(
+        compiled.plan,
+        call_view(case, Side::First),
+        call_view(case, Side::Second),
+        call_view(case, Side::Third),
+        source,
+        case.signed_list(List::SecondSlice),
+        into,
+    )
 }

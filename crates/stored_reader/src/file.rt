@@ -6,6 +6,16 @@ use std::io::Read;
 use std::rt::Files;
 use std::{fs, io};
 
+// What such a file begins with.
+const MAGIC: &[u8] = b"strided2";
+
+const HEADER_BYTES: usize = 40;
+
+const PART_BYTES: usize = 4096;
+
+// A loop that is proved has to end, so it takes at most so many parts.
+const MOST_PARTS: u64 = 1048576;
+
 pub fn open<R: Files>(rt: &R) -> io::Result<R::File> {
     fs::open(rt, "cases.bin")
 }
@@ -25,20 +35,17 @@ fn read_full(file: &mut impl Read, bytes: &mut [u8]) -> io::Result<usize>
     Ok(done)
 }
 
-// Whether the file had bytes enough to fill the first n.
-pub fn fill_part(file: &mut impl Read, bytes: &mut [u8], n: usize) -> io::Result<bool> {
-    if n > bytes.len() {
-        return Ok(false);
-    }
-    let got = read_full(file, &mut bytes[..n])?;
-    Ok(got == n)
+// Whether the file had bytes enough.
+pub fn fill(file: &mut impl Read, bytes: &mut [u8]) -> io::Result<bool> {
+    let got = read_full(file, bytes)?;
+    Ok(got == bytes.len())
 }
 
 // Opens the file once more, past its header.
 pub fn open_at_cases<R: Files>(rt: &R) -> io::Result<R::File> {
-    let mut header = [0u8; 40];
+    let mut header = [0u8; HEADER_BYTES];
     let mut file = open(rt)?;
-    fill_part(&mut file, &mut header, 40)?;
+    fill(&mut file, &mut header)?;
     Ok(file)
 }
 
@@ -49,68 +56,54 @@ pub fn is_ended(file: &mut impl Read) -> io::Result<bool> {
     Ok(got == 0)
 }
 
-// Bytes that were read: how many, their sum, the sum of the sums after each, and whether they end here.
-#[derive(Clone, Copy)]
+// Bytes that were read: how many, their sum, and the sum of the sums after each.
+#[derive(Clone, Copy, Default, PartialEq, Eq)]
 struct Sums {
     bytes: u64,
     sum: u64,
     sums: u64,
-    ended: bool,
 }
 
-fn with_byte(s: Sums, byte: u8) -> Sums {
-    let sum = std::num::wrapping_add_u64(s.sum, byte as u64);
-    Sums {
-        bytes: std::num::wrapping_add_u64(s.bytes, 1),
-        sum,
-        sums: std::num::wrapping_add_u64(s.sums, sum),
-        ended: s.ended,
+impl Sums {
+    fn add(&mut self, bytes: &[u8]) {
+        for byte in bytes {
+            self.bytes = self.bytes.wrapping_add(1);
+            self.sum = self.sum.wrapping_add(u64::from(*byte));
+            self.sums = self.sums.wrapping_add(self.sum);
+        }
     }
 }
 
-fn with_bytes(s: Sums, bytes: &[u8]) -> Sums {
-    let mut all = s;
-    let mut i: usize = 0;
-    while i < bytes.len() {
-        all = with_byte(all, bytes[i]);
-        i += 1;
+// The sums of the rest of the file, which ends with a part that is not full.
+fn rest_of(file: &mut impl Read) -> io::Result<Option<Sums>> {
+    let mut part = [0u8; PART_BYTES];
+    let mut sums = Sums::default();
+    for _ in 0..MOST_PARTS {
+        let got = read_full(file, &mut part)?;
+        sums.add(&part[..got]);
+        if got < PART_BYTES {
+            return Ok(Some(sums));
+        }
     }
-    all
+    Ok(None)
 }
 
-// The next part of the file, which ends with a part that is not full.
-fn with_part(file: &mut impl Read, s: Sums) -> io::Result<Sums> {
-    let mut part = [0u8; 4096];
-    let got = read_full(file, &mut part)?;
-    let mut all = with_bytes(s, &part[..got]);
-    all.ended = got < 4096;
-    Ok(all)
-}
-
-// A loop that is proved has to end, so it takes at most so many parts.
-fn rest_of(file: &mut impl Read) -> io::Result<Sums> {
-    let mut all = Sums {
-        bytes: 0,
-        sum: 0,
-        sums: 0,
-        ended: false,
+// How many cases the header says there are, if this is such a file, and the bytes after the header are as many as it says,
+// with its sums.
+pub fn undamaged_count(file: &mut impl Read) -> io::Result<Option<u64>> {
+    let mut header = [0u8; HEADER_BYTES];
+    if !fill(file, &mut header)? || !header.starts_with(MAGIC) {
+        return Ok(None);
+    }
+    let stored = Sums {
+        bytes: word(&header, 16),
+        sum: word(&header, 24),
+        sums: word(&header, 32),
     };
-    let mut parts: u64 = 0;
-    while parts < 1048576 && !all.ended {
-        all = with_part(file, all)?;
-        parts += 1;
-    }
-    Ok(all)
-}
-
-// Whether this is such a file, and the bytes after the header are as many as it says, with its sums.
-pub fn is_undamaged(file: &mut impl Read, header: &[u8]) -> io::Result<bool> {
     let rest = rest_of(file)?;
-    Ok(
-        word(header, 0) == 3631138681507705971
-            && rest.ended
-            && rest.bytes == word(header, 16)
-            && rest.sum == word(header, 24)
-            && rest.sums == word(header, 32),
-    )
+    if rest == Some(stored) {
+        Ok(Some(word(&header, 8)))
+    } else {
+        Ok(None)
+    }
 }

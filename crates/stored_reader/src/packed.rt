@@ -1,243 +1,296 @@
-// A case as it is packed (data/README.md): a head of 32 bytes, then words of eight bytes. Each function answers for any
+// A case as it is packed (data/README.md): a head of 32 bytes, then words of eight bytes. Each method answers for any
 // bytes; what is past their end counts as 0, or as an empty list.
 
-ghost use Rattle.std.specs.Prelude.{◌≤◌};
+ghost use Rattle.std.specs.Prelude.{◌≡◌, ◌≤◌, length};
 
-fn byte(bytes: &[u8], i: usize) -> u8 {
-    if i < bytes.len() { bytes[i] } else { 0 }
-}
+pub const HEAD_BYTES: usize = 32;
 
-fn wide(bytes: &[u8], i: usize) -> u64 {
-    let b = byte(bytes, i);
-    b as u64
-}
+// How many words of a case there is room for, and how many bytes they take.
+pub const WORDS: usize = 512;
+
+pub const CASE_BYTES: usize = 8 * WORDS;
 
 // The word of the eight bytes from this place on, the least first.
 pub fn word(bytes: &[u8], at: usize) -> u64 {
-    if bytes.len() < 8 {
-        return 0;
-    }
-    if bytes.len() - 8 < at {
-        return 0;
-    }
-    let mut n: u64 = 0;
-    let mut i: usize = 8;
-    while i > 0 {
-        i -= 1;
-        n = n << 8 | wide(bytes, at + i);
-    }
-    n
+    bytes
+        .get(at..)
+        .and_then(|rest| rest.first_chunk())
+        .map_or(0, |eight| u64::from_le_bytes(*eight))
 }
 
-pub fn decode(bytes: &[u8], words: &mut [u64]) {
-    let mut at: usize = 0;
-    let mut i: usize = 0;
-    while i < words.len() {
-        words[i] = word(bytes, at);
-        if at < 4096 {
-            at += 8;
-        }
-        i += 1;
+pub fn words_of(bytes: &[u8; CASE_BYTES]) -> [u64; WORDS] {
+    let mut words = [0; WORDS];
+    for (word, eight) in words.iter_mut().zip(bytes.as_chunks().0) {
+        *word = u64::from_le_bytes(*eight);
     }
-}
-
-// In two's complement.
-fn signed(word: u64) -> i64 {
-    if word <= 9223372036854775807 {
-        word as i64
-    } else {
-        -1 - ((18446744073709551615 - word) as i64)
-    }
-}
-
-pub fn decode_signed(words: &[u64], numbers: &mut [i64]) {
-    let mut i: usize = 0;
-    while i < numbers.len() {
-        numbers[i] = signed(word_at(words, i));
-        i += 1;
-    }
+    words
 }
 
 // ---- the head
 
-pub fn is_f64(head: &[u8]) -> bool {
-    byte(head, 1) == 2
+#[derive(Clone, Copy)]
+pub enum Kind {
+    Gather,
+    Scatter,
 }
 
-pub fn is_gather(head: &[u8]) -> bool {
-    byte(head, 0) == 1
+#[derive(Clone, Copy)]
+pub enum ElementType {
+    I32,
+    F64,
 }
 
-// The number of the stored answer.
-pub fn number(head: &[u8]) -> u64 {
-    wide(head, 5)
+// A view of the call, in view order: a gather's operand, index and destination, a scatter's index, updates and destination.
+#[derive(Clone, Copy)]
+pub enum Side {
+    First,
+    Second,
+    Third,
 }
 
-// How many entries the list of this place has.
-pub fn list_count(head: &[u8], list: usize) -> usize
-    ensures { result ≤ 255 }
-{
-    if list < 20 {
-        let n = byte(head, 6 + list);
-        n as usize
-    } else {
-        0
+pub const SIDES: [Side; 3] = [Side::First, Side::Second, Side::Third];
+
+// The lists of a case as they are packed: the layouts of the plan, the axes of its spec, the layouts of the call's own, the
+// slices, and the destination's slice after the call.
+#[derive(Clone, Copy)]
+pub enum List {
+    FirstExtents,
+    FirstStrides,
+    SecondExtents,
+    SecondStrides,
+    ThirdExtents,
+    ThirdStrides,
+    FirstAxes,
+    SecondAxes,
+    ThirdAxes,
+    FourthAxes,
+    OwnFirstExtents,
+    OwnFirstStrides,
+    OwnSecondExtents,
+    OwnSecondStrides,
+    OwnThirdExtents,
+    OwnThirdStrides,
+    FirstSlice,
+    SecondSlice,
+    Dest,
+    DestAfter,
+}
+
+impl Side {
+    // The extents and the strides of the plan's layout.
+    fn planned(self) -> (List, List) {
+        match self {
+            Side::First => (List::FirstExtents, List::FirstStrides),
+            Side::Second => (List::SecondExtents, List::SecondStrides),
+            Side::Third => (List::ThirdExtents, List::ThirdStrides),
+        }
+    }
+
+    // Those of a layout of the call's own.
+    fn own(self) -> (List, List) {
+        match self {
+            Side::First => (List::OwnFirstExtents, List::OwnFirstStrides),
+            Side::Second => (List::OwnSecondExtents, List::OwnSecondStrides),
+            Side::Third => (List::OwnThirdExtents, List::OwnThirdStrides),
+        }
     }
 }
 
-// ---- the words
-
-// Places of words: after the offsets of the three views the vector axis, then a and b of the stored answer, and how many
-// windows slid.
-pub const VECTOR_AXIS: usize = 3;
-
-pub const A: usize = 4;
-
-pub const B: usize = 5;
-
-pub const SLID: usize = 6;
-
-pub fn word_at(words: &[u64], i: usize) -> u64 {
-    if i < words.len() { words[i] } else { 0 }
+#[derive(Clone, Copy)]
+pub struct Head {
+    bytes: [u8; HEAD_BYTES],
 }
 
-// The same of signed numbers.
-pub fn number_at(numbers: &[i64], i: usize) -> i64 {
-    if i < numbers.len() { numbers[i] } else { 0 }
-}
+// Words that stand before the lists.
+const WORDS_BEFORE: usize = 7;
 
-// ---- the lists
-
-// Places of lists: a gather's operand and starts, a scatter's starts and updates, the destination's contents before and
-// after the call.
-const OPERAND: usize = 16;
-
-pub const STARTS: usize = 17;
-
-pub const SCATTER_STARTS: usize = 16;
-
-const UPDATES: usize = 17;
-
-pub const DEST: usize = 18;
-
-pub const DEST_AFTER: usize = 19;
-
-// The place of the list whose elements the call reads.
-pub fn source(head: &[u8]) -> usize {
-    if is_gather(head) { OPERAND } else { UPDATES }
-}
-
-fn lists_before(place: usize) -> usize
-    ensures { result ≤ 20 }
-{
-    if place < 20 { place } else { 20 }
-}
-
-// Where the list of this place begins: past seven words and the lists before it.
-fn list_start(head: &[u8], place: usize) -> usize
-    ensures { result ≤ 5107 }
-{
-    let n = lists_before(place);
-    let mut at: usize = 7;
-    let mut i: usize = 0;
-    while i < n {
-        at += list_count(head, i);
-        i += 1;
+impl Head {
+    pub fn new(bytes: [u8; HEAD_BYTES]) -> Head {
+        Head { bytes }
     }
-    at
-}
 
-// How many bytes the words of a case take.
-pub fn size(head: &[u8]) -> usize {
-    8 * list_start(head, 20)
-}
-
-// The list of this place.
-pub fn list<'a>(words: &'a [u64], head: &[u8], place: usize) -> &'a [u64] {
-    let from = list_start(head, place);
-    let n = list_count(head, place);
-    let to = from + n;
-    if to <= words.len() {
-        &words[from..to]
-    } else {
-        &words[..0]
+    fn kind(&self) -> Option<Kind> {
+        match self.bytes[0] {
+            1 => Some(Kind::Gather),
+            2 => Some(Kind::Scatter),
+            _ => None,
+        }
     }
-}
 
-// The same of signed numbers.
-pub fn signed_list<'a>(numbers: &'a [i64], head: &[u8], place: usize) -> &'a [i64] {
-    let from = list_start(head, place);
-    let n = list_count(head, place);
-    let to = from + n;
-    if to <= numbers.len() {
-        &numbers[from..to]
-    } else {
-        &numbers[..0]
+    fn element_type(&self) -> Option<ElementType> {
+        match self.bytes[1] {
+            1 => Some(ElementType::I32),
+            2 => Some(ElementType::F64),
+            _ => None,
+        }
     }
-}
 
-// Where the extents of a view of the call stand, the views counted from 0: its own layout's, or the plan's. Its strides
-// stand next.
-pub fn call_extents(head: &[u8], view: usize) -> usize
-    ensures { result ≤ 14 }
-{
-    if view > 2 {
-        return 0;
+    // Whether the call has a layout of its own for this view, if that is told.
+    fn has_own(&self, side: Side) -> Option<bool> {
+        let told = match side {
+            Side::First => self.bytes[2],
+            Side::Second => self.bytes[3],
+            Side::Third => self.bytes[4],
+        };
+        match told {
+            0 => Some(false),
+            1 => Some(true),
+            _ => None,
+        }
     }
-    if byte(head, 2 + view) == 1 {
-        10 + 2 * view
-    } else {
-        2 * view
+
+    // The number of the stored answer.
+    fn number(&self) -> u8 {
+        self.bytes[5]
+    }
+
+    fn counts(&self) -> &[u8]
+        ensures { length result.now ≡ 20 }
+    {
+        &self.bytes[6..26]
+    }
+
+    // How many entries this list has.
+    fn count(&self, list: List) -> usize
+        ensures { result ≤ 255 }
+    {
+        self.counts()
+            .get(list as usize)
+            .map_or(0, |n| usize::from(*n))
+    }
+
+    // Where the words end of the first so many lists.
+    fn words_before(&self, lists: usize) -> usize
+        ensures { result ≤ 5107 }
+    {
+        let counts = self.counts();
+        let mut at = WORDS_BEFORE;
+        for n in &counts[..lists.min(counts.len())] {
+            at += usize::from(*n);
+        }
+        at
+    }
+
+    // How many bytes the words of the case take.
+    pub fn size(&self) -> usize {
+        8 * self.words_before(20)
+    }
+
+    // A view of the call has a layout of its own, or none: two empty lists.
+    fn has_own_or_none(&self, side: Side) -> bool {
+        let (extents, strides) = side.own();
+        match self.has_own(side) {
+            Some(true) => true,
+            Some(false) => self.count(extents) == 0 && self.count(strides) == 0,
+            None => false,
+        }
     }
 }
 
-// ---- whether it is a case
+// ---- the case
 
-fn is_head(head: &[u8]) -> bool {
-    let kind = byte(head, 0);
-    let element = byte(head, 1);
-    (kind == 1 || kind == 2) && (element == 1 || element == 2) && byte(head, 5) <= 10
+// What is stored of the call's answer: its number, a and b, and how many windows slid.
+#[derive(Clone, Copy, PartialEq, Eq)]
+pub struct Answered {
+    pub number: u64,
+    pub a: u64,
+    pub b: u64,
+    pub slid: u64,
 }
 
-// A view of the call has a layout of its own, or none: two empty lists.
-fn is_own_layout(head: &[u8], flag: usize, extents: usize, strides: usize) -> bool {
-    let given = byte(head, flag);
-    if given == 0 {
-        list_count(head, extents) == 0 && list_count(head, strides) == 0
-    } else {
-        given == 1
+// A case, each field of which has a listed value; the words also as signed numbers.
+#[derive(Clone, Copy)]
+pub struct Case<'a> {
+    pub kind: Kind,
+    pub element_type: ElementType,
+    head: Head,
+    words: &'a [u64],
+    numbers: &'a [i64],
+}
+
+impl<'a> Case<'a> {
+    pub fn new(head: Head, words: &'a [u64], numbers: &'a [i64]) -> Option<Case<'a>> {
+        let case = Case {
+            kind: head.kind()?,
+            element_type: head.element_type()?,
+            head,
+            words,
+            numbers,
+        };
+        let is_listed = head.number() <= 10
+            && SIDES.iter().all(|side| head.has_own_or_none(*side))
+            && case.has_elements();
+        if is_listed { Some(case) } else { None }
     }
-}
 
-fn are_own_layouts(head: &[u8]) -> bool {
-    is_own_layout(head, 2, 10, 11)
-        && is_own_layout(head, 3, 12, 13)
-        && is_own_layout(head, 4, 14, 15)
+    // An f64 may have any bits.
+    fn has_elements(&self) -> bool {
+        match self.element_type {
+            ElementType::F64 => true,
+            ElementType::I32 => {
+                are_i32(self.signed_list(self.source()))
+                    && are_i32(self.signed_list(List::Dest))
+                    && are_i32(self.signed_list(List::DestAfter))
+            }
+        }
+    }
+
+    fn word(&self, i: usize) -> u64 {
+        self.words.get(i).copied().unwrap_or(0)
+    }
+
+    // The first words: the offsets of the views, the vector axis, and what is stored of the answer.
+    pub fn offset(&self, side: Side) -> i64 {
+        match side {
+            Side::First => self.word(0).cast_signed(),
+            Side::Second => self.word(1).cast_signed(),
+            Side::Third => self.word(2).cast_signed(),
+        }
+    }
+
+    pub fn vector_axis(&self) -> u64 {
+        self.word(3)
+    }
+
+    pub fn answered(&self) -> Answered {
+        Answered {
+            number: u64::from(self.head.number()),
+            a: self.word(4),
+            b: self.word(5),
+            slid: self.word(6),
+        }
+    }
+
+    pub fn list(&self, list: List) -> &'a [u64] {
+        let from = self.head.words_before(list as usize);
+        let to = from + self.head.count(list);
+        self.words.get(from..to).unwrap_or(&[])
+    }
+
+    pub fn signed_list(&self, list: List) -> &'a [i64] {
+        let from = self.head.words_before(list as usize);
+        let to = from + self.head.count(list);
+        self.numbers.get(from..to).unwrap_or(&[])
+    }
+
+    // The list whose elements the call reads.
+    pub fn source(&self) -> List {
+        match self.kind {
+            Kind::Gather => List::FirstSlice,
+            Kind::Scatter => List::SecondSlice,
+        }
+    }
+
+    // The extents and the strides of a view of the call: those of its own layout, or the plan's.
+    pub fn layout(&self, side: Side) -> (&'a [u64], &'a [i64]) {
+        let (extents, strides) = match self.head.has_own(side) {
+            Some(true) => side.own(),
+            _ => side.planned(),
+        };
+        (self.list(extents), self.signed_list(strides))
+    }
 }
 
 fn are_i32(numbers: &[i64]) -> bool {
-    let mut i: usize = 0;
-    while i < numbers.len() {
-        let n = numbers[i];
-        if n < -2147483648 || n > 2147483647 {
-            return false;
-        }
-        i += 1;
-    }
-    true
-}
-
-// An f64 may have any bits.
-fn are_elements(head: &[u8], numbers: &[i64]) -> bool {
-    if is_f64(head) {
-        return true;
-    }
-    are_i32(signed_list(numbers, head, source(head)))
-        && are_i32(signed_list(numbers, head, DEST))
-        && are_i32(signed_list(numbers, head, DEST_AFTER))
-}
-
-// Whether every field has a listed value.
-pub fn is_case(head: &[u8], numbers: &[i64]) -> bool {
-    is_head(head) && are_own_layouts(head) && are_elements(head, numbers)
+    numbers.iter().all(|n| i32::try_from(*n).is_ok())
 }

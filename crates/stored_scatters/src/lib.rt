@@ -1,123 +1,115 @@
 // A stored scatter, whole: compile, then the call.
 #![tactic(auto)]
 
-use layout::CallAnswer;
+use layout::{CallAnswer, RAW_FUSED_RANK_LIMIT, View};
 use rules::{Rule, RuleF64};
-use scatter_plan::CompiledScatter;
-use stored_reader::packed::{list, signed_list};
-use stored_reader::{packed, views};
+use scatter_plan::{CompiledScatter, ScatterPlan};
+use stored_reader::packed::{Case, List, Side};
+use stored_reader::views::{call_view, refusal};
 
-fn compile(head: &[u8], words: &[u64], numbers: &[i64]) -> CompiledScatter {
+// The rows of a walk: two steps and two resets for each axis.
+type Rows = [[i64; 4]; RAW_FUSED_RANK_LIMIT];
+
+// An element that a scatter adds.
+pub trait Scattered: Copy {
+    fn scatter(
+        plan: ScatterPlan,
+        batch_rows: Rows,
+        window_rows: Rows,
+        index: View,
+        updates: View,
+        dest: View,
+        starts: &[i64],
+        source: &[Self],
+        into: &mut [Self],
+    ) -> CallAnswer;
+}
+
+impl Scattered for i32 {
+    fn scatter(
+        plan: ScatterPlan,
+        batch_rows: Rows,
+        window_rows: Rows,
+        index: View,
+        updates: View,
+        dest: View,
+        starts: &[i64],
+        source: &[i32],
+        into: &mut [i32],
+    ) -> CallAnswer {
+        scatter::scatter_i32(
+            Rule::Add,
+            plan,
+            batch_rows,
+            window_rows,
+            index,
+            updates,
+            dest,
+            starts,
+            source,
+            into,
+        )
+    }
+}
+
+impl Scattered for f64 {
+    fn scatter(
+        plan: ScatterPlan,
+        batch_rows: Rows,
+        window_rows: Rows,
+        index: View,
+        updates: View,
+        dest: View,
+        starts: &[i64],
+        source: &[f64],
+        into: &mut [f64],
+    ) -> CallAnswer {
+        scatter::scatter_f64(
+            RuleF64::Add,
+            plan,
+            batch_rows,
+            window_rows,
+            index,
+            updates,
+            dest,
+            starts,
+            source,
+            into,
+        )
+    }
+}
+
+fn compile(case: &Case) -> CompiledScatter {
     scatter_plan::compile(
-        list(words, head, 0),
-        signed_list(numbers, head, 1),
-        list(words, head, 2),
-        signed_list(numbers, head, 3),
-        list(words, head, 4),
-        signed_list(numbers, head, 5),
-        list(words, head, 6),
-        list(words, head, 7),
-        list(words, head, 8),
-        packed::word_at(words, packed::VECTOR_AXIS),
+        case.list(List::FirstExtents),
+        case.signed_list(List::FirstStrides),
+        case.list(List::SecondExtents),
+        case.signed_list(List::SecondStrides),
+        case.list(List::ThirdExtents),
+        case.signed_list(List::ThirdStrides),
+        case.list(List::FirstAxes),
+        case.list(List::SecondAxes),
+        case.list(List::ThirdAxes),
+        case.vector_axis(),
     )
 }
 
-// The call of a plan, with the rows of its walks.
-fn run_i32(
-    compiled: CompiledScatter,
-    head: &[u8],
-    words: &[u64],
-    numbers: &[i64],
-    source: &[i32],
-    into: &mut [i32],
-) -> CallAnswer {
-    let plan = compiled.plan;
-    let batch_axes = compiled.batch_axes;
-    let window_axes = compiled.window_axes;
-    let batch_rows = replay::rows_of(batch_axes);
-    let window_rows = replay::rows_of(window_axes);
-    let index = views::call_view(head, words, numbers, 0);
-    let updates = views::call_view(head, words, numbers, 1);
-    let dest = views::call_view(head, words, numbers, 2);
-    let starts = signed_list(numbers, head, packed::SCATTER_STARTS);
-    scatter::scatter_i32(
-        Rule::Add,
-        plan,
-        batch_rows,
-        window_rows,
-        index,
-        updates,
-        dest,
-        starts,
+// The answer of a scatter: of compile, or of the call on these slices, with the rows of the plan's walks.
+pub fn call<E: Scattered>(case: &Case, source: &[E], into: &mut [E]) -> CallAnswer {
+    let compiled = compile(case);
+    let refused = refusal(compiled.answer, case);
+    if !layout::is_done(refused) {
+        return layout::refused_call(refused);
+    }
+    E::scatter(
+        compiled.plan,
+        replay::rows_of(compiled.batch_axes),
+        replay::rows_of(compiled.window_axes),
+        call_view(case, Side::First),
+        call_view(case, Side::Second),
+        call_view(case, Side::Third),
+        case.signed_list(List::FirstSlice),
         source,
         into,
     )
-}
-
-// The answer of a scatter: of compile, or of the call on these slices.
-pub fn call_i32(
-    head: &[u8],
-    words: &[u64],
-    numbers: &[i64],
-    source: &[i32],
-    into: &mut [i32],
-) -> CallAnswer {
-    let compiled = compile(head, words, numbers);
-    let answer = compiled.answer;
-    let refused = views::refusal(answer, head, words, numbers);
-    if layout::is_done(refused) {
-        run_i32(compiled, head, words, numbers, source, into)
-    } else {
-        layout::refused_call(refused)
-    }
-}
-
-// The call of a plan, with the rows of its walks.
-fn run_f64(
-    compiled: CompiledScatter,
-    head: &[u8],
-    words: &[u64],
-    numbers: &[i64],
-    source: &[f64],
-    into: &mut [f64],
-) -> CallAnswer {
-    let plan = compiled.plan;
-    let batch_axes = compiled.batch_axes;
-    let window_axes = compiled.window_axes;
-    let batch_rows = replay::rows_of(batch_axes);
-    let window_rows = replay::rows_of(window_axes);
-    let index = views::call_view(head, words, numbers, 0);
-    let updates = views::call_view(head, words, numbers, 1);
-    let dest = views::call_view(head, words, numbers, 2);
-    let starts = signed_list(numbers, head, packed::SCATTER_STARTS);
-    scatter::scatter_f64(
-        RuleF64::Add,
-        plan,
-        batch_rows,
-        window_rows,
-        index,
-        updates,
-        dest,
-        starts,
-        source,
-        into,
-    )
-}
-
-// The same for f64.
-pub fn call_f64(
-    head: &[u8],
-    words: &[u64],
-    numbers: &[i64],
-    source: &[f64],
-    into: &mut [f64],
-) -> CallAnswer {
-    let compiled = compile(head, words, numbers);
-    let answer = compiled.answer;
-    let refused = views::refusal(answer, head, words, numbers);
-    if layout::is_done(refused) {
-        run_f64(compiled, head, words, numbers, source, into)
-    } else {
-        layout::refused_call(refused)
-    }
 }

@@ -7,12 +7,11 @@ use Rattle.layout.proofs.First.{done-is}
 use Rattle.replay.specs.declared.CompiledReplay.{CompiledReplay}
 use Rattle.walk.specs.Walks.{covers_of}
 use Rattle.walk.specs.Walking.{Ready, Walking, walking, spans-cover}
-use Rattle.walk_cases.proofs.walk_from.Given as given
-use Rattle.walk_cases.proofs.walk_from.Goals as goal
+use Rattle.walk_cases.proofs.placed.PlacedWalk.new.Goals as goal
 
 -- what the tests have shown by the time that the shape and the rows are made
-known : (g : given.Over) (c : goal.After-rows_of-rows g) → Walking (take c.args.rank c.args.shape) (take c.args.rank c.args.sources) (take c.args.rank c.args.dests) (to_z w64 (of_z w64 c.args.source_base)) (to_z w64 (of_z w64 c.args.dest_base)) c.compile_window_replay-made.result.replay.extents c.rows_of-rows.result c.compile_window_replay-made.result.replay.rank
-known g c =
+known : (c : goal.After-rows_of-rows) → Walking (take c.args.rank c.args.shape) (take c.args.rank c.args.sources) (take c.args.rank c.args.dests) (to_z w64 (of_z w64 c.args.source_base)) (to_z w64 (of_z w64 c.args.dest_base)) c.compile_window_replay-made.result.replay.extents c.rows_of-rows.result c.compile_window_replay-made.result.replay.rank
+known c =
     let ds : List ℕ = take c.args.rank c.args.shape in
     let ss : List ℤ = take c.args.rank c.args.sources in
     let ts : List ℤ = take c.args.rank c.args.dests in
@@ -40,8 +39,5 @@ known g c =
     let q : Ready ds ss ts sb db = record { done = ap (λ (x : CompiledReplay). x.answer) (sym c.compile_window_replay-made.ensures) ∙ n; positive = some-cells ds z; source-reach = t.0; dest-reach = t.1 } in
     walking ds ss ts l0 l1 l2 r c.compile_window_replay-made.ensures sb db q r.replay.extents c.rows_of-rows.result refl c.rows_of-rows.ensures
 
-pub places-requires : goal.places-requires
-places-requires g c = (known g c).walk
-
-pub places_back-requires : goal.places_back-requires
-places_back-requires g c = (known g search).walk
+pub returns : goal.returns
+returns c = (known c).walk
