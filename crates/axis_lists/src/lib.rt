@@ -29,7 +29,7 @@ pub struct Steps {
 pub fn numbers_from(list: &[u64]) -> Numbers
     ensures { result ≡ held_numbers list.now }
 {
-    let out = layout::padded_numbers(list, 0);
+    let out = layout::padded(list, 0);
     Numbers {
         count: list.len(),
         entries: out,

@@ -5,7 +5,6 @@ pub mod counts;
 
 use axis_lists::{Numbers, Steps};
 use gather_plan::{GatherPlan, GatherReplayAxis, Role};
-use integer::Checked;
 use layout::{Layout, RAW_FUSED_RANK_LIMIT};
 
 // A field of a plan. A layout's are 0 for the rank, 1 for the extents, 2 for the strides; a list's are 0 for the count and 1
@@ -46,8 +45,8 @@ pub fn other_usize(n: usize, k: u64) -> usize {
 fn sum(a: i64, b: i64) -> i64 {
     let checked = integer::checked_add_i64(a, b);
     match checked {
-        Checked::Fits(n) => n,
-        Checked::Overflow => 0,
+        Some(n) => n,
+        None => 0,
     }
 }
 

@@ -16,7 +16,7 @@ ghost use Rattle.gather_windows.specs.Gathering.{gathered_by, Gathering, Batched
 ghost use Rattle.calls.specs.Calls.{Does, as_is};
 ghost use Rattle.gather_move.specs.Prepared.{Cells, Movable};
 
-use layout::{Answer, CallAnswer, RAW_FUSED_RANK_LIMIT, Reach};
+use layout::{Refusal, CallAnswer, RAW_FUSED_RANK_LIMIT, Reach};
 
 // The numbers that the cells of a gather are moved with: the destination's axes, with the batch coordinates of each and its steps in
 // the operand, the index view and the destination, and the components of a start.
@@ -38,7 +38,7 @@ pub struct GatherNumbers {
 // where the operand, the starts and the destination begin.
 #[derive(Clone, Copy)]
 pub struct PreparedGather {
-    pub answer: Answer,
+    pub answer: Result<(), Refusal>,
     pub reach: Reach,
     pub numbers: GatherNumbers,
     pub operand: i64,
@@ -72,7 +72,7 @@ pub fn batch_extents(
 }
 
 // A call that is refused.
-pub fn refused(answer: Answer) -> PreparedGather
+pub fn refused(answer: Result<(), Refusal>) -> PreparedGather
     ensures { result.answer ≡ answer }
 {
     let ones = [1u64; RAW_FUSED_RANK_LIMIT];

@@ -1,7 +1,6 @@
 // Runs document 01's harbour cases through the code, and prints each with its answer.
 #![tactic(auto)]
 
-use integer::{Checked, CheckedU};
 use std::io;
 
 fn put_i32(rt: &impl Print, n: i32) -> io::Result<()> {
@@ -11,7 +10,7 @@ fn put_i32(rt: &impl Print, n: i32) -> io::Result<()> {
 // 3 is the number of OffsetOverflow.
 fn put_refused(rt: &impl Print) -> io::Result<()> {
     printing::put(rt, b"refused by ")?;
-    printing::put_u64(rt, layout::number(layout::Answer::OffsetOverflow))?;
+    printing::put_u64(rt, layout::number(Err(layout::Refusal::OffsetOverflow)))?;
     printing::end_line(rt)
 }
 
@@ -20,11 +19,11 @@ fn product(rt: &impl Print, extents: &[u64]) -> io::Result<()> {
     printing::put_extents(rt, extents)?;
     printing::put(rt, b": ")?;
     match spans::checked_total_len(extents) {
-        CheckedU::Fits(n) => {
+        Some(n) => {
             printing::put_u64(rt, n)?;
             printing::end_line(rt)
         }
-        CheckedU::Overflow => put_refused(rt),
+        None => put_refused(rt),
     }
 }
 
@@ -51,11 +50,11 @@ fn reset(rt: &impl Print, extent: u64, stride: i64) -> io::Result<()> {
     printing::put_i64(rt, stride)?;
     printing::put(rt, b": ")?;
     match layout::checked_replay_reset(extent, stride) {
-        Checked::Fits(r) => {
+        Some(r) => {
             printing::put_i64(rt, r)?;
             printing::end_line(rt)
         }
-        Checked::Overflow => put_refused(rt),
+        None => put_refused(rt),
     }
 }
 

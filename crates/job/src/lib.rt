@@ -8,7 +8,7 @@ ghost use Rattle.job.specs.declared.Kind.TheVariants as K;
 ghost use Rattle.job.specs.Jobs.{held_list, view_of, views_of, spec_of, no_job, rank_stored, list_at_most, views_refusal, lists_refusal, stored_sizes, job_refusal, made_job, job_from};
 
 use job_bytes::{LIST_LIMIT, STORED_RANK_LIMIT};
-use layout::{Answer, Layout, RAW_FUSED_RANK_LIMIT, View};
+use layout::{Refusal, Layout, RAW_FUSED_RANK_LIMIT, View};
 
 #[derive(Clone, Copy)]
 pub enum Kind {
@@ -59,7 +59,7 @@ pub struct Job {
 // A job; where it is refused, that of no axes and no entries.
 #[derive(Clone, Copy)]
 pub struct MadeJob {
-    pub answer: Answer,
+    pub answer: Result<(), Refusal>,
     pub job: Job,
 }
 
@@ -156,13 +156,13 @@ pub fn list_from(list: &[u64]) -> List16
 }
 
 // 2 for a rank above what is stored.
-fn check_rank(n: usize) -> Answer
+fn check_rank(n: usize) -> Result<(), Refusal>
     ensures { result ≡ rank_stored n }
 {
     if n <= STORED_RANK_LIMIT {
-        Answer::Done
+        Ok(())
     } else {
-        Answer::RankTooLarge(n as u64, STORED_RANK_LIMIT as u64)
+        Err(Refusal::RankTooLarge(n as u64, STORED_RANK_LIMIT as u64))
     }
 }
 
@@ -174,7 +174,7 @@ fn check_views(
     second_strides: usize,
     third_extents: usize,
     third_strides: usize,
-) -> Answer
+) -> Result<(), Refusal>
     ensures { result ≡ views_refusal first_extents first_strides second_extents second_strides third_extents third_strides }
 {
     let a = layout::check_stride_length(first_extents, first_strides);
@@ -188,17 +188,17 @@ fn check_views(
 }
 
 // 5 for a list that is too long.
-fn check_list(n: usize) -> Answer
+fn check_list(n: usize) -> Result<(), Refusal>
     ensures { result ≡ list_at_most n }
 {
     if n <= LIST_LIMIT {
-        Answer::Done
+        Ok(())
     } else {
-        Answer::RankMismatch(n as u64, LIST_LIMIT as u64)
+        Err(Refusal::RankMismatch(n as u64, LIST_LIMIT as u64))
     }
 }
 
-fn check_lists(window: List16, unit: List16, map: List16, sizes: List16) -> Answer
+fn check_lists(window: List16, unit: List16, map: List16, sizes: List16) -> Result<(), Refusal>
     ensures { result ≡ lists_refusal window.count unit.count map.count sizes.count }
 {
     let a = check_list(window.count);
@@ -219,7 +219,7 @@ fn stored_sizes(kind: Kind, sizes: List16) -> List16
 }
 
 // 2 and 5 of a job by value, whoever made it.
-pub fn job_refusal(job: Job) -> Answer
+pub fn job_refusal(job: Job) -> Result<(), Refusal>
     ensures { result ≡ job_refusal job }
 {
     let kind = job.kind;
@@ -239,7 +239,7 @@ pub fn job_refusal(job: Job) -> Answer
 }
 
 // The job, if the answer is that it is done.
-fn made_job(answer: Answer, job: Job) -> MadeJob
+fn made_job(answer: Result<(), Refusal>, job: Job) -> MadeJob
     ensures { result ≡ made_job answer job }
 {
     if layout::is_done(answer) {

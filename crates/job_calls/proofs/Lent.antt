@@ -7,8 +7,7 @@ use lib.ListN.{length, take, drop}
 use lib.IntN.{ℤ}
 use Rattle.indexing.specs.Gather.{Gather}
 use Rattle.indexing.specs.Scatter.{Scatter}
-use Rattle.layout.specs.declared.Answer.{Answer}
-use Rattle.layout.specs.Answers.{is_done, or_else}
+use Rattle.layout.specs.Answers.{is_done, or_else, Answer}
 use Rattle.spans.proofs.Parts as P
 use Rattle.checks.proofs.Held.{never}
 use Rattle.calls.specs.Calls.{bounds_refusal}

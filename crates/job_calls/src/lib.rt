@@ -14,7 +14,7 @@ ghost use Rattle.scatter_lists.specs.Lists as listed-scatters;
 use gather_move::PreparedGather;
 use job::{Element, Kind, Spec};
 use job_bytes::LIST_LIMIT;
-use layout::{Answer, Layout};
+use layout::{Refusal, Layout};
 use scatter_move::PreparedScatter;
 
 // How many entries of a stored list count.
@@ -29,33 +29,33 @@ fn entry_count(count: usize) -> usize
 }
 
 // 10 at the kind byte, if a job is not of this kind.
-fn kind_answer(kind: Kind, wanted: Kind) -> Answer
+fn kind_answer(kind: Kind, wanted: Kind) -> Result<(), Refusal>
     ensures { result ≡ kind_answer kind wanted }
 {
     match kind {
         Kind::Gather => match wanted {
-            Kind::Gather => Answer::Done,
-            Kind::Scatter => Answer::JobBytes(5),
+            Kind::Gather => Ok(()),
+            Kind::Scatter => Err(Refusal::JobBytes(5)),
         },
         Kind::Scatter => match wanted {
-            Kind::Gather => Answer::JobBytes(5),
-            Kind::Scatter => Answer::Done,
+            Kind::Gather => Err(Refusal::JobBytes(5)),
+            Kind::Scatter => Ok(()),
         },
     }
 }
 
 // 10 at the element byte, if a job is not of this element.
-fn element_answer(element: Element, wanted: Element) -> Answer
+fn element_answer(element: Element, wanted: Element) -> Result<(), Refusal>
     ensures { result ≡ element_answer element wanted }
 {
     match element {
         Element::I32 => match wanted {
-            Element::I32 => Answer::Done,
-            Element::F64 => Answer::JobBytes(6),
+            Element::I32 => Ok(()),
+            Element::F64 => Err(Refusal::JobBytes(6)),
         },
         Element::F64 => match wanted {
-            Element::I32 => Answer::JobBytes(6),
-            Element::F64 => Answer::Done,
+            Element::I32 => Err(Refusal::JobBytes(6)),
+            Element::F64 => Ok(()),
         },
     }
 }

@@ -1,6 +1,5 @@
 -- To be believed. Parts of a job as they are handed back by value. Definitions only.
-use Rattle.std.specs.Prelude.{true, false, []}
-use Rattle.layout.specs.declared.Answer.TheVariants as A
+use Rattle.std.specs.Prelude.{true, false, [], Ok, Err}
 use Rattle.job_bytes.specs.Fields.{Field, read, fault}
 use Rattle.job.specs.declared.Kind.{Kind}
 use Rattle.job.specs.declared.Kind.TheVariants as K
@@ -14,6 +13,7 @@ use Rattle.job_reader.specs.declared.ReadSpec.{ReadSpec}
 use Rattle.job_reader.specs.declared.ReadHead.{ReadHead}
 use Rattle.job_reader.specs.declared.ReadJob.{ReadJob}
 use Rattle.job.specs.Jobs.{no_views, spec_of, no_job}
+use Rattle.layout.specs.declared.Refusal.TheVariants as F
 
 abbrev pub held_views : Field Views → ReadViews
 held_views (read vs k) = record { ok = true; at = k; views = vs }
@@ -29,5 +29,5 @@ held_head (fault k) = record { ok = false; at = k; kind = K.Gather; element = E.
 
 -- what is handed back: the job; or 10, "a = place in a stored job", with the job of nothing in its place
 abbrev pub read_job : Field Job → ReadJob
-read_job (read j k) = record { answer = A.Done; job = j }
-read_job (fault k) = record { answer = A.JobBytes k; job = no_job }
+read_job (read j k) = record { answer = Ok tt; job = j }
+read_job (fault k) = record { answer = Err (F.JobBytes k); job = no_job }

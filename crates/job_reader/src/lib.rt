@@ -8,11 +8,11 @@ ghost use Rattle.job_reader.specs.Held.{held_views, held_spec, held_head, read_j
 
 use job::{Element, Job, Kind, Spec, Views};
 use job_bytes::{Number, VERSION};
-use layout::Answer;
+use layout::Refusal;
 
 #[derive(Clone, Copy)]
 pub struct ReadJob {
-    pub answer: Answer,
+    pub answer: Result<(), Refusal>,
     pub job: Job,
 }
 
@@ -217,7 +217,7 @@ fn read_head(bytes: &[u8]) -> ReadHead
 fn job_fault(at: usize) -> ReadJob
     ensures { result ≡ read_job (fault at) }
 {
-    let answer = Answer::JobBytes(at as u64);
+    let answer = Err(Refusal::JobBytes(at as u64));
     let job = job::no_job();
     ReadJob { answer, job }
 }
@@ -246,7 +246,7 @@ pub fn read_job(bytes: &[u8]) -> ReadJob
     }
     let views = vs.views;
     let spec = s.spec;
-    let answer = Answer::Done;
+    let answer = Ok(());
     ReadJob {
         answer,
         job: Job {

@@ -1,4 +1,5 @@
 -- The loop over the axes: those that are done stand before what is left. Assumes nothing.
+use Rattle.std.specs.Prelude.{Option, Some, None}
 use mathlib.Core.Path.{◌≡◌, refl, sym, ap, ap₂, ◌∙◌}
 use mathlib.Core.Bool.{Bool, true, false, cond, ◌&&◌}
 use mathlib.Core.List.{List, [], ◌∷◌, ◌++◌, append_assoc}
@@ -11,8 +12,6 @@ use lib.IntN.{ℤ, pos}
 use Rattle.layout.specs.Layouts.{rank_limit, padded}
 use Rattle.layout.proofs.Turns.{drop-take, drop-done}
 use Rattle.replay.specs.declared.WindowReplayAxis.{WindowReplayAxis}
-use Rattle.replay.specs.declared.CheckedAxis.{CheckedAxis}
-use Rattle.replay.specs.declared.CheckedAxis.TheVariants as A
 use Rattle.replay.specs.declared.JoinedAxis.{JoinedAxis}
 use Rattle.replay.specs.declared.JoinedAxis.TheVariants as J
 use Rattle.replay.specs.declared.ReplaySpans.{ReplaySpans}
@@ -63,16 +62,16 @@ module _ (ds : List ℕ) (ss ts : List ℤ) (rank : ℕ) where
     unfolding given_axes
     left-turn i h = rw (drop-take rank ds i 0 (omega arith), drop-take rank ss i (pos 0) (omega arith), drop-take rank ts i (pos 0) (omega arith))
 
-    module _ (h : 0 < rank) (x : CheckedAxis) (e : x ≡ checked_axis (axis 0)) (spans : ReplaySpans) where
+    module _ (h : 0 < rank) (x : Option WindowReplayAxis) (e : x ≡ checked_axis (axis 0)) (spans : ReplaySpans) where
       all-is : all ≡ axis 0 ∷ left 1
       all-is = left-turn 0 (omega arith)
 
-      pub first-over : x ≡ A.Overflow → refused_replay ≡ walk_of all spans
+      pub first-over : x ≡ None → refused_replay ≡ walk_of all spans
       first-over o =
           sym (ap (λ (l : List WindowReplayAxis). walk_of l spans) all-is
           ∙ ap (λ (t : Bool). where_fits (t && later_fit (axis 0) (left 1)) (merged_from (axis 0) (left 1)) spans) (axis-not (axis 0) (sym e ∙ o)))
 
-      pub first_fits : (p : WindowReplayAxis) → x ≡ A.Fits p → walk_from p (left 1) spans ≡ walk_of all spans
+      pub first_fits : (p : WindowReplayAxis) → x ≡ Some p → walk_from p (left 1) spans ≡ walk_of all spans
       first_fits p o =
           let k = axis-is (axis 0) p (sym e ∙ o) in
           sym (ap (λ (l : List WindowReplayAxis). walk_of l spans) all-is

@@ -6,8 +6,7 @@ ghost use Rattle.std.specs.Prelude.{◌≡◌, take, drop, ◌*◌};
 ghost use Rattle.replay.specs.Replays.{no_axis, axis_of, given_axes, walk_of, done_replay, refused_replay, compiled_replay, extents, rows_of, axes_from};
 ghost use Rattle.replay.specs.Parts.{past, checked_axis, as_merged, as_apart, joined_axis, walk_from};
 
-use integer::{Checked, CheckedU};
-use layout::{Answer, OffsetSpan, RAW_FUSED_RANK_LIMIT};
+use layout::{Refusal, RAW_FUSED_RANK_LIMIT};
 
 // An axis of a walk: its extent, and for each side the step along it and what takes it back from its last place to its
 // first.
@@ -41,14 +40,14 @@ pub struct WindowReplay {
 // refused, the walk of no axes with spans of 0.
 #[derive(Clone, Copy)]
 pub struct CompiledReplay {
-    pub answer: Answer,
+    pub answer: Result<(), Refusal>,
     pub replay: WindowReplay,
     pub axes: [WindowReplayAxis; RAW_FUSED_RANK_LIMIT],
 }
 
 // An axis with its resets, or that one of them does not fit.
 #[derive(Clone, Copy)]
-pub enum CheckedAxis {
+pub enum Option<WindowReplayAxis> {
     Fits(WindowReplayAxis),
     Overflow,
 }
@@ -73,46 +72,46 @@ fn no_axis() -> WindowReplayAxis
     }
 }
 
-fn make_axis(extent: u64, source: i64, dest: i64) -> CheckedAxis
+fn make_axis(extent: u64, source: i64, dest: i64) -> Option<WindowReplayAxis>
     ensures { result ≡ checked_axis (axis_of extent source dest) }
 {
     let source_reset = layout::checked_replay_reset(extent, source);
     let dest_reset = layout::checked_replay_reset(extent, dest);
     match source_reset {
-        Checked::Fits(back) => match dest_reset {
-            Checked::Fits(home) => CheckedAxis::Fits(WindowReplayAxis {
+        Some(back) => match dest_reset {
+            Some(home) => Some(WindowReplayAxis {
                 extent,
                 source_step: source,
                 source_reset: back,
                 dest_step: dest,
                 dest_reset: home,
             }),
-            Checked::Overflow => CheckedAxis::Overflow,
+            None => None,
         },
-        Checked::Overflow => CheckedAxis::Overflow,
+        None => None,
     }
 }
 
-fn as_merged(a: CheckedAxis) -> JoinedAxis
+fn as_merged(a: Option<WindowReplayAxis>) -> JoinedAxis
     ensures { result ≡ as_merged a }
 {
     match a {
-        CheckedAxis::Fits(x) => JoinedAxis::Merged(x),
-        CheckedAxis::Overflow => JoinedAxis::Overflow,
+        Some(x) => JoinedAxis::Merged(x),
+        None => JoinedAxis::Overflow,
     }
 }
 
-fn as_apart(a: CheckedAxis) -> JoinedAxis
+fn as_apart(a: Option<WindowReplayAxis>) -> JoinedAxis
     ensures { result ≡ as_apart a }
 {
     match a {
-        CheckedAxis::Fits(x) => JoinedAxis::Apart(x),
-        CheckedAxis::Overflow => JoinedAxis::Overflow,
+        Some(x) => JoinedAxis::Apart(x),
+        None => JoinedAxis::Overflow,
     }
 }
 
 // The step times the whole extent.
-fn past_last(extent: u64, step: i64) -> Checked
+fn past_last(extent: u64, step: i64) -> Option<i64>
     ensures { result ≡ past extent step }
 {
     let size = integer::u64_to_i64(extent);
@@ -125,11 +124,11 @@ fn merge(before: u64, extent: u64, source: i64, dest: i64) -> JoinedAxis
 {
     let size = integer::checked_mul_u64(before, extent);
     match size {
-        CheckedU::Fits(n) => {
+        Some(n) => {
             let a = make_axis(n, source, dest);
             as_merged(a)
         }
-        CheckedU::Overflow => JoinedAxis::Overflow,
+        None => JoinedAxis::Overflow,
     }
 }
 
@@ -150,8 +149,8 @@ fn join(before: WindowReplayAxis, extent: u64, source: i64, dest: i64) -> Joined
     let expected_source = past_last(size, source_step);
     let expected_dest = past_last(size, dest_step);
     match expected_source {
-        Checked::Fits(s) => match expected_dest {
-            Checked::Fits(d) => {
+        Some(s) => match expected_dest {
+            Some(d) => {
                 if !equality::same_i64(source, s) {
                     return apart(extent, source, dest);
                 }
@@ -160,9 +159,9 @@ fn join(before: WindowReplayAxis, extent: u64, source: i64, dest: i64) -> Joined
                 }
                 merge(size, extent, source_step, dest_step)
             }
-            Checked::Overflow => JoinedAxis::Overflow,
+            None => JoinedAxis::Overflow,
         },
-        Checked::Overflow => JoinedAxis::Overflow,
+        None => JoinedAxis::Overflow,
     }
 }
 
@@ -173,7 +172,7 @@ pub fn refused_replay() -> CompiledReplay
     let axes = [empty; RAW_FUSED_RANK_LIMIT];
     let extents = [1u64; RAW_FUSED_RANK_LIMIT];
     CompiledReplay {
-        answer: Answer::OffsetOverflow,
+        answer: Err(Refusal::OffsetOverflow),
         replay: WindowReplay {
             rank: 0,
             extents,
@@ -211,7 +210,7 @@ fn done_replay(
 {
     let extents = shape_of(axes);
     CompiledReplay {
-        answer: Answer::Done,
+        answer: Ok(()),
         replay: WindowReplay {
             rank,
             extents,
@@ -278,7 +277,7 @@ fn fuse(
     }
     let first = make_axis(shape[0], source_strides[0], dest_strides[0]);
     match first {
-        CheckedAxis::Fits(axis) => fuse_rest(
+        Some(axis) => fuse_rest(
             axis,
             shape,
             source_strides,
@@ -286,7 +285,7 @@ fn fuse(
             rank,
             spans,
         ),
-        CheckedAxis::Overflow => refused_replay(),
+        None => refused_replay(),
     }
 }
 
@@ -312,9 +311,9 @@ pub fn compile_window_replay(
                 };
                 fuse(shape, source_strides, dest_strides, rank, spans)
             }
-            OffsetSpan::Overflow => refused_replay(),
+            None => refused_replay(),
         },
-        OffsetSpan::Overflow => refused_replay(),
+        None => refused_replay(),
     }
 }
 

@@ -1,7 +1,7 @@
 // The views of a stored call.
 use crate::packed;
 use crate::packed::{list, signed_list};
-use layout::{Answer, MadeLayout, View};
+use layout::{Refusal, MadeLayout, View};
 
 // The layout of a view of the call.
 fn call_layout(head: &[u8], words: &[u64], numbers: &[i64], view: usize) -> MadeLayout {
@@ -36,13 +36,13 @@ fn are_layouts(head: &[u8], words: &[u64], numbers: &[i64]) -> bool {
 }
 
 // The refusal of compile, if any, or 8 where a layout of the call has unequal lengths or too many axes, and so is no plan's.
-pub fn refusal(compiled: Answer, head: &[u8], words: &[u64], numbers: &[i64]) -> Answer {
+pub fn refusal(compiled: Result<(), Refusal>, head: &[u8], words: &[u64], numbers: &[i64]) -> Result<(), Refusal> {
     if !layout::is_done(compiled) {
         return compiled;
     }
     if are_layouts(head, words, numbers) {
-        Answer::Done
+        Ok(())
     } else {
-        Answer::PlanLayoutMismatch
+        Err(Refusal::PlanLayoutMismatch)
     }
 }

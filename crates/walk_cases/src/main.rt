@@ -3,12 +3,11 @@
 
 ghost use Rattle.walk.specs.Walks.{Walk};
 
-use integer::{Checked, CheckedU};
-use layout::{OffsetSpan, RAW_FUSED_RANK_LIMIT};
+use layout::RAW_FUSED_RANK_LIMIT;
 use replay::WindowReplayAxis;
 use std::io;
 
-fn put_refused(rt: &impl Print, answer: layout::Answer) -> io::Result<()> {
+fn put_refused(rt: &impl Print, answer: Result<(), layout::Refusal>) -> io::Result<()> {
     printing::put(rt, b" refused by ")?;
     printing::put_u64(rt, layout::number(answer))?;
     printing::end_line(rt)
@@ -21,12 +20,12 @@ fn reset(rt: &impl Print, extent: u64, stride: i64) -> io::Result<()> {
     printing::put_i64(rt, stride)?;
     printing::put(rt, b":")?;
     match layout::checked_replay_reset(extent, stride) {
-        Checked::Fits(r) => {
+        Some(r) => {
             printing::put(rt, b" ")?;
             printing::put_i64(rt, r)?;
             printing::end_line(rt)
         }
-        Checked::Overflow => put_refused(rt, layout::Answer::OffsetOverflow),
+        None => put_refused(rt, Err(layout::Refusal::OffsetOverflow)),
     }
 }
 
@@ -46,7 +45,7 @@ fn span(rt: &impl Print, extents: &[u64], strides: &[i64]) -> io::Result<()> {
             printing::put_i64(rt, high)?;
             printing::end_line(rt)
         }
-        OffsetSpan::Overflow => put_refused(rt, layout::Answer::OffsetOverflow),
+        None => put_refused(rt, Err(layout::Refusal::OffsetOverflow)),
     }
 }
 
@@ -204,7 +203,7 @@ fn walk_window(
     let s = layout::padded_strides(sources);
     let d = layout::padded_strides(dests);
     match spans::checked_total_len(extents) {
-        CheckedU::Fits(total) => walk_from(
+        Some(total) => walk_from(
             rt,
             shape,
             s,
@@ -214,7 +213,7 @@ fn walk_window(
             dest_base,
             total,
         ),
-        CheckedU::Overflow => put_refused(rt, layout::Answer::OffsetOverflow),
+        None => put_refused(rt, Err(layout::Refusal::OffsetOverflow)),
     }
 }
 

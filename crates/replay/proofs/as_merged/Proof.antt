@@ -8,10 +8,10 @@ enum-known-a c = search rules
 enum_told : tie.Need-enum_told-1
 enum_told c = search rules
 
-returns : tie.Need-returns-in-Fits
-returns c = rw c.in-Fits.is
+returns : tie.Need-returns-in-Some
+returns c = rw c.in-Some.is
 
-returns-2 : tie.Need-returns-in-Overflow
+returns-2 : tie.Need-returns-in-None
 returns-2 c = search rules
 
 pub as_merged_spec : {M : Type 1} → statement M

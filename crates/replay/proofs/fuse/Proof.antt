@@ -55,18 +55,18 @@ enum-known-first c = search rules
 enum_told : tie.Need-enum_told-1
 enum_told c = search rules
 
-returns-2 : tie.Need-returns-in-Fits
+returns-2 : tie.Need-returns-in-Some
 returns-2 c =
     let k = c in
     let m = k in
     let s = m in
-    c.fuse_rest.ensures ∙ first_fits s.args.shape s.args.source_strides s.args.dest_strides s.args.rank (full search).0 (full search).1 (full search).2 (some search) m.make_axis-first.result (first-axis search) s.args.spans k.in-Fits.axis k.in-Fits.is
+    c.fuse_rest.ensures ∙ first_fits s.args.shape s.args.source_strides s.args.dest_strides s.args.rank (full search).0 (full search).1 (full search).2 (some search) m.make_axis-first.result (first-axis search) s.args.spans k.in-Some.axis k.in-Some.is
 
-returns-3 : tie.Need-returns-in-Overflow
+returns-3 : tie.Need-returns-in-None
 returns-3 c =
     let m = c in
     let s = m in
-    c.refused_replay.ensures ∙ first-over s.args.shape s.args.source_strides s.args.dest_strides s.args.rank (full search).0 (full search).1 (full search).2 (some search) m.make_axis-first.result (first-axis search) s.args.spans c.in-Overflow.is
+    c.refused_replay.ensures ∙ first-over s.args.shape s.args.source_strides s.args.dest_strides s.args.rank (full search).0 (full search).1 (full search).2 (some search) m.make_axis-first.result (first-axis search) s.args.spans c.in-None.is
 
 pub fuse_spec : {M : Type 1} → statement M
 fuse_spec =

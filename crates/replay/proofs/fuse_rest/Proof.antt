@@ -122,12 +122,12 @@ enum_told c = search rules
 refused-replay-requires : tie.Need-refused_replay-requires invariant-loop decreases-loop
 refused-replay-requires c κs = tt
 
-returns : tie.Need-returns-in-Overflow invariant-loop decreases-loop
+returns : tie.Need-returns-in-None invariant-loop decreases-loop
 returns c =
     let j = c in
     let l = j in
     let s = c in
-    c.refused_replay.ensures ∙ fusing-over s.args.shape s.args.source_strides s.args.dest_strides s.args.rank (full search).0 (full search).1 (full search).2 s.args.first l.loop-i.axes l.loop-i.last l.loop-i.n l.loop-i.i l.loop-i.invariant s.args.spans (here search) j.join-joined.result (joined search) c.in-Overflow.is
+    c.refused_replay.ensures ∙ fusing-over s.args.shape s.args.source_strides s.args.dest_strides s.args.rank (full search).0 (full search).1 (full search).2 s.args.first l.loop-i.axes l.loop-i.last l.loop-i.n l.loop-i.i l.loop-i.invariant s.args.spans (here search) j.join-joined.result (joined search) c.in-None.is
 
 mul-axes-2 : tie.Need-offset_bounds-axes-n-2 invariant-loop decreases-loop
 mul-axes-2 c = search rules

@@ -37,13 +37,13 @@ returns c =
     let k = z in
     let h = k in
     let s = h in
-    let a = k.in-Fits.s in
-    let b = z.in-Fits-expected_dest.d in
-    let fa : SFits w64 a = sfits_of k.in-Fits.known_told-1-own.given.0.1 in
-    let fb : SFits w64 b = sfits_of z.in-Fits-expected_dest.known_told-in-Fits-1-own.given.0.1 in
+    let a = k.in-Some.s in
+    let b = z.in-Some-expected_dest.d in
+    let fa : SFits w64 a = sfits_of k.in-Some.known_told-1-own.given.0.1 in
+    let fb : SFits w64 b = sfits_of z.in-Some-expected_dest.known_told-in-Some-1-own.given.0.1 in
     c.apart.ensures
     ∙ ap₂ (λ (x y : ℤ). as_apart (checked_axis (axis_of s.args.extent x y))) (back s.ranges.source) (back s.ranges.dest)
-    ∙ join_apart s.args.before s.args.extent s.args.source s.args.dest h.past_last-expected_source.result h.past_last-expected_dest.result (expected search) (expected2 search) a b k.in-Fits.is z.in-Fits-expected_dest.is (sym (c.same_i64.ensures ∙ ap₂ eq_z (back s.ranges.source) (back fa)) ∙ c.if-not-same_i64.true)
+    ∙ join_apart s.args.before s.args.extent s.args.source s.args.dest h.past_last-expected_source.result h.past_last-expected_dest.result (expected search) (expected2 search) a b k.in-Some.is z.in-Some-expected_dest.is (sym (c.same_i64.ensures ∙ ap₂ eq_z (back s.ranges.source) (back fa)) ∙ c.if-not-same_i64.true)
 
 returns-2 : tie.Need-returns-then-not-same_i64-2
 returns-2 c =
@@ -51,18 +51,18 @@ returns-2 c =
     let k = z in
     let h = k in
     let s = h in
-    let a = k.in-Fits.s in
-    let b = z.in-Fits-expected_dest.d in
-    let fa : SFits w64 a = sfits_of k.in-Fits.known_told-1-own.given.0.1 in
-    let fb : SFits w64 b = sfits_of z.in-Fits-expected_dest.known_told-in-Fits-1-own.given.0.1 in
+    let a = k.in-Some.s in
+    let b = z.in-Some-expected_dest.d in
+    let fa : SFits w64 a = sfits_of k.in-Some.known_told-1-own.given.0.1 in
+    let fb : SFits w64 b = sfits_of z.in-Some-expected_dest.known_told-in-Some-1-own.given.0.1 in
     c.apart-then-not-same_i64-2.ensures
     ∙ ap₂ (λ (x y : ℤ). as_apart (checked_axis (axis_of s.args.extent x y))) (back s.ranges.source) (back s.ranges.dest)
-    ∙ join-apart2 s.args.before s.args.extent s.args.source s.args.dest h.past_last-expected_source.result h.past_last-expected_dest.result (expected search) (expected2 search) a b k.in-Fits.is z.in-Fits-expected_dest.is (sym (c.same_i64.ensures ∙ ap₂ eq_z (back s.ranges.source) (back fa)) ∙ c.if-not-same_i64.false) (sym (c.same_i64-in-Fits-expected_dest.ensures ∙ ap₂ eq_z (back s.ranges.dest) (back fb)) ∙ c.if-not-same_i64-2.true)
+    ∙ join-apart2 s.args.before s.args.extent s.args.source s.args.dest h.past_last-expected_source.result h.past_last-expected_dest.result (expected search) (expected2 search) a b k.in-Some.is z.in-Some-expected_dest.is (sym (c.same_i64.ensures ∙ ap₂ eq_z (back s.ranges.source) (back fa)) ∙ c.if-not-same_i64.false) (sym (c.same_i64-in-Some-expected_dest.ensures ∙ ap₂ eq_z (back s.ranges.dest) (back fb)) ∙ c.if-not-same_i64-2.true)
 
 enum_told : tie.Need-enum_told-1
 enum_told c = search rules
 
-enum-told-2 : tie.Need-enum_told-in-Overflow
+enum-told-2 : tie.Need-enum_told-in-None
 enum-told-2 c = search rules
 
 returns-3 : tie.Need-returns-else-not-same_i64-2
@@ -71,26 +71,26 @@ returns-3 c =
     let k = z in
     let h = k in
     let s = h in
-    let a = k.in-Fits.s in
-    let b = z.in-Fits-expected_dest.d in
-    let fa : SFits w64 a = sfits_of k.in-Fits.known_told-1-own.given.0.1 in
-    let fb : SFits w64 b = sfits_of z.in-Fits-expected_dest.known_told-in-Fits-1-own.given.0.1 in
+    let a = k.in-Some.s in
+    let b = z.in-Some-expected_dest.d in
+    let fa : SFits w64 a = sfits_of k.in-Some.known_told-1-own.given.0.1 in
+    let fb : SFits w64 b = sfits_of z.in-Some-expected_dest.known_told-in-Some-1-own.given.0.1 in
     c.merge.ensures
     ∙ ap₂ (λ (x y : ℤ). as_merged (checked_axis (axis_of (s.args.before.extent * s.args.extent) x y))) (back (source_fits search)) (back (dest-fits search))
-    ∙ join-merge s.args.before s.args.extent s.args.source s.args.dest h.past_last-expected_source.result h.past_last-expected_dest.result (expected search) (expected2 search) a b k.in-Fits.is z.in-Fits-expected_dest.is (sym (c.same_i64.ensures ∙ ap₂ eq_z (back s.ranges.source) (back fa)) ∙ c.if-not-same_i64.false) (sym (c.same_i64-in-Fits-expected_dest.ensures ∙ ap₂ eq_z (back s.ranges.dest) (back fb)) ∙ c.if-not-same_i64-2.false)
+    ∙ join-merge s.args.before s.args.extent s.args.source s.args.dest h.past_last-expected_source.result h.past_last-expected_dest.result (expected search) (expected2 search) a b k.in-Some.is z.in-Some-expected_dest.is (sym (c.same_i64.ensures ∙ ap₂ eq_z (back s.ranges.source) (back fa)) ∙ c.if-not-same_i64.false) (sym (c.same_i64-in-Some-expected_dest.ensures ∙ ap₂ eq_z (back s.ranges.dest) (back fb)) ∙ c.if-not-same_i64-2.false)
 
-returns-4 : tie.Need-returns-in-Overflow-expected_dest
+returns-4 : tie.Need-returns-in-None-expected_dest
 returns-4 c =
     let k = c in
     let h = k in
     let s = h in
-    join-over2 s.args.before s.args.extent s.args.source s.args.dest h.past_last-expected_source.result h.past_last-expected_dest.result (expected search) (expected2 search) c.in-Overflow-expected_dest.is
+    join-over2 s.args.before s.args.extent s.args.source s.args.dest h.past_last-expected_source.result h.past_last-expected_dest.result (expected search) (expected2 search) c.in-None-expected_dest.is
 
-returns-5 : tie.Need-returns-in-Overflow
+returns-5 : tie.Need-returns-in-None
 returns-5 c =
     let h = c in
     let s = h in
-    join-over s.args.before s.args.extent s.args.source s.args.dest h.past_last-expected_source.result h.past_last-expected_dest.result (expected search) (expected2 search) c.in-Overflow.is
+    join-over s.args.before s.args.extent s.args.source s.args.dest h.past_last-expected_source.result h.past_last-expected_dest.result (expected search) (expected2 search) c.in-None.is
 
 pub join_spec : {M : Type 1} → statement M
 join_spec =

@@ -1,3 +1,4 @@
+use Rattle.std.specs.Prelude.{Some}
 use mathlib.Core.Path.{◌≡◌, sym, ap, ◌∙◌}
 use Prim.Native.Nat.{ℕ}
 use lib.IntN.{ℤ}
@@ -6,13 +7,12 @@ use mir.Val.{SFits}
 use borrow.Author.Rules.{sfits_of, rules}
 use Rattle.integer.specs.Z.{back}
 use Rattle.layout.specs.Spans.{reset_of}
-use Rattle.replay.specs.declared.CheckedAxis.TheVariants as A
 use Rattle.replay.specs.Replays.{the_axis}
 use Rattle.replay.proofs.Joins.{axis-fits, axis-over, axis-over2}
 use Rattle.replay.proofs.make_axis.Statement.{statement}
 use Rattle.replay.proofs.make_axis.Tie as tie
 
-made : (d : ℕ) (s s' t t' a a' b b' : ℤ) → s ≡ s' → a ≡ a' → t ≡ t' → b ≡ b' → A.Fits (the_axis d s a t b) ≡ A.Fits (the_axis d s' a' t' b')
+made : (d : ℕ) (s s' t t' a a' b b' : ℤ) → s ≡ s' → a ≡ a' → t ≡ t' → b ≡ b' → Some (the_axis d s a t b) ≡ Some (the_axis d s' a' t' b')
 made d s s' t t' a a' b b' e f g h = cc
 
 enum-known-source-reset : tie.Need-enum_known-source_reset
@@ -24,33 +24,33 @@ enum-known-dest-reset c = search rules
 enum_told : tie.Need-enum_told-1
 enum_told c = search rules
 
-enum-told-2 : tie.Need-enum_told-in-Overflow
+enum-told-2 : tie.Need-enum_told-in-None
 enum-told-2 c = search rules
 
-returns : tie.Need-returns-in-Fits-dest_reset
+returns : tie.Need-returns-in-Some-dest_reset
 returns c =
     let k = c in
     let h = k in
     let s = h in
-    let a = k.in-Fits.back in
-    let b = c.in-Fits-dest_reset.home in
-    let fa : SFits w64 a = sfits_of k.in-Fits.known_told-1-own.given.0.1 in
-    let fb : SFits w64 b = sfits_of c.in-Fits-dest_reset.known_told-in-Fits-1-own.given.0.1 in
+    let a = k.in-Some.back in
+    let b = c.in-Some-dest_reset.home in
+    let fa : SFits w64 a = sfits_of k.in-Some.known_told-1-own.given.0.1 in
+    let fb : SFits w64 b = sfits_of c.in-Some-dest_reset.known_told-in-Some-1-own.given.0.1 in
     made s.args.extent _ s.args.source _ s.args.dest _ a _ b (back s.ranges.source) (back fa) (back s.ranges.dest) (back fb)
-    ∙ axis-fits s.args.extent s.args.source s.args.dest a b (sym (h.checked_replay_reset-source_reset.ensures ∙ ap (reset_of s.args.extent) (back s.ranges.source)) ∙ k.in-Fits.is) (sym (h.checked_replay_reset-dest_reset.ensures ∙ ap (reset_of s.args.extent) (back s.ranges.dest)) ∙ c.in-Fits-dest_reset.is)
+    ∙ axis-fits s.args.extent s.args.source s.args.dest a b (sym (h.checked_replay_reset-source_reset.ensures ∙ ap (reset_of s.args.extent) (back s.ranges.source)) ∙ k.in-Some.is) (sym (h.checked_replay_reset-dest_reset.ensures ∙ ap (reset_of s.args.extent) (back s.ranges.dest)) ∙ c.in-Some-dest_reset.is)
 
-returns-2 : tie.Need-returns-in-Overflow-dest_reset
+returns-2 : tie.Need-returns-in-None-dest_reset
 returns-2 c =
     let k = c in
     let h = k in
     let s = h in
-    axis-over2 s.args.extent s.args.source s.args.dest (sym (h.checked_replay_reset-dest_reset.ensures ∙ ap (reset_of s.args.extent) (back s.ranges.dest)) ∙ c.in-Overflow-dest_reset.is)
+    axis-over2 s.args.extent s.args.source s.args.dest (sym (h.checked_replay_reset-dest_reset.ensures ∙ ap (reset_of s.args.extent) (back s.ranges.dest)) ∙ c.in-None-dest_reset.is)
 
-returns-3 : tie.Need-returns-in-Overflow
+returns-3 : tie.Need-returns-in-None
 returns-3 c =
     let h = c in
     let s = h in
-    axis-over s.args.extent s.args.source s.args.dest (sym (h.checked_replay_reset-source_reset.ensures ∙ ap (reset_of s.args.extent) (back s.ranges.source)) ∙ c.in-Overflow.is)
+    axis-over s.args.extent s.args.source s.args.dest (sym (h.checked_replay_reset-source_reset.ensures ∙ ap (reset_of s.args.extent) (back s.ranges.source)) ∙ c.in-None.is)
 
 pub make_axis_spec : {M : Type 1} → statement M
 make_axis_spec =

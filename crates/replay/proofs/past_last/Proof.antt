@@ -1,9 +1,8 @@
+use Rattle.std.specs.Prelude.{Option, option_and_then}
 use mathlib.Core.Path.{ap₂, ◌∙◌}
 use lib.IntN.{ℤ, ◌*ℤ◌}
 use Rattle.integer.specs.Z.{back}
 use Rattle.integer.specs.Defs.{checked}
-use Rattle.integer.specs.declared.Checked.{Checked}
-use Rattle.layout.specs.Spans.{and_then}
 use Rattle.replay.specs.Parts.{past}
 use Rattle.replay.proofs.past_last.Statement.{statement}
 use Rattle.replay.proofs.past_last.Tie as tie
@@ -12,7 +11,7 @@ returns : tie.Need-returns
 unfolding past
 returns c =
     let s = c in
-    c.scaled.ensures ∙ ap₂ (λ (x : Checked) (t : ℤ). and_then x (λ m. checked (t *ℤ m))) c.u64_to_i64-size.ensures (back s.ranges.step)
+    c.scaled.ensures ∙ ap₂ (λ (x : Option ℤ) (t : ℤ). option_and_then (λ m. checked (t *ℤ m)) x) c.u64_to_i64-size.ensures (back s.ranges.step)
 
 pub past_last_spec : {M : Type 1} → statement M
 past_last_spec = tie.close (tie.spec (λ c κs. tt) (λ c κs. tt) returns)
