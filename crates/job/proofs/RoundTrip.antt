@@ -1,5 +1,4 @@
 -- "Writing and reading back gives the same job", and reading and writing gives the same bytes. Assumes nothing.
-use Rattle.std.specs.Prelude.{option_and_then}
 use mathlib.Core.Path.{◌≡◌, refl, sym, ap, ap₂, ◌∙◌, subst}
 use mathlib.Core.Bool.{Bool, true, false, cond}
 use mathlib.Core.List.{List, [], ◌++◌, map}
@@ -286,7 +285,7 @@ count-read bs n k e = go (number_at 4 bs 0) refl e
         (q ∙ e, ap₂ ◌+◌ (sym g) (sym f) ∙ eqb-true (l + v) (length bs) h)
     test false v l h q e = absurd (fault-read e)
 
-    go : (f : Field ℕ) → number_at 4 bs 0 ≡ f → option_and_then (λ v l. cond (eqb (l + v) (length bs)) (read v l) (fault 0)) f ≡ read n k → (number_at 4 bs 0 ≡ read n k) × (k + n ≡ length bs)
+    go : (f : Field ℕ) → number_at 4 bs 0 ≡ f → and_then f (λ v l. cond (eqb (l + v) (length bs)) (read v l) (fault 0)) ≡ read n k → (number_at 4 bs 0 ≡ read n k) × (k + n ≡ length bs)
     go (read v l) q e = test (eqb (l + v) (length bs)) v l refl q e
     go (fault l) q e = absurd (fault-read e)
 

@@ -1,5 +1,5 @@
 -- To be believed. Document 01, "The stored job (added)": the format, written and read. Definitions only.
-use Rattle.std.specs.Prelude.{cond, List, [], ◌++◌, map, ℕ, ◌+◌, ◌*◌, min, eqb, length, take, ℤ, option_and_then}
+use Rattle.std.specs.Prelude.{cond, List, [], ◌++◌, map, ℕ, ◌+◌, ◌*◌, min, eqb, length, take, ℤ}
 use Rattle.layout.specs.declared.Layout.{Layout}
 use Rattle.layout.specs.declared.View.{View}
 use Rattle.job_bytes.specs.Fields.{Field, read, fault, and_then, bytes_of, words_of, word_of, signed_of, number_at, byte_at, words_at}
@@ -85,13 +85,13 @@ spec_most = 4 * list_most + 8
 -- ---- read
 unfoldable pub view_at : List ℕ → ℕ → Field View
 view_at bs at =
-    option_and_then (λ n k.
-    option_and_then (λ es l.
-    option_and_then (λ ss m.
-    option_and_then (λ o p. read (view_of es (map signed_of ss) (signed_of o)) p) (number_at 8 bs m)) (words_at n bs l)) (words_at n bs k)) (byte_at 0 stored_rank_limit bs at)
+    and_then (byte_at 0 stored_rank_limit bs at) (λ n k.
+    and_then (words_at n bs k) (λ es l.
+    and_then (words_at n bs l) (λ ss m.
+    and_then (number_at 8 bs m) (λ o p. read (view_of es (map signed_of ss) (signed_of o)) p))))
 
 unfoldable pub list_at : List ℕ → ℕ → Field (List ℕ)
-list_at bs at = option_and_then (λ n k. words_at n bs k) (byte_at 0 list_limit bs at)
+list_at bs at = and_then (byte_at 0 list_limit bs at) (λ n k. words_at n bs k)
 
 unfoldable pub sizes_at : Kind → List ℕ → ℕ → Field (List ℕ)
 sizes_at K.Gather bs at = list_at bs at
@@ -99,31 +99,31 @@ sizes_at K.Scatter bs at = read [] at
 
 unfoldable pub spec_at : Kind → List ℕ → ℕ → Field Spec
 spec_at kind bs at =
-    option_and_then (λ window k.
-    option_and_then (λ unit l.
-    option_and_then (λ start m.
-    option_and_then (λ vector o.
-    option_and_then (λ sizes p. read (spec_of window unit start vector sizes) p) (sizes_at kind bs o)) (number_at 8 bs m)) (list_at bs l)) (list_at bs k)) (list_at bs at)
+    and_then (list_at bs at) (λ window k.
+    and_then (list_at bs k) (λ unit l.
+    and_then (list_at bs l) (λ start m.
+    and_then (number_at 8 bs m) (λ vector o.
+    and_then (sizes_at kind bs o) (λ sizes p. read (spec_of window unit start vector sizes) p)))))
 
 unfoldable pub views_at : List ℕ → ℕ → Field Views
-views_at bs at = option_and_then (λ a k. option_and_then (λ b l. option_and_then (λ c m. read (views_of a b c) m) (view_at bs l)) (view_at bs k)) (view_at bs at)
+views_at bs at = and_then (view_at bs at) (λ a k. and_then (view_at bs k) (λ b l. and_then (view_at bs l) (λ c m. read (views_of a b c) m)))
 
 -- "0 for a wrong count or under four bytes"
 unfoldable pub count_at : List ℕ → Field ℕ
-count_at bs = option_and_then (λ n k. cond (eqb (k + n) (length bs)) (read n k) (fault 0)) (number_at 4 bs 0)
+count_at bs = and_then (number_at 4 bs 0) (λ n k. cond (eqb (k + n) (length bs)) (read n k) (fault 0))
 
 -- kind and element, behind count and version
 unfoldable pub head_at : List ℕ → Field (Kind × Element)
 head_at bs =
-    option_and_then (λ n k.
-    option_and_then (λ v l.
-    option_and_then (λ kind m.
-    option_and_then (λ element o. read (kind_of kind, element_of element) o) (byte_at 1 2 bs m)) (byte_at 1 2 bs l)) (byte_at version version bs k)) (count_at bs)
+    and_then (count_at bs) (λ n k.
+    and_then (byte_at version version bs k) (λ v l.
+    and_then (byte_at 1 2 bs l) (λ kind m.
+    and_then (byte_at 1 2 bs m) (λ element o. read (kind_of kind, element_of element) o))))
 
 -- the job, if no byte is left over
 unfoldable pub job_at : List ℕ → Field Job
 job_at bs =
-    option_and_then (λ head k.
-    option_and_then (λ views l.
-    option_and_then (λ spec m.
-    cond (eqb m (length bs)) (read (record { kind = head.0; element = head.1; views = views; spec = spec }) m) (fault m)) (spec_at head.0 bs l)) (views_at bs k)) (head_at bs)
+    and_then (head_at bs) (λ head k.
+    and_then (views_at bs k) (λ views l.
+    and_then (spec_at head.0 bs l) (λ spec m.
+    cond (eqb m (length bs)) (read (record { kind = head.0; element = head.1; views = views; spec = spec }) m) (fault m))))

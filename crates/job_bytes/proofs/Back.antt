@@ -1,5 +1,4 @@
 -- Fields written and read back, and read and written again. Assumes nothing.
-use Rattle.std.specs.Prelude.{option_and_then}
 use mathlib.Core.Path.{◌≡◌, refl, sym, ap, ap₂, ◌∙◌, subst}
 use mathlib.Core.Bool.{Bool, true, false, cond, ◌&&◌}
 use mathlib.Core.List.{List, [], ◌∷◌, ◌++◌}
@@ -157,7 +156,7 @@ byte-holds low high bs at v k a e = go (number_at 1 bs at) refl e
     test true b m q e = (number-holds 1 bs at v k a (q ∙ e)).here
     test false b m q e = absurd (fault-read e)
 
-    go : (f : Field ℕ) → number_at 1 bs at ≡ f → option_and_then (λ b m. cond (leb low b && leb b high) (read b m) (fault at)) f ≡ read v k → Here bs at (bytes_of 1 v) k
+    go : (f : Field ℕ) → number_at 1 bs at ≡ f → and_then f (λ b m. cond (leb low b && leb b high) (read b m) (fault at)) ≡ read v k → Here bs at (bytes_of 1 v) k
     go (read b m) q e = test (leb low b && leb b high) b m q e
     go (fault m) q e = absurd (fault-read e)
 

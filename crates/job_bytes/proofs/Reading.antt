@@ -1,5 +1,4 @@
 -- Fields read one after another. Assumes nothing.
-use Rattle.std.specs.Prelude.{option_and_then}
 use mathlib.Core.Path.{◌≡◌, refl, sym, ap, ◌∙◌}
 use mathlib.Core.Bool.{Bool, true, false, cond, ◌&&◌}
 use mathlib.Core.List.{List, [], ◌∷◌, ◌++◌, append_assoc, append-nil}
@@ -34,7 +33,7 @@ ahead_none : (f : Field (List ℕ)) → ahead [] f ≡ f
 ahead_none (read ys k) = refl
 ahead_none (fault k) = refl
 
-ahead-one : (xs : List ℕ) (x : ℕ) (f : Field (List ℕ)) → ahead xs (option_and_then (λ ys k. read (x ∷ ys) k) f) ≡ ahead (xs ++ (x ∷ [])) f
+ahead-one : (xs : List ℕ) (x : ℕ) (f : Field (List ℕ)) → ahead xs (and_then f (λ ys k. read (x ∷ ys) k)) ≡ ahead (xs ++ (x ∷ [])) f
 ahead-one xs x (read ys k) = ap (λ (l : List ℕ). read l k) (sym (append_assoc xs (x ∷ []) ys))
 ahead-one xs x (fault k) = refl
 
@@ -59,12 +58,12 @@ zeros-behind out i h l e =
 
 module _ (n : ℕ) (bs : List ℕ) (at : ℕ) (out : List ℕ) (place i : ℕ) (m : n ≤ list_limit) (h : i < n) (r : Reading n bs at out place i) where
   -- what the rest comes to
-  more : words_at (n - i) bs place ≡ option_and_then (λ w k. option_and_then (λ ws l. read (w ∷ ws) l) (words_at (n - (i + 1)) bs k)) (number_at 8 bs place)
+  more : words_at (n - i) bs place ≡ and_then (number_at 8 bs place) (λ w k. and_then (words_at (n - (i + 1)) bs k) (λ ws l. read (w ∷ ws) l))
   unfolding words_at
   more = let e : n - i ≡ suc (n - (i + 1)) = omega arith in rw e
 
   pub word-stops : (k : ℕ) → number_at 8 bs place ≡ fault k → words_at n bs at ≡ fault k
-  word-stops k e = sym r.left ∙ ap (ahead (take i out)) (more ∙ ap (λ f. option_and_then (λ w l. option_and_then (λ ws o. read (w ∷ ws) o) (words_at (n - (i + 1)) bs l)) f) e)
+  word-stops k e = sym r.left ∙ ap (ahead (take i out)) (more ∙ ap (λ f. and_then f (λ w l. and_then (words_at (n - (i + 1)) bs l) (λ ws o. read (w ∷ ws) o))) e)
 
   pub word_more : (w k : ℕ) → number_at 8 bs place ≡ read w k → Reading n bs at (set out i w) k (i + 1)
   word_more w k e =
@@ -77,7 +76,7 @@ module _ (n : ℕ) (bs : List ℕ) (at : ℕ) (out : List ℕ) (place i : ℕ) (
             rw (add-one i, take-suc-set out i w inside)
             (rw (← add-one i)
             (sym (ahead-one (take i out) w (words_at (n - (i + 1)) bs k))
-            ∙ ap (ahead (take i out)) (sym (more ∙ ap (λ f. option_and_then (λ v l. option_and_then (λ ws o. read (v ∷ ws) o) (words_at (n - (i + 1)) bs l)) f) e))
+            ∙ ap (ahead (take i out)) (sym (more ∙ ap (λ f. and_then f (λ v l. and_then (words_at (n - (i + 1)) bs l) (λ ws o. read (v ∷ ws) o))) e))
             ∙ r.left));
       }
 
@@ -124,7 +123,7 @@ module _ (low high : ℕ) (bs : List ℕ) (at : ℕ) where
 pub fault-read : {A : Type 0} {k m : ℕ} {y : A} → fault k ≡ read y m → ⊥
 fault-read e = let z : ◌≡◌ {A = ℕ} 0 1 = cc in omega arith
 
-pub then-read : {A B : Type 0} (f : Field A) (g : A → ℕ → Field B) (y : B) (m : ℕ) → option_and_then g f ≡ read y m → (x : A) × (k : ℕ) × (f ≡ read x k) × (g x k ≡ read y m)
+pub then-read : {A B : Type 0} (f : Field A) (g : A → ℕ → Field B) (y : B) (m : ℕ) → and_then f g ≡ read y m → (x : A) × (k : ℕ) × (f ≡ read x k) × (g x k ≡ read y m)
 then-read (read x k) g y m e = (x, k, refl, e)
 then-read (fault k) g y m e = absurd (fault-read e)
 
@@ -138,7 +137,7 @@ byte-range low high bs at b k e = go (number_at 1 bs at) e
     within v m false true p q e = absurd (fault-read e)
     within v m false false p q e = absurd (fault-read e)
 
-    go : (f : Field ℕ) → option_and_then (λ v m. cond (leb low v && leb v high) (read v m) (fault at)) f ≡ read b k → (low ≤ b) × (b ≤ high)
+    go : (f : Field ℕ) → and_then f (λ v m. cond (leb low v && leb v high) (read v m) (fault at)) ≡ read b k → (low ≤ b) × (b ≤ high)
     go (read v m) e = within v m (leb low v) (leb v high) refl refl e
     go (fault m) e = absurd (fault-read e)
 

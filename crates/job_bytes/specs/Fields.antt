@@ -1,5 +1,5 @@
 -- To be believed. Document 01, "The stored job": numbers as bytes, and fields as they are read, one after another. Definitions only.
-use Rattle.std.specs.Prelude.{true, false, cond, ◌&&◌, List, [], ◌∷◌, ◌++◌, ℕ, zero, suc, ◌+◌, ◌*◌, ◌/◌, ◌%◌, ◌^◌, leb, length, take, drop, replicate, ℤ, option_and_then}
+use Rattle.std.specs.Prelude.{true, false, cond, ◌&&◌, List, [], ◌∷◌, ◌++◌, ℕ, zero, suc, ◌+◌, ◌*◌, ◌/◌, ◌%◌, ◌^◌, leb, length, take, drop, replicate, ℤ}
 use Rattle.std.specs.Int.{w64}
 use Rattle.std.proofs.Common.{of_z, to_z}
 use Rattle.layout.specs.Layouts.{padded}
@@ -45,12 +45,12 @@ number_at n bs at = cond (leb (at + n) (length bs)) (read (number_from 0 (take n
 
 -- a byte with a listed value, from low to high
 unfoldable pub byte_at : ℕ → ℕ → List ℕ → ℕ → Field ℕ
-byte_at low high bs at = option_and_then (λ b k. cond (leb low b && leb b high) (read b k) (fault at)) (number_at 1 bs at)
+byte_at low high bs at = and_then (number_at 1 bs at) (λ b k. cond (leb low b && leb b high) (read b k) (fault at))
 
 -- n words: "a list entry is a field"
 unfoldable pub words_at : ℕ → List ℕ → ℕ → Field (List ℕ)
 words_at zero bs at = read [] at
-words_at (suc n) bs at = option_and_then (λ w k. option_and_then (λ ws m. read (w ∷ ws) m) (words_at n bs k)) (number_at 8 bs at)
+words_at (suc n) bs at = and_then (number_at 8 bs at) (λ w k. and_then (words_at n bs k) (λ ws m. read (w ∷ ws) m))
 
 -- fields as they are handed back by value: zeros where none was read
 abbrev pub held_number : Field ℕ → Number

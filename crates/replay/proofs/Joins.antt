@@ -8,7 +8,10 @@ use borrow.Author.Tests.{lt-ltb, le-ltb}
 use lib.Dec.{ltb}
 use lib.IntN.{ℤ, pos, ◌*ℤ◌}
 use Rattle.integer.specs.Defs.{checked, eq_z}
-use Rattle.integer.specs.Machine.{checked-fits}
+use Rattle.integer.specs.Machine.{checked-fits, same_bits}
+use Rattle.integer.specs.Laws.{eq_z-true, eq_z-refl}
+use mir.Syntax.{w64}
+use mir.Val.{SFits, of_z}
 use Rattle.layout.specs.Spans.{reset_of}
 use Rattle.layout.specs.Laws.{then-inv, reset-is, reset-size}
 use Rattle.replay.specs.declared.WindowReplayAxis.{WindowReplayAxis}
@@ -23,6 +26,17 @@ not-both false = refl
 
 none : ◌≡◌ {A = ℕ} 0 1 → ⊥
 none e = omega arith
+
+-- ---- the test `==` of two steps
+pub steps-same : (s a : ℤ) → SFits w64 s → SFits w64 a → of_z w64 s ≡ of_z w64 a → eq_z s a ≡ true
+steps-same s a f g e = ap (eq_z s) (sym (same_bits f g e)) ∙ eq_z-refl s
+
+pub steps-differ : (s a : ℤ) → (of_z w64 s ≡ of_z w64 a → ⊥) → eq_z s a ≡ false
+steps-differ s a n = go (eq_z s a) refl
+  where
+    go : (t : Bool) → eq_z s a ≡ t → eq_z s a ≡ false
+    go true e = absurd (n (ap (of_z w64) (eq_z-true s a e)))
+    go false e = e
 
 -- ---- an axis by its resets
 module _ (d : ℕ) (s t : ℤ) where
@@ -94,14 +108,14 @@ module _ (p : WindowReplayAxis) (d : ℕ) (s t : ℤ) (x y : Option ℤ) (ex : x
   both = axis_of (p.extent * d) p.source_step p.dest_step
 
   -- by whether both fit
-  fitting : (r : Bool) → r ≡ past_fits p → cond r (cond (merges p next) (as_merged (checked_axis (joined p next))) (as_apart (checked_axis (joined p next)))) J.Overflow ≡ joined_axis p next
+  fitting : (r : Bool) → r ≡ past_fits p → cond r (cond (merges p next) (as_merged (checked_axis (joined p next))) (as_apart (checked_axis (joined p next)))) None ≡ joined_axis p next
   unfolding joined_axis
-  fitting r e = ap (λ (t : Bool). cond t (cond (merges p next) (as_merged (checked_axis (joined p next))) (as_apart (checked_axis (joined p next)))) J.Overflow) e
+  fitting r e = ap (λ (t : Bool). cond t (cond (merges p next) (as_merged (checked_axis (joined p next))) (as_apart (checked_axis (joined p next)))) None) e
 
-  pub join-over : x ≡ None → J.Overflow ≡ joined_axis p next
+  pub join-over : x ≡ None → None ≡ joined_axis p next
   join-over o = fitting false (ap (λ (z : Option ℤ). is_fits z && is_fits (past p.extent p.dest_step)) (sym o ∙ ex) ∙ both-past p)
 
-  pub join-over2 : y ≡ None → J.Overflow ≡ joined_axis p next
+  pub join-over2 : y ≡ None → None ≡ joined_axis p next
   join-over2 o = fitting false (sym (not-both (is_fits (past p.extent p.source_step))) ∙ ap (λ (z : Option ℤ). is_fits (past p.extent p.source_step) && is_fits z) (sym o ∙ ey) ∙ both-past p)
 
   module _ (a b : ℤ) (ox : x ≡ Some a) (oy : y ≡ Some b) where
@@ -133,11 +147,11 @@ pub record Joined (p a q : WindowReplayAxis) (merge : Bool) : Type 0 where
   pub is : joined p a ≡ q
 
 module _ (p a : WindowReplayAxis) where
-  pub joined-merged : (q : WindowReplayAxis) → joined_axis p a ≡ J.Merged q → Joined p a q true
+  pub joined-merged : (q : WindowReplayAxis) → joined_axis p a ≡ Some (J.Merged q) → Joined p a q true
   unfolding joined_axis
   joined-merged q e = go (past_fits p) (merges p a) (checked_axis (joined p a)) refl refl refl e
     where
-      go : (x y : Bool) (z : Option WindowReplayAxis) → past_fits p ≡ x → merges p a ≡ y → checked_axis (joined p a) ≡ z → cond x (cond y (as_merged z) (as_apart z)) J.Overflow ≡ J.Merged q → Joined p a q true
+      go : (x y : Bool) (z : Option WindowReplayAxis) → past_fits p ≡ x → merges p a ≡ y → checked_axis (joined p a) ≡ z → cond x (cond y (as_merged z) (as_apart z)) None ≡ Some (J.Merged q) → Joined p a q true
       go true true (Some r) ex ey ez h =
           let k = axis-is (joined p a) r ez in
           let w : r ≡ q = cc in
@@ -147,11 +161,11 @@ module _ (p a : WindowReplayAxis) where
       go true false None ex ey ez h = let n : ◌≡◌ {A = ℕ} 0 1 = cc in absurd (none n)
       go false y z ex ey ez h = let n : ◌≡◌ {A = ℕ} 0 1 = cc in absurd (none n)
 
-  pub joined-apart : (q : WindowReplayAxis) → joined_axis p a ≡ J.Apart q → Joined p a q false
+  pub joined-apart : (q : WindowReplayAxis) → joined_axis p a ≡ Some (J.Apart q) → Joined p a q false
   unfolding joined_axis
   joined-apart q e = go (past_fits p) (merges p a) (checked_axis (joined p a)) refl refl refl e
     where
-      go : (x y : Bool) (z : Option WindowReplayAxis) → past_fits p ≡ x → merges p a ≡ y → checked_axis (joined p a) ≡ z → cond x (cond y (as_merged z) (as_apart z)) J.Overflow ≡ J.Apart q → Joined p a q false
+      go : (x y : Bool) (z : Option WindowReplayAxis) → past_fits p ≡ x → merges p a ≡ y → checked_axis (joined p a) ≡ z → cond x (cond y (as_merged z) (as_apart z)) None ≡ Some (J.Apart q) → Joined p a q false
       go true false (Some r) ex ey ez h =
           let k = axis-is (joined p a) r ez in
           let w : r ≡ q = cc in
@@ -162,11 +176,11 @@ module _ (p a : WindowReplayAxis) where
       go false y z ex ey ez h = let n : ◌≡◌ {A = ℕ} 0 1 = cc in absurd (none n)
 
   -- what does not fit, whatever follows
-  pub joined-over : (u : Bool) → joined_axis p a ≡ J.Overflow → past_fits p && (axis_fits (joined p a) && u) ≡ false
+  pub joined-over : (u : Bool) → joined_axis p a ≡ None → past_fits p && (axis_fits (joined p a) && u) ≡ false
   unfolding joined_axis
   joined-over u e = go (past_fits p) (merges p a) (checked_axis (joined p a)) refl refl e
     where
-      go : (x y : Bool) (z : Option WindowReplayAxis) → past_fits p ≡ x → checked_axis (joined p a) ≡ z → cond x (cond y (as_merged z) (as_apart z)) J.Overflow ≡ J.Overflow → past_fits p && (axis_fits (joined p a) && u) ≡ false
+      go : (x y : Bool) (z : Option WindowReplayAxis) → past_fits p ≡ x → checked_axis (joined p a) ≡ z → cond x (cond y (as_merged z) (as_apart z)) None ≡ None → past_fits p && (axis_fits (joined p a) && u) ≡ false
       go true y None ex ez h = ap₂ (λ (r q : Bool). r && (q && u)) ex (axis-not (joined p a) ez)
       go true true (Some r) ex ez h = let n : ◌≡◌ {A = ℕ} 0 1 = cc in absurd (none n)
       go true false (Some r) ex ez h = let n : ◌≡◌ {A = ℕ} 0 1 = cc in absurd (none n)

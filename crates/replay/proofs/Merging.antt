@@ -64,17 +64,17 @@ unfolding compiled_replay
 compiled-done ds ss ts p q e = go (spanned ds ss) (spanned ds ts) (axes_fit (given_axes ds ss ts)) refl refl refl e
   where
     go : (x y : Option Span) (t : Bool) → spanned ds ss ≡ x → spanned ds ts ≡ y → axes_fit (given_axes ds ss ts) ≡ t → (after_spans x y (λ spans. where_fits t (merged_axes (given_axes ds ss ts)) spans)).answer ≡ Ok tt → IsDone ds ss ts
-    go (Some (record { low = a; high = b })) (Some (record { low = a'; high = b' })) true ex ey et h = record {
+    go (Some a) (Some b) true ex ey et h = record {
       axes = merged_axes (given_axes ds ss ts);
       meets = meets-given ds ss ts p q et;
-      source-low = a;
-      source-high = b;
+      source-low = a.low;
+      source-high = a.high;
       source-span = ex;
-      dest-low = a';
-      dest-high = b';
+      dest-low = b.low;
+      dest-high = b.high;
       dest-span = ey;
       is = (λ ι. after_spans (ex ι) (ey ι) (λ spans. where_fits (et ι) (merged_axes (given_axes ds ss ts)) spans));
     }
-    go (Some (record { low = a; high = b })) (Some (record { low = a'; high = b' })) false ex ey et h = let z : ◌≡◌ {A = ℕ} 0 1 = cc in absurd (omega arith)
-    go (Some (record { low = a; high = b })) None t ex ey et h = let z : ◌≡◌ {A = ℕ} 0 1 = cc in absurd (omega arith)
+    go (Some a) (Some b) false ex ey et h = let z : ◌≡◌ {A = ℕ} 0 1 = cc in absurd (omega arith)
+    go (Some a) None t ex ey et h = let z : ◌≡◌ {A = ℕ} 0 1 = cc in absurd (omega arith)
     go None y t ex ey et h = let z : ◌≡◌ {A = ℕ} 0 1 = cc in absurd (omega arith)

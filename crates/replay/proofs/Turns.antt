@@ -103,8 +103,8 @@ module _ (ds : List ℕ) (ss ts : List ℤ) (rank : ℕ) where
           (λ ι. done_replay (sym k ι) (a ι) spans)
           ∙ ap₂ (λ (t : Bool) (m : List WindowReplayAxis). where_fits t m spans) fit same
 
-      module _ (h : i < min rank rank_limit) (j : JoinedAxis) (e : j ≡ joined_axis p (axis i)) where
-        pub fusing-over : j ≡ J.Overflow → refused_replay ≡ walk_from first (left 1) spans
+      module _ (h : i < min rank rank_limit) (j : Option JoinedAxis) (e : j ≡ joined_axis p (axis i)) where
+        pub fusing-over : j ≡ None → refused_replay ≡ walk_from first (left 1) spans
         fusing-over o =
             let w : later_fit p (left i) ≡ false = ap (later_fit p) (left-turn i h) ∙ (unfold later_fit in joined-over p (axis i) _ (sym e ∙ o)) in
             ap (λ (t : Bool). where_fits t (merged_from first (left 1)) spans) (sym w ∙ f.fit)
@@ -117,12 +117,12 @@ module _ (ds : List ℕ) (ss ts : List ℤ) (rank : ℕ) where
           same-on : (merge : Bool) → Joined p (axis i) q merge → take n axes ++ cond merge (merged_from q (left (i + 1))) (p ∷ merged_from q (left (i + 1))) ≡ merged_from first (left 1)
           same-on merge k = sym (ap (λ (m : List WindowReplayAxis). take n axes ++ m) (ap (merged_from p) (left-turn i h) ∙ merged-turn p (axis i) q (left (i + 1)) merge k)) ∙ f.same
 
-          pub fusing-merged : j ≡ J.Merged q → Fusing first axes q n (i + 1)
+          pub fusing-merged : j ≡ Some (J.Merged q) → Fusing first axes q n (i + 1)
           fusing-merged o =
               let k = joined-merged p (axis i) q (sym e ∙ o) in
               record { at = omega arith; count = omega (arith, f.count); full = f.full; rest = f.rest; fit = fit_on true k; same = same-on true k }
 
-          pub fusing-apart : j ≡ J.Apart q → Fusing first (set axes n p) q (n + 1) (i + 1)
+          pub fusing-apart : j ≡ Some (J.Apart q) → Fusing first (set axes n p) q (n + 1) (i + 1)
           fusing-apart o =
               let k = joined-apart p (axis i) q (sym e ∙ o) in
               record {

@@ -91,8 +91,8 @@ walk_of l spans = where_fits (axes_fit l) (merged_axes l) spans
 
 -- "spans of both sides"
 abbrev pub after_spans : Option Span → Option Span → (ReplaySpans → CompiledReplay) → CompiledReplay
-after_spans (Some (record { low = a; high = b })) (Some (record { low = c; high = d })) f = f (the_spans a b c d)
-after_spans (Some (record { low = a; high = b })) None f = refused_replay
+after_spans (Some source) (Some dest) f = f (the_spans source.low source.high dest.low dest.high)
+after_spans (Some source) None f = refused_replay
 after_spans None y f = refused_replay
 
 -- THE WALK: its merged axes with both spans, or refusal 3
