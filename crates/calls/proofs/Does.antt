@@ -9,11 +9,10 @@ use lib.Signed.{le_z, lt_z}
 use mathlib.Core.Bool.{◌&&◌}
 use Rattle.integer.specs.Z.{up}
 use Rattle.indexing.specs.Reach.{lowest, highest}
-use Rattle.layout.specs.declared.Answer.{Answer}
 use Rattle.layout.specs.declared.CallAnswer.{CallAnswer}
 use Rattle.layout.specs.declared.Reach.{Reach}
 use Rattle.layout.specs.declared.Reach.TheVariants as R
-use Rattle.layout.specs.Answers.{is_done}
+use Rattle.layout.specs.Answers.{is_done, Answer}
 use Rattle.layout.specs.Nested.{has_zero}
 use Rattle.layout.specs.Reach.{view_reach, buffer_bounds}
 use Rattle.calls.specs.Calls.{plan_refusal, answer_with, Does, as_is}

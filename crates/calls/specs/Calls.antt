@@ -1,19 +1,18 @@
 -- To be believed. A call: what it answers, and what it leaves in the destination's slice. Definitions only.
-use Rattle.std.specs.Prelude.{◌≡◌, Bool, cond, ◌&&◌, List, ℕ, eqb, length, ℤ}
+use Rattle.std.specs.Prelude.{◌≡◌, Bool, cond, ◌&&◌, List, ℕ, eqb, length, ℤ, Ok, Err}
 use Rattle.integer.specs.Defs.{eq_z}
 use Rattle.indexing.specs.Coordinates as C
 use Rattle.indexing.specs.Gather.{Gather, gathered}
 use Rattle.indexing.specs.Scatter.{Scatter, scattered}
 use Rattle.indexing.specs.Slid.{slid_gather, slid_scatter}
-use Rattle.layout.specs.declared.Answer.{Answer}
-use Rattle.layout.specs.declared.Answer.TheVariants as A
 use Rattle.layout.specs.declared.CallAnswer.{CallAnswer}
 use Rattle.layout.specs.declared.Reach.{Reach}
 use Rattle.layout.specs.declared.View.{View}
-use Rattle.layout.specs.Answers.{is_done, or_else}
+use Rattle.layout.specs.Answers.{is_done, or_else, Answer}
 use Rattle.layout.specs.Layouts.{extents_of, strides_of}
 use Rattle.layout.specs.Reach.{view_reach, buffer_bounds}
 use Rattle.equality.specs.Same.{same_by}
+use Rattle.layout.specs.declared.Refusal.TheVariants as F
 
 -- a view by value as the view that it is
 abbrev pub view_of : View → C.View
@@ -33,7 +32,7 @@ same_views x y z u v w = same_view x u && (same_view y v && same_view z w)
 
 -- 8: "a call's layout is not the plan's; or (added) the plan is not what compile gives"
 abbrev pub plan_refusal : Bool → Answer
-plan_refusal fits = cond fits A.Done A.PlanLayoutMismatch
+plan_refusal fits = cond fits (Ok tt) (Err F.PlanLayoutMismatch)
 
 -- where a view's cells lie in a slice of so many elements
 abbrev pub reach_in : C.View → ℕ → Reach

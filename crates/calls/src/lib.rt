@@ -9,7 +9,7 @@ ghost use Rattle.layout.specs.Reach.{buffer_bounds};
 ghost use Rattle.equality.specs.Same.{same_by};
 ghost use Rattle.calls.specs.Calls.{plan_refusal};
 
-use layout::{Answer, Layout, Reach};
+use layout::{Refusal, Layout, Reach};
 
 // Whether two views have the same extents and the same strides.
 pub fn same_view(
@@ -38,18 +38,18 @@ pub fn same_layout(a: Layout, b: Layout) -> bool
 }
 
 // 8 where a plan does not fit a call.
-pub fn check_plan(fits: bool) -> Answer
+pub fn check_plan(fits: bool) -> Result<(), Refusal>
     ensures { result ≡ plan_refusal fits }
 {
     if fits {
-        Answer::Done
+        Ok(())
     } else {
-        Answer::PlanLayoutMismatch
+        Err(Refusal::PlanLayoutMismatch)
     }
 }
 
 // 9 for the three views in turn.
-pub fn check_bounds(first: Reach, second: Reach, third: Reach) -> Answer
+pub fn check_bounds(first: Reach, second: Reach, third: Reach) -> Result<(), Refusal>
     ensures { result ≡ or_else (buffer_bounds 1 first) (or_else (buffer_bounds 2 second) (buffer_bounds 3 third)) }
 {
     let a = layout::check_reach(first, 1);

@@ -1,4 +1,5 @@
 -- Lists that compile accepts: in range and unrepeated, so none has more axes than there are. Assumes nothing.
+use Rattle.std.specs.Prelude.{Err}
 use mathlib.Core.Path.{◌≡◌, refl, sym, ap, subst, ◌∙◌}
 use mathlib.Core.Bool.{Bool, true, false, cond, ◌||◌, true≢false}
 use mathlib.Core.List.{List, [], ◌∷◌, ◌++◌, append-nil}
@@ -12,9 +13,9 @@ use Rattle.layout.specs.Layouts.{rank_limit}
 use Rattle.indexing.specs.Coordinates.{has, tabulate}
 use Rattle.indexing.specs.Axes.{Axes, or_left, or_right, or-none, axes-append}
 use Rattle.spans.proofs.Parts as P
-use Rattle.layout.specs.declared.Answer.TheVariants as A
 use Rattle.layout.specs.Answers.{is_done}
 use Rattle.layout.specs.Lists.{unique_axes}
+use Rattle.layout.specs.declared.Refusal.TheVariants as F
 
 -- ---- in range and unrepeated
 pub unique-all : (n : ℕ) (before xs : List ℕ) → Axes n before → is_done (unique_axes n before xs) ≡ true → Axes n (before ++ xs)
@@ -32,7 +33,7 @@ unique-all n before (a ∷ xs) p e = go (leb n a || has before a) refl e (unique
     one : a < n → Axes n (a ∷ [])
     one h = (h, refl, tt)
 
-    go : (t : Bool) → (leb n a || has before a) ≡ t → is_done (cond t (A.InvalidAxis a n) (unique_axes n (before ++ (a ∷ [])) xs)) ≡ true → (Axes n (before ++ (a ∷ [])) → is_done (unique_axes n (before ++ (a ∷ [])) xs) ≡ true → Axes n ((before ++ (a ∷ [])) ++ xs)) → Axes n (before ++ (a ∷ xs))
+    go : (t : Bool) → (leb n a || has before a) ≡ t → is_done (cond t (Err (F.InvalidAxis a n)) (unique_axes n (before ++ (a ∷ [])) xs)) ≡ true → (Axes n (before ++ (a ∷ [])) → is_done (unique_axes n (before ++ (a ∷ [])) xs) ≡ true → Axes n ((before ++ (a ∷ [])) ++ xs)) → Axes n (before ++ (a ∷ xs))
     go true f h ih = let z : ◌≡◌ {A = ℕ} 0 1 = cc in absurd (omega arith)
     go false f h ih =
         subst (Axes n) (append_snoc before a xs)

@@ -1,19 +1,15 @@
 -- Numbers that are made of any arguments, where one that does not fit counts as 0. Of what is not refused they are the numbers themselves. Definitions only.
-use Rattle.std.specs.Prelude.{List, ℕ, ℤ, pos}
-use Rattle.integer.specs.declared.Checked.{Checked}
-use Rattle.integer.specs.declared.Checked.TheVariants as C
-use Rattle.integer.specs.declared.CheckedU.{CheckedU}
-use Rattle.integer.specs.declared.CheckedU.TheVariants as U
+use Rattle.std.specs.Prelude.{List, ℕ, ℤ, pos, Option, Some, None}
 use Rattle.layout.specs.Spans.{total_of, reset_of, offset_add}
 
 -- a number that fits, or 0
-abbrev pub value_of : Checked → ℤ
-value_of (C.Fits z) = z
-value_of C.Overflow = pos 0
+abbrev pub value_of : Option ℤ → ℤ
+value_of (Some z) = z
+value_of None = pos 0
 
-abbrev pub value_of_u : CheckedU → ℕ
-value_of_u (U.Fits n) = n
-value_of_u U.Overflow = 0
+abbrev pub value_of_u : Option ℕ → ℕ
+value_of_u (Some n) = n
+value_of_u None = 0
 
 abbrev pub reset_or : ℕ → ℤ → ℤ
 reset_or d s = value_of (reset_of d s)

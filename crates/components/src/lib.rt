@@ -1,7 +1,7 @@
 // The components of a start: where in the index view each is read, which stride it moves by, and the last start on its axis.
 #![tactic(auto)]
 
-ghost use Rattle.std.specs.Prelude.{◌≡◌, ◌-◌, min, take, replicate, pos};
+ghost use Rattle.std.specs.Prelude.{◌≡◌, min, take, replicate, pos};
 ghost use Rattle.indexing.specs.Coordinates.{pick, tabulate};
 ghost use Rattle.layout.specs.Layouts.{rank_limit, padded, extents_of};
 ghost use Rattle.axis_lists.specs.Held.{numbers_of, held_steps};
@@ -10,43 +10,32 @@ ghost use Rattle.checks.specs.Values.{offset_or};
 ghost use Rattle.components.specs.Components.{limit_at, unless_none};
 
 use axis_lists::{Numbers, Steps};
-use integer::Checked;
-use layout::{Answer, Layout, RAW_FUSED_RANK_LIMIT};
+use layout::{Layout, RAW_FUSED_RANK_LIMIT, Refusal};
 
-fn check_offset(stride: i64, component: u64) -> Answer
+fn check_offset(stride: i64, component: u64) -> Result<(), Refusal>
     ensures { result ≡ offset_fits stride component }
 {
-    let offset = layout::checked_offset_add(0, stride, component);
-    match offset {
-        Checked::Fits(_) => Answer::Done,
-        Checked::Overflow => Answer::OffsetOverflow,
+    match layout::checked_offset_add(0, stride, component) {
+        Some(_) => Ok(()),
+        None => Err(Refusal::OffsetOverflow),
     }
 }
 
 // 3 for the offsets of the components.
-pub fn check_components(stride: i64, count: u64) -> Answer
+pub fn check_components(stride: i64, count: u64) -> Result<(), Refusal>
     ensures { result ≡ first_of (offset_fits stride) count 0 }
 {
-    let mut i: u64 = 0;
-    while i < count {
-        let answer = check_offset(stride, i);
-        if !layout::is_done(answer) {
-            return answer;
-        }
-        i += 1;
+    for component in 0..count {
+        check_offset(stride, component)?;
     }
-    Answer::Done
+    Ok(())
 }
 
 // Stride times component, and 0 where it does not fit.
 fn offset_value(stride: i64, component: u64) -> i64
     ensures { result ≡ offset_or stride component }
 {
-    let offset = layout::checked_offset_add(0, stride, component);
-    match offset {
-        Checked::Fits(z) => z,
-        Checked::Overflow => 0,
-    }
+    layout::checked_offset_add(0, stride, component).unwrap_or(0)
 }
 
 // The vector axis's stride times each component, of at most the rank limit.
@@ -55,10 +44,8 @@ pub fn index_component_offsets(stride: i64, count: usize) -> Steps
 {
     let n = layout::axis_count(count);
     let mut out = [0i64; RAW_FUSED_RANK_LIMIT];
-    let mut i: usize = 0;
-    while i < n {
+    for i in 0..n {
         out[i] = offset_value(stride, i as u64);
-        i += 1;
     }
     Steps {
         count: n,
@@ -72,19 +59,10 @@ pub fn strides_on(map: &[u64], strides: &[i64]) -> [i64; RAW_FUSED_RANK_LIMIT]
 {
     let n = layout::axis_count(map.len());
     let mut out = [0i64; RAW_FUSED_RANK_LIMIT];
-    let mut i: usize = 0;
-    while i < n {
+    for i in 0..n {
         out[i] = axis_lists::stride_at(strides, map[i]);
-        i += 1;
     }
     out
-}
-
-// The last start on an axis.
-fn last_start(extent: u64, window: u64) -> u64
-    ensures { result ≡ extent - window }
-{
-    if extent < window { 0 } else { extent - window }
 }
 
 // The last start of each component.
@@ -92,13 +70,11 @@ pub fn limits_on(map: &[u64], extents: &[u64], sizes: &[u64]) -> [u64; RAW_FUSED
     ensures { result ≡ tabulate rank_limit (limit_at extents.now sizes.now map.now) }
 {
     let mut out = [0u64; RAW_FUSED_RANK_LIMIT];
-    let mut i: usize = 0;
-    while i < RAW_FUSED_RANK_LIMIT {
+    for i in 0..RAW_FUSED_RANK_LIMIT {
         let axis = axis_lists::entry_at(map, i as u64);
         let extent = axis_lists::entry_at(extents, axis);
         let window = axis_lists::entry_at(sizes, axis);
-        out[i] = last_start(extent, window);
-        i += 1;
+        out[i] = extent.saturating_sub(window);
     }
     out
 }

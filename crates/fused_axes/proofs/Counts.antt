@@ -1,4 +1,5 @@
 -- How many axes are chosen, and what is read of them again. Assumes nothing.
+use Rattle.std.specs.Prelude.{Option, Some, None}
 use mathlib.Core.Path.{◌≡◌, refl, ap, ◌∙◌}
 use mathlib.Core.Bool.{Bool, true, false, cond}
 use mathlib.Core.List.{List, [], ◌∷◌, map}
@@ -7,8 +8,6 @@ use native.Mathlib.Nat.{mul-le-mul_left, mul-le-mul_right, mul-one, one-mul}
 use native.Mathlib.Omega.{arith}
 use lib.ListN.{length, take, get_or, length-map}
 use lib.IntN.{ℤ}
-use Rattle.integer.specs.declared.CheckedU.{CheckedU}
-use Rattle.integer.specs.declared.CheckedU.TheVariants as U
 use Rattle.indexing.specs.Coordinates.{product}
 use Rattle.indexing.specs.Odometer.{AllPos}
 use Rattle.indexing.proofs.Fusion.{product-pos}
@@ -38,9 +37,9 @@ unfolding merged_from
 merged-from-some [] a = omega arith
 merged-from-some (b ∷ l) a = go (merged_dim a b) (λ c. merged-from-some l c)
   where
-    go : (x : CheckedU) → ((c : FusedAxis) → 0 < length (merged_from c l)) → 0 < length (merged_by x a b (λ c. merged_from c l))
-    go (U.Fits n) ih = ih (the_axis n a.dst a.src)
-    go U.Overflow ih = omega arith
+    go : (x : Option ℕ) → ((c : FusedAxis) → 0 < length (merged_from c l)) → 0 < length (merged_by x a b (λ c. merged_from c l))
+    go (Some n) ih = ih (the_axis n a.dst a.src)
+    go None ih = omega arith
 
 merged_some : (l : List FusedAxis) → 0 < length (merged l)
 unfolding merged

@@ -1,19 +1,14 @@
 -- Axes that give the same reads and writes in the same order: an axis of extent 1 goes, and two neighbours that are contiguous in both layouts are one. For any rank. Assumes nothing.
-use Rattle.std.specs.Prelude.{◌≡◌, refl, Bool, true, false, cond, ◌&&◌, List, [], ◌∷◌, ℕ, suc, ◌*◌, ◌/◌, ◌%◌, ◌≤◌, eqb, length, ℤ, pos, ◌+ℤ◌, ◌*ℤ◌}
+use Rattle.std.specs.Prelude.{◌≡◌, refl, Bool, true, false, cond, ◌&&◌, List, [], ◌∷◌, ℕ, suc, ◌*◌, ◌/◌, ◌%◌, ◌≤◌, eqb, length, ℤ, pos, ◌+ℤ◌, ◌*ℤ◌, Option, Some, None, option_and_then}
 use Rattle.std.proofs.Common.{sym, ap, ap₂, ◌∙◌, subst, one-mul, arith, eqb-true}
 use Rattle.integer.specs.Defs.{checked, checked_u}
 use Rattle.integer.specs.Laws.{eq_z-true}
 use Rattle.integer.specs.Machine.{checked-fits, checked_u-fits}
-use Rattle.integer.specs.declared.Checked.{Checked}
-use Rattle.integer.specs.declared.Checked.TheVariants as C
-use Rattle.integer.specs.declared.CheckedU.{CheckedU}
-use Rattle.integer.specs.declared.CheckedU.TheVariants as U
 use Rattle.indexing.specs.Coordinates.{product, unravel, dot}
 use Rattle.indexing.specs.Odometer.{offset_at}
 use Rattle.indexing.specs.Loops.{in_order}
 use Rattle.indexing.proofs.Loops.{in_order-same}
 use Rattle.indexing.proofs.Fusion.{dot-fuse, dot-unit, product-fuse}
-use Rattle.layout.specs.Spans.{and_then}
 use Rattle.layout.specs.Laws.{then-inv}
 use Rattle.fused_axes.specs.declared.FusedAxis.{FusedAxis}
 use Rattle.fused_axes.specs.Fusing.{copy_turn, axes_copied, the_axis, dims, dsts, srcs, long_axes, is_it, goes_on, merged_dim, merged_by, merged_from, merged}
@@ -64,15 +59,15 @@ long_same (a ∷ l) = go (eqb a.dim 1) refl (long_same l)
     go false e h = same-under a l (long_axes l) h
 
 -- ---- merged where they can be
-is-it : (x : Checked) (t : ℤ) → is_it x t ≡ true → x ≡ C.Fits t
-is-it (C.Fits z) t e = ap C.Fits (eq_z-true z t e)
-is-it C.Overflow t e = cc
+is-it : (x : Option ℤ) (t : ℤ) → is_it x t ≡ true → x ≡ Some t
+is-it (Some z) t e = ap Some (eq_z-true z t e)
+is-it None t e = cc
 
 -- the stride is the one before times the extent before
 pub goes-on : (e : ℕ) (s t : ℤ) → goes_on e s t ≡ true → t ≡ s *ℤ pos e
 unfolding goes_on
 goes-on e s t h =
-    let u = then-inv (checked (pos e)) (λ m. checked (s *ℤ m)) t (is-it (and_then (checked (pos e)) (λ m. checked (s *ℤ m))) t h) in
+    let u = then-inv (checked (pos e)) (λ m. checked (s *ℤ m)) t (is-it (option_and_then (λ m. checked (s *ℤ m)) (checked (pos e))) t h) in
     sym (checked-fits (s *ℤ u.0) t u.2) ∙ ap (λ (x : ℤ). s *ℤ x) (sym (checked-fits (pos e) u.0 u.1))
 
 pub record Contiguous (a b : FusedAxis) (n : ℕ) : Type 0 where
@@ -80,11 +75,11 @@ pub record Contiguous (a b : FusedAxis) (n : ℕ) : Type 0 where
   pub operand : b.src ≡ a.src *ℤ pos a.dim
   pub size : n ≡ a.dim * b.dim
 
-pub merged-dim : (a b : FusedAxis) (n : ℕ) → merged_dim a b ≡ U.Fits n → Contiguous a b n
+pub merged-dim : (a b : FusedAxis) (n : ℕ) → merged_dim a b ≡ Some n → Contiguous a b n
 unfolding merged_dim
 merged-dim a b n h = go (goes_on a.dim a.dst b.dst) (goes_on a.dim a.src b.src) refl refl h
   where
-    go : (t u : Bool) → goes_on a.dim a.dst b.dst ≡ t → goes_on a.dim a.src b.src ≡ u → cond (t && u) (checked_u (a.dim * b.dim)) U.Overflow ≡ U.Fits n → Contiguous a b n
+    go : (t u : Bool) → goes_on a.dim a.dst b.dst ≡ t → goes_on a.dim a.src b.src ≡ u → cond (t && u) (checked_u (a.dim * b.dim)) None ≡ Some n → Contiguous a b n
     go true true e f g = record { dest = goes-on a.dim a.dst b.dst e; operand = goes-on a.dim a.src b.src f; size = sym (checked_u-fits (a.dim * b.dim) n g) }
     go true false e f g = let z : ◌≡◌ {A = ℕ} 0 1 = cc in absurd (omega arith)
     go false u e f g = let z : ◌≡◌ {A = ℕ} 0 1 = cc in absurd (omega arith)
@@ -94,13 +89,13 @@ unfolding merged_from
 merged-from-same [] a = same_refl (a ∷ [])
 merged-from-same (b ∷ l) a = go (merged_dim a b) refl (λ c. merged-from-same l c)
   where
-    go : (x : CheckedU) → merged_dim a b ≡ x → ((c : FusedAxis) → Same (c ∷ l) (merged_from c l)) → Same (a ∷ b ∷ l) (merged_by x a b (λ c. merged_from c l))
-    go (U.Fits n) e ih =
+    go : (x : Option ℕ) → merged_dim a b ≡ x → ((c : FusedAxis) → Same (c ∷ l) (merged_from c l)) → Same (a ∷ b ∷ l) (merged_by x a b (λ c. merged_from c l))
+    go (Some n) e ih =
         let k = merged-dim a b n e in
         let c : FusedAxis = the_axis n a.dst a.src in
         same_then (a ∷ b ∷ l) (c ∷ l) (merged_from c l)
         (subst (λ (m : ℕ). Same (a ∷ b ∷ l) (the_axis m a.dst a.src ∷ l)) (sym k.size) (same-fuse a b l k.dest k.operand)) (ih c)
-    go U.Overflow e ih = same-under a (b ∷ l) (merged_from b l) (ih b)
+    go None e ih = same-under a (b ∷ l) (merged_from b l) (ih b)
 
 pub merged-same : (l : List FusedAxis) → Same l (merged l)
 unfolding merged product
@@ -113,9 +108,9 @@ unfolding merged_from
 merged-count [] a = omega arith
 merged-count (b ∷ l) a = go (merged_dim a b) (λ c. merged-count l c)
   where
-    go : (x : CheckedU) → ((c : FusedAxis) → length (merged_from c l) ≤ suc (length l)) → length (merged_by x a b (λ c. merged_from c l)) ≤ suc (suc (length l))
-    go (U.Fits n) ih = omega (arith, ih (the_axis n a.dst a.src))
-    go U.Overflow ih = omega (arith, ih b)
+    go : (x : Option ℕ) → ((c : FusedAxis) → length (merged_from c l) ≤ suc (length l)) → length (merged_by x a b (λ c. merged_from c l)) ≤ suc (suc (length l))
+    go (Some n) ih = omega (arith, ih (the_axis n a.dst a.src))
+    go None ih = omega (arith, ih b)
 
 -- THE COPY over such axes is the same, whatever the layouts
 pub same-copied : {A : Type 0} (z : A) (from : List A) (o d : ℤ) (l l' : List FusedAxis) (into : List A) → Same l l' → axes_copied z from o d l' into ≡ axes_copied z from o d l into

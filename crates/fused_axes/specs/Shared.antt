@@ -1,11 +1,10 @@
 -- Where cells of the destination share an element the order of the axes matters, so there the axes are not sorted. Worked examples. Assumes nothing.
-use Rattle.std.specs.Prelude.{◌≡◌, refl, List, [], ◌∷◌, ℕ, pos}
+use Rattle.std.specs.Prelude.{◌≡◌, refl, List, [], ◌∷◌, ℕ, pos, Some}
 use Rattle.indexing.specs.Coordinates.{product, unravel, dot}
 use Rattle.indexing.specs.Odometer.{offset_at}
 use Rattle.indexing.specs.Loops.{in_order}
 use Rattle.integer.specs.Defs.{checked, checked_u}
 use Rattle.layout.specs.Nested.{has_zero, nested, long_axes, insert, ordered, exceeds}
-use Rattle.integer.specs.declared.CheckedU.TheVariants as U
 use Rattle.fused_axes.specs.Fusing.{cells_copied, axes_copied, the_axis, axes_of, placed, sorted_from, goes_on, merged_dim, merged_from, merged, fused, kept, rising, sorts, copy_axes, total_len}
 use Rattle.fused_axes.specs.Fusing as C
 
@@ -42,6 +41,6 @@ unfolding has_zero nested long_axes insert ordered exceeds axes_of C.long_axes c
 one-side-apart = refl
 
 -- a zero extent: no elements, whatever the others
-pub zero-whatever : total_len (18446744073709551615 ∷ 18446744073709551615 ∷ 0 ∷ []) ≡ U.Fits 0
+pub zero-whatever : total_len (18446744073709551615 ∷ 18446744073709551615 ∷ 0 ∷ []) ≡ Some 0
 unfolding total_len has_zero
 zero-whatever = refl

@@ -1,4 +1,5 @@
 -- What a plan that fits a call holds. Assumes nothing.
+use Rattle.std.specs.Prelude.{Ok}
 use mathlib.Core.Path.{◌≡◌, refl, sym, ap, ap₂, subst, ◌∙◌}
 use mathlib.Core.Bool.{Bool, true, cond}
 use mathlib.Core.List.{List}
@@ -11,11 +12,9 @@ use Rattle.indexing.specs.Coordinates.{rank, tabulate, has}
 use Rattle.indexing.specs.Gather.{Gather, shown_dims, batch_dims}
 use Rattle.indexing.specs.Steps.{window_steps, batch_steps}
 use Rattle.indexing.proofs.Updates.{length-tabulate, get_d_tabulate}
-use Rattle.layout.specs.declared.Answer.{Answer}
-use Rattle.layout.specs.declared.Answer.TheVariants as A
 use Rattle.layout.specs.declared.Reach.{Reach}
 use Rattle.layout.specs.declared.View.{View}
-use Rattle.layout.specs.Answers.{is_done, or_else}
+use Rattle.layout.specs.Answers.{is_done, or_else, Answer}
 use Rattle.layout.specs.Layouts.{rank_limit, padded, extents_of}
 use Rattle.layout.specs.Reach.{buffer_bounds}
 use Rattle.axis_lists.specs.Held.{numbers_of}
@@ -46,14 +45,14 @@ module _ (p : GatherPlan) (ok : is_compiled p ≡ true) where
   abbrev g : Gather
   g = held_gather p
 
-  done : is_done (refusal_of A.Done g) ≡ true
+  done : is_done (refusal_of (Ok tt) g) ≡ true
   done = (compiled-is p ok).0
 
   is : p ≡ plan_of g
   is = (compiled-is p ok).1
 
   fits : Accepted g
-  fits = accepted g A.Done done
+  fits = accepted g (Ok tt) done
 
   steps-are : (f : GatherReplayAxis → ℤ) (l : List ℤ) → f no_axis ≡ pos 0 → length l ≡ rank g.result → ((a : ℕ) → f (axis_of g a) ≡ get_or l a (pos 0)) → tabulate rank_limit (λ a. f (get_or p.axes a no_axis)) ≡ padded rank_limit (pos 0) l
   steps-are f l none k each =
@@ -158,7 +157,7 @@ module _ (p : GatherPlan) (o i d : View) (on sn dn : ℕ) (ok : is_done (call_an
         result = record { extents = ed j; strides = sd j; offset = d.offset };
       }
 
-  at_done : is_done (refusal_of A.Done at) ≡ true
+  at_done : is_done (refusal_of (Ok tt) at) ≡ true
   unfolding spec_refusal window_steps batch_steps shown_dims batch_dims
   at_done = (compiled-is p compiled).0
 
@@ -169,7 +168,7 @@ module _ (p : GatherPlan) (o i d : View) (on sn dn : ℕ) (ok : is_done (call_an
   pub ready : (r : PreparedGather) → r.reach ≡ reach_in h.result dn → r.numbers ≡ gather_numbers (held_gather p) → r.operand ≡ o.offset → r.index ≡ start_base h → r.dest ≡ d.offset → Ready r h on sn dn
   ready r er en eo ei ed =
       record {
-        accepted = subst (λ (x : Gather). is_done (refusal_of A.Done x) ≡ true) (sym gather-is) at_done;
+        accepted = subst (λ (x : Gather). is_done (refusal_of (Ok tt) x) ≡ true) (sym gather-is) at_done;
         bounds = tests.1;
         reach = er;
         numbers = en ∙ at-numbers ∙ ap gather_numbers (sym gather-is);

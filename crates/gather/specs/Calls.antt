@@ -2,9 +2,8 @@
 use Rattle.std.specs.Prelude.{Bool, ◌&&◌, List, ℕ, length, get_or, ℤ, pos}
 use Rattle.indexing.specs.Coordinates.{tabulate}
 use Rattle.indexing.specs.Gather.{Gather}
-use Rattle.layout.specs.declared.Answer.{Answer}
 use Rattle.layout.specs.declared.View.{View}
-use Rattle.layout.specs.Answers.{or_else}
+use Rattle.layout.specs.Answers.{or_else, Answer}
 use Rattle.layout.specs.Layouts.{rank_limit}
 use Rattle.calls.specs.Calls.{view_of, same_views, plan_refusal, bounds_refusal, GatherCall}
 use Rattle.gather_plan.specs.declared.Role.{Role}

@@ -16,7 +16,7 @@ ghost use Rattle.gather.specs.Calls.{gather_of, plan_fits, call_answer, by_plan,
 use axis_lists::Numbers;
 use gather_move::{GatherNumbers, PreparedGather};
 use gather_plan::{GatherPlan, GatherReplayAxis, Role};
-use layout::{Answer, CallAnswer, RAW_FUSED_RANK_LIMIT, View};
+use layout::{CallAnswer, RAW_FUSED_RANK_LIMIT, View};
 
 // What an axis adds to the place in the operand, and to the one in the index view.
 #[derive(Clone, Copy)]

@@ -1,4 +1,5 @@
 -- What is found of a gather by the lists of its axes is what is asked. Assumes nothing.
+use Rattle.std.specs.Prelude.{Ok}
 use mathlib.Core.Path.{◌≡◌, sym, ap, ◌∙◌}
 use mathlib.Core.Bool.{Bool, true, cond}
 use mathlib.Core.List.{List, [], ◌∷◌}
@@ -9,9 +10,7 @@ use Rattle.indexing.specs.Coordinates.{pick, spread, others}
 use Rattle.indexing.specs.Start.{without}
 use Rattle.indexing.specs.Gather.{Gather, shown_dims, batch_dims}
 use Rattle.indexing.specs.Steps.{window_steps, batch_steps}
-use Rattle.layout.specs.declared.Answer.{Answer}
-use Rattle.layout.specs.declared.Answer.TheVariants as A
-use Rattle.layout.specs.Answers.{is_done, or_else}
+use Rattle.layout.specs.Answers.{is_done, or_else, Answer}
 use Rattle.layout.specs.Layouts.{rank_limit, padded}
 use Rattle.axis_lists.proofs.Without.{pick-without, length-starts}
 use Rattle.checks.specs.Checks.{layouts_refusal}
@@ -30,7 +29,7 @@ sizes-pass oe os ie is de ds e = lengths-pass (length oe) (length os) (length ie
 sizes_of : Gather → Answer
 sizes_of g = sizes_refusal g.operand.extents g.operand.strides g.indices.extents g.indices.strides g.result.extents g.result.strides
 
-pub done-again : (four : Answer) (g : Gather) → is_done (refusal_of four g) ≡ true → is_done (refusal_of A.Done g) ≡ true
+pub done-again : (four : Answer) (g : Gather) → is_done (refusal_of four g) ≡ true → is_done (refusal_of (Ok tt) g) ≡ true
 unfolding sizes_of
 done-again four g e =
     let t = or-done (sizes_of g) (or_else four (spec_refusal g)) e in

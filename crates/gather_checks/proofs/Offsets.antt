@@ -1,4 +1,5 @@
 -- The offsets of a gather's components fit wherever the index view's span does: compile need not ask. Assumes nothing.
+use Rattle.std.specs.Prelude.{Option, Some, option_and_then}
 use mathlib.Core.Path.{◌≡◌, refl, sym, ap, subst, ◌∙◌}
 use mathlib.Core.Bool.{Bool, true, false, cond}
 use mathlib.Core.List.{List}
@@ -14,10 +15,8 @@ use mir.Facts.{sfits_lit}
 use Rattle.integer.specs.Defs.{checked}
 use Rattle.integer.specs.Machine.{checked-yes, checked-fits, checked-sfits}
 use Rattle.integer.specs.Laws.{term_fits}
-use Rattle.integer.specs.declared.Checked.{Checked}
-use Rattle.integer.specs.declared.Checked.TheVariants as C
 use Rattle.layout.specs.Answers.{is_done}
-use Rattle.layout.specs.Spans.{and_then, spanned, reach_of, offset_add}
+use Rattle.layout.specs.Spans.{spanned, reach_of, offset_add}
 use Rattle.layout.specs.Laws.{then-inv}
 use Rattle.checks.specs.Checks.{span_fits, number_fits, offset_fits, components_of}
 use Rattle.checks.proofs.Small.{spans-reach}
@@ -25,13 +24,13 @@ use Rattle.checks.proofs.Small.{spans-reach}
 offset-yes : (s : ℤ) (c : ℕ) → SFits w64 (pos c) → SFits w64 (s *ℤ pos c) → is_done (offset_fits s c) ≡ true
 unfolding offset_add
 offset-yes s c f g =
-    ap (λ (x : Checked). is_done (number_fits (and_then (and_then x (λ m. checked (s *ℤ m))) (λ e. checked (pos 0 +ℤ e))))) (sym (checked-yes (pos c) f))
-    ∙ ap (λ (x : Checked). is_done (number_fits (and_then x (λ e. checked (pos 0 +ℤ e))))) (sym (checked-yes (s *ℤ pos c) g))
+    ap (λ (x : Option ℤ). is_done (number_fits (option_and_then (λ e. checked (pos 0 +ℤ e)) (option_and_then (λ m. checked (s *ℤ m)) x)))) (sym (checked-yes (pos c) f))
+    ∙ ap (λ (x : Option ℤ). is_done (number_fits (option_and_then (λ e. checked (pos 0 +ℤ e)) x))) (sym (checked-yes (s *ℤ pos c) g))
     ∙ ap (λ (z : ℤ). is_done (number_fits (checked z))) (+ℤ_idl (s *ℤ pos c))
-    ∙ ap (λ (x : Checked). is_done (number_fits x)) (sym (checked-yes (s *ℤ pos c) g))
+    ∙ ap (λ (x : Option ℤ). is_done (number_fits x)) (sym (checked-yes (s *ℤ pos c) g))
 
 -- on an axis whose reach fits, each coordinate's offset does
-reach-offset : (d : ℕ) (s m : ℤ) (c : ℕ) → c < d → reach_of d s ≡ C.Fits m → is_done (offset_fits s c) ≡ true
+reach-offset : (d : ℕ) (s m : ℤ) (c : ℕ) → c < d → reach_of d s ≡ Some m → is_done (offset_fits s c) ≡ true
 unfolding reach_of
 reach-offset d s m c h e =
     let t = then-inv (checked (pos (d - 1))) (λ z. checked (s *ℤ z)) m e in

@@ -1,17 +1,16 @@
 -- The refusals of a gather given the lists of its axes, and what is found of one that is not refused. Definitions only.
-use Rattle.std.specs.Prelude.{◌≡◌, Bool, true, cond, ◌&&◌, List, [], ℕ, ◌+◌, ◌≤◌, eqb, length, ℤ, pos}
+use Rattle.std.specs.Prelude.{◌≡◌, Bool, true, cond, ◌&&◌, List, [], ℕ, ◌+◌, ◌≤◌, eqb, length, ℤ, pos, Ok, Err}
 use Rattle.indexing.specs.Coordinates.{pick, spread}
 use Rattle.indexing.specs.Gather.{Gather}
 use Rattle.indexing.specs.Steps.{window_steps, batch_steps}
-use Rattle.layout.specs.declared.Answer.{Answer}
-use Rattle.layout.specs.declared.Answer.TheVariants as A
-use Rattle.layout.specs.Answers.{is_done, or_else}
+use Rattle.layout.specs.Answers.{is_done, or_else, Answer}
 use Rattle.layout.specs.Layouts.{rank_limit, padded}
 use Rattle.layout.specs.Lists.{unique_axes}
 use Rattle.axis_lists.specs.Held.{same_list}
 use Rattle.checks.specs.Checks.{same_count, components_of}
 use Rattle.gather_checks.specs.declared.Examined.{Examined}
 use Rattle.gather_checks.specs.Refusals.{refusal_of, lists_refusal, resets_refusal}
+use Rattle.layout.specs.declared.Refusal.TheVariants as F
 
 -- `counts_refusal`, given the counts of components, of the operand's axes that are shown and of batch axes
 abbrev pub counts_by : ℕ → ℕ → ℕ → List ℕ → List ℕ → Answer
@@ -26,7 +25,7 @@ shape_by shown starts others ie de offsets sizes =
 
 abbrev pub shape_answer : List ℕ → List ℕ → List ℕ → List ℕ → List ℕ → List ℕ → List ℕ → Answer
 shape_answer shown starts others ie de offsets sizes =
-    cond (shape_by shown starts others ie de offsets sizes) A.Done (A.ShapeMismatch (length de) (length starts + length offsets))
+    cond (shape_by shown starts others ie de offsets sizes) (Ok tt) (Err (F.ShapeMismatch (length de) (length starts + length offsets)))
 
 -- a destination that neither 1 nor 2 refuses, and no more batch axes than the rank limit
 pub record Made (de : List ℕ) (ds : List ℤ) (starts : List ℕ) : Type 0 where
@@ -54,7 +53,7 @@ examined_by oe os ie is de ds offsets collapsed map vector sizes four shown star
 
 -- a gather that is not refused, with the steps of its destination's axes in the operand and in the index view
 pub record Found (g : Gather) (window batch : List ℤ) : Type 0 where
-  pub accepted : is_done (refusal_of A.Done g) ≡ true
+  pub accepted : is_done (refusal_of (Ok tt) g) ≡ true
   pub window-is : window ≡ padded rank_limit (pos 0) (window_steps g)
   pub batch-is : batch ≡ padded rank_limit (pos 0) (batch_steps g)
 

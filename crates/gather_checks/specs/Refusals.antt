@@ -1,16 +1,15 @@
 -- To be believed. "Gather, first hit counts": document 01's refusals of a gather, in its order. Definitions only.
-use Rattle.std.specs.Prelude.{Bool, cond, ◌&&◌, List, [], ◌∷◌, ℕ, ◌+◌, eqb, length, get_or, ℤ, pos}
+use Rattle.std.specs.Prelude.{Bool, cond, ◌&&◌, List, [], ◌∷◌, ℕ, ◌+◌, eqb, length, get_or, ℤ, pos, Ok, Err}
 use Rattle.indexing.specs.Coordinates.{pick, others}
 use Rattle.indexing.specs.Start.{without}
 use Rattle.indexing.specs.Gather.{Gather}
 use Rattle.indexing.specs.Steps.{window_steps, batch_steps}
-use Rattle.layout.specs.declared.Answer.{Answer}
-use Rattle.layout.specs.declared.Answer.TheVariants as A
-use Rattle.layout.specs.Answers.{or_else}
+use Rattle.layout.specs.Answers.{or_else, Answer}
 use Rattle.layout.specs.Lists.{unique_axes}
 use Rattle.layout.specs.Spans.{total_of, spanned, reset_of}
 use Rattle.axis_lists.specs.Held.{same_list}
 use Rattle.checks.specs.Checks.{view_from, layouts_refusal, first_of, total_fits, span_fits, number_fits, nested_refusal, same_count, vector_axis, components_of, windows_fit}
+use Rattle.layout.specs.declared.Refusal.TheVariants as F
 
 -- a gather from its layouts and its spec's lists; where its views begin does not matter to a plan
 abbrev pub gather_from : List ℕ → List ℤ → List ℕ → List ℤ → List ℕ → List ℤ → List ℕ → List ℕ → List ℕ → ℕ → List ℕ → Gather
@@ -34,8 +33,8 @@ sizes_refusal oe os ie is de ds = or_else (layouts_refusal (length oe) (length o
 
 -- "first collapsed axis with window not 1 (6)", in list order
 unfoldable pub collapsed_one : ℕ → List ℕ → List ℕ → Answer
-collapsed_one rank sizes [] = A.Done
-collapsed_one rank sizes (a ∷ rest) = cond (eqb (get_or sizes a 0) 1) (collapsed_one rank sizes rest) (A.InvalidAxis a rank)
+collapsed_one rank sizes [] = Ok tt
+collapsed_one rank sizes (a ∷ rest) = cond (eqb (get_or sizes a 0) 1) (collapsed_one rank sizes rest) (Err (F.InvalidAxis a rank))
 
 -- "slice sizes against operand rank (5); collapsed axes, then start map, in range and unrepeated (6); vector axis above index rank (6, b = rank + 1);
 -- first window above its extent (6); first collapsed axis with window not 1 (6)"
@@ -61,7 +60,7 @@ shape_fits oe ie de offsets collapsed vector sizes =
 
 abbrev pub shape_refusal : List ℕ → List ℕ → List ℕ → List ℕ → List ℕ → ℕ → List ℕ → Answer
 shape_refusal oe ie de offsets collapsed vector sizes =
-    cond (shape_fits oe ie de offsets collapsed vector sizes) A.Done (A.ShapeMismatch (length de) (length (without vector ie) + length offsets))
+    cond (shape_fits oe ie de offsets collapsed vector sizes) (Ok tt) (Err (F.ShapeMismatch (length de) (length (without vector ie) + length offsets)))
 
 -- "resets (3)": on each axis of the result those of its own step, of the window's and of the batch's
 abbrev pub axis_resets : ℕ → ℤ → ℤ → ℤ → Answer
@@ -87,6 +86,6 @@ refusal_of four g =
     or_else (sizes_refusal g.operand.extents g.operand.strides g.indices.extents g.indices.strides g.result.extents g.result.strides)
     (or_else four (spec_refusal g))
 
--- compile's: 4 where the destination is not nested. "4 not tried again" at a call: `refusal_of A.Done`
+-- compile's: 4 where the destination is not nested. "4 not tried again" at a call: `refusal_of (Ok tt)`
 abbrev pub compile_refusal : Gather → Answer
 compile_refusal g = refusal_of (nested_refusal g.result.extents g.result.strides) g

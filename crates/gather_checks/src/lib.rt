@@ -1,8 +1,7 @@
 // Gather: compile's checks in the order of document 01, over lent lists, and the steps of the destination's axes.
 #![tactic(auto)]
 
-ghost use Rattle.std.specs.Prelude.{◌≡◌, true, ◌&&◌, ◌≤◌, length};
-ghost use Rattle.layout.specs.declared.Answer.TheVariants as Ans;
+ghost use Rattle.std.specs.Prelude.{◌≡◌, true, ◌&&◌, ◌≤◌, length, Ok};
 ghost use Rattle.layout.specs.Answers.{is_done};
 ghost use Rattle.layout.specs.Layouts.{rank_limit};
 ghost use Rattle.layout.specs.Spans.{reset_of};
@@ -10,19 +9,18 @@ ghost use Rattle.checks.specs.Checks.{number_fits, nested_refusal, components_of
 ghost use Rattle.gather_checks.specs.Refusals.{gather_from, numbers_refusal, sizes_refusal, compile_refusal, lists_refusal, resets_refusal, collapsed_one, axis_resets};
 ghost use Rattle.gather_checks.specs.Given.{counts_by, shape_by, shape_answer, Made, examined_by, Examines};
 
-use integer::Checked;
-use layout::{Answer, RAW_FUSED_RANK_LIMIT};
+use layout::{Refusal, RAW_FUSED_RANK_LIMIT};
 
 // What compile answers; where that is Done, what each axis of the destination adds to the place in the operand and in the index view,
 // and zeros past the last.
 #[derive(Clone, Copy)]
 pub struct Examined {
-    pub answer: Answer,
+    pub answer: Result<(), Refusal>,
     pub window: [i64; RAW_FUSED_RANK_LIMIT],
     pub batch: [i64; RAW_FUSED_RANK_LIMIT],
 }
 
-fn unexamined(answer: Answer) -> Examined
+fn unexamined(answer: Result<(), Refusal>) -> Examined
     ensures { result.answer ≡ answer }
 {
     let zeros = [0i64; RAW_FUSED_RANK_LIMIT];
@@ -34,7 +32,7 @@ fn unexamined(answer: Answer) -> Examined
 }
 
 // 3 for products and spans.
-fn check_numbers(oe: &[u64], os: &[i64], ie: &[u64], is: &[i64], de: &[u64], ds: &[i64]) -> Answer
+fn check_numbers(oe: &[u64], os: &[i64], ie: &[u64], is: &[i64], de: &[u64], ds: &[i64]) -> Result<(), Refusal>
     requires { (length os.now ≡ length oe.now) × (length is.now ≡ length ie.now) × (length ds.now ≡ length de.now) }
     ensures { result ≡ numbers_refusal oe.now os.now ie.now is.now de.now ds.now }
 {
@@ -49,7 +47,7 @@ fn check_numbers(oe: &[u64], os: &[i64], ie: &[u64], is: &[i64], de: &[u64], ds:
 }
 
 // 1 and 2, then 3 for products and spans: what is asked before 4.
-fn check_sizes(oe: &[u64], os: &[i64], ie: &[u64], is: &[i64], de: &[u64], ds: &[i64]) -> Answer
+fn check_sizes(oe: &[u64], os: &[i64], ie: &[u64], is: &[i64], de: &[u64], ds: &[i64]) -> Result<(), Refusal>
     ensures { result ≡ sizes_refusal oe.now os.now ie.now is.now de.now ds.now }
 {
     let lengths = checks::check_layouts(oe.len(), os.len(), ie.len(), is.len(), de.len(), ds.len());
@@ -60,31 +58,31 @@ fn check_sizes(oe: &[u64], os: &[i64], ie: &[u64], is: &[i64], de: &[u64], ds: &
 }
 
 // 6 for the first collapsed axis, in list order, whose window is not 1.
-fn check_collapsed(rank: u64, sizes: &[u64], collapsed: &[u64]) -> Answer
+fn check_collapsed(rank: u64, sizes: &[u64], collapsed: &[u64]) -> Result<(), Refusal>
     ensures { result ≡ collapsed_one rank sizes.now collapsed.now }
 {
     let mut i: usize = 0;
     while i < collapsed.len() {
         let axis = collapsed[i];
         if axis_lists::entry_at(sizes, axis) != 1 {
-            return Answer::InvalidAxis(axis, rank);
+            return Err(Refusal::InvalidAxis(axis, rank));
         }
         i += 1;
     }
-    Answer::Done
+    Ok(())
 }
 
-fn check_reset(extent: u64, step: i64) -> Answer
+fn check_reset(extent: u64, step: i64) -> Result<(), Refusal>
     ensures { result ≡ number_fits (reset_of extent step) }
 {
     let reset = layout::checked_replay_reset(extent, step);
     match reset {
-        Checked::Fits(_) => Answer::Done,
-        Checked::Overflow => Answer::OffsetOverflow,
+        Some(_) => Ok(()),
+        None => Err(Refusal::OffsetOverflow),
     }
 }
 
-fn check_axis(extent: u64, dest: i64, window: i64, batch: i64) -> Answer
+fn check_axis(extent: u64, dest: i64, window: i64, batch: i64) -> Result<(), Refusal>
     ensures { result ≡ axis_resets extent dest window batch }
 {
     let a = check_reset(extent, dest);
@@ -94,7 +92,7 @@ fn check_axis(extent: u64, dest: i64, window: i64, batch: i64) -> Answer
 }
 
 // 3 for the resets of each axis.
-fn check_resets(de: &[u64], ds: &[i64], window: &[i64], batch: &[i64]) -> Answer
+fn check_resets(de: &[u64], ds: &[i64], window: &[i64], batch: &[i64]) -> Result<(), Refusal>
     requires { (length ds.now ≡ length de.now) × (length window.now ≡ length de.now) × (length batch.now ≡ length de.now) }
     ensures { result ≡ resets_refusal de.now ds.now window.now batch.now }
 {
@@ -106,7 +104,7 @@ fn check_resets(de: &[u64], ds: &[i64], window: &[i64], batch: &[i64]) -> Answer
         }
         i += 1;
     }
-    Answer::Done
+    Ok(())
 }
 
 // The counts, lists and windows of a spec.
@@ -117,7 +115,7 @@ fn check_lists(
     map: &[u64],
     vector: u64,
     sizes: &[u64],
-) -> Answer
+) -> Result<(), Refusal>
     ensures { result ≡ lists_refusal oe.now ie.now collapsed.now map.now vector sizes.now }
 {
     let rank = oe.len() as u64;
@@ -140,7 +138,7 @@ fn check_counts(
     offset_dims: &[u64],
     map: &[u64],
     vector: u64,
-) -> Answer
+) -> Result<(), Refusal>
     requires { starts ≤ rank_limit }
     ensures { result ≡ counts_by (components_of ie.now vector) shown starts offset_dims.now map.now }
 {
@@ -181,15 +179,15 @@ fn check_shape(
     de: &[u64],
     offset_dims: &[u64],
     sizes: &[u64],
-) -> Answer
+) -> Result<(), Refusal>
     requires { length starts.now ≤ rank_limit }
     ensures { result ≡ shape_answer shown.now starts.now others.now ie.now de.now offset_dims.now sizes.now }
 {
     if shape_fits(shown, starts, others, ie, de, offset_dims, sizes) {
-        return Answer::Done;
+        return Ok(());
     }
     let expected = starts.len() as u64 + offset_dims.len() as u64;
-    Answer::ShapeMismatch(de.len() as u64, expected)
+    Err(Refusal::ShapeMismatch(de.len() as u64, expected))
 }
 
 // What is asked from 4 on, given what is answered in its place, the operand's axes that are shown, the index view's batch axes and the
@@ -206,7 +204,7 @@ fn examine_axes(
     map: &[u64],
     vector: u64,
     sizes: &[u64],
-    four: Answer,
+    four: Result<(), Refusal>,
     shown: &[u64],
     starts: &[u64],
     others: &[u64],
@@ -243,7 +241,7 @@ fn examine_from(
     start_index_map: &[u64],
     index_vector_dim: u64,
     slice_sizes: &[u64],
-    four: Answer,
+    four: Result<(), Refusal>,
 ) -> Examined
     requires { is_done (sizes_refusal operand_extents.now operand_strides.now index_extents.now index_strides.now dest_extents.now dest_strides.now) ≡ true }
     ensures { Examines result four (gather_from operand_extents.now operand_strides.now index_extents.now index_strides.now dest_extents.now dest_strides.now offset_dims.now collapsed_slice_dims.now start_index_map.now index_vector_dim slice_sizes.now) }
@@ -336,7 +334,7 @@ pub fn examine_again(
     index_vector_dim: u64,
     slice_sizes: &[u64],
 ) -> Examined
-    ensures { Examines result Ans.Done (gather_from operand_extents.now operand_strides.now index_extents.now index_strides.now dest_extents.now dest_strides.now offset_dims.now collapsed_slice_dims.now start_index_map.now index_vector_dim slice_sizes.now) }
+    ensures { Examines result (Ok tt) (gather_from operand_extents.now operand_strides.now index_extents.now index_strides.now dest_extents.now dest_strides.now offset_dims.now collapsed_slice_dims.now start_index_map.now index_vector_dim slice_sizes.now) }
 {
     let sizes = check_sizes(
         operand_extents,
@@ -361,7 +359,7 @@ pub fn examine_again(
         start_index_map,
         index_vector_dim,
         slice_sizes,
-        Answer::Done,
+        Ok(()),
     )
 }
 
@@ -378,7 +376,7 @@ pub fn gather_refusal(
     start_index_map: &[u64],
     index_vector_dim: u64,
     slice_sizes: &[u64],
-) -> Answer
+) -> Result<(), Refusal>
     ensures { result ≡ compile_refusal (gather_from operand_extents.now operand_strides.now index_extents.now index_strides.now dest_extents.now dest_strides.now offset_dims.now collapsed_slice_dims.now start_index_map.now index_vector_dim slice_sizes.now) }
 {
     let examined = examine(

@@ -1,4 +1,5 @@
 -- What a call by lists decides. Assumes nothing.
+use Rattle.std.specs.Prelude.{Ok, Err}
 use mathlib.Core.Path.{◌≡◌, refl, sym, ap, subst, ◌∙◌}
 use mathlib.Core.Bool.{Bool, true, false, cond}
 use mathlib.Core.List.{List}
@@ -9,10 +10,8 @@ use Rattle.integer.specs.Tests.{and-true, and_both}
 use Rattle.indexing.specs.Coordinates.{View, rank, pick, tabulate, has}
 use Rattle.indexing.specs.Gather.{Gather, shown_dims, batch_dims}
 use Rattle.indexing.specs.Steps.{vector_stride, window_steps, batch_steps}
-use Rattle.layout.specs.declared.Answer.{Answer}
-use Rattle.layout.specs.declared.Answer.TheVariants as A
 use Rattle.layout.specs.declared.Reach.{Reach}
-use Rattle.layout.specs.Answers.{is_done, or_else}
+use Rattle.layout.specs.Answers.{is_done, or_else, Answer}
 use Rattle.layout.specs.Layouts.{rank_limit, padded}
 use Rattle.layout.specs.Reach.{buffer_bounds}
 use Rattle.axis_lists.specs.Held.{held_steps, Steps}
@@ -28,11 +27,12 @@ use Rattle.gather_move.specs.Prepared.{gather_numbers, start_base, Prepares}
 use Rattle.gather_move.specs.declared.GatherNumbers.{GatherNumbers}
 use Rattle.gather_move.specs.declared.PreparedGather.{PreparedGather}
 use Rattle.gather_lists.specs.Lists.{on_views, placed, lists_answer}
+use Rattle.layout.specs.declared.Refusal.TheVariants as F
 
 -- ---- the numbers by what was found
 module _ (g : Gather) (window batch : List ℤ) (q : Found g window batch) where
   pub fits : Accepted g
-  fits = accepted g A.Done q.accepted
+  fits = accepted g (Ok tt) q.accepted
 
   abbrev map : List ℕ
   map = g.spec.start-index-map
@@ -74,7 +74,7 @@ module _ (g : Gather) (a b c : ℤ) where
   pub placed-answer : (on sn dn : ℕ) → or_else (compile_refusal g) (bounds_refusal h.operand h.indices h.result on sn dn) ≡ lists_answer g h on sn dn
   placed-answer on sn dn = sym (ap (λ (t : Bool). or_else (compile_refusal g) (or_else (plan_refusal t) (bounds_refusal h.operand h.indices h.result on sn dn))) same-placed)
 
-  done-placed : is_done (refusal_of A.Done g) ≡ true → is_done (refusal_of A.Done h) ≡ true
+  done-placed : is_done (refusal_of (Ok tt) g) ≡ true → is_done (refusal_of (Ok tt) h) ≡ true
   unfolding spec_refusal window_steps batch_steps shown_dims batch_dims
   done-placed e = e
 
@@ -135,14 +135,14 @@ module _ (g : Gather) (x y z : View) (on sn dn : ℕ) where
       → Prepares r (lists_answer g (placed g x.offset y.offset z.offset) on sn dn) (placed g x.offset y.offset z.offset) on sn dn → Prepares r (lists_answer g (on_views g x y z) on sn dn) (on_views g x y z) on sn dn
   same-views r e d p = subst (λ (h : Gather). Prepares r (lists_answer g h on sn dn) h on sn dn) (views-are (sym e ∙ d)) p
 
-  pub other-views : (r : PreparedGather) {t : Bool} {first answer : Answer} → t ≡ all → t ≡ false → first ≡ compile_refusal g → answer ≡ or_else first A.PlanLayoutMismatch → r.answer ≡ answer → Prepares r (lists_answer g (on_views g x y z) on sn dn) (on_views g x y z) on sn dn
+  pub other-views : (r : PreparedGather) {t : Bool} {first answer : Answer} → t ≡ all → t ≡ false → first ≡ compile_refusal g → answer ≡ or_else first (Err F.PlanLayoutMismatch) → r.answer ≡ answer → Prepares r (lists_answer g (on_views g x y z) on sn dn) (on_views g x y z) on sn dn
   other-views r {first = first} e d f k m =
-      let l : lists_answer g (on_views g x y z) on sn dn ≡ or_else (compile_refusal g) A.PlanLayoutMismatch = ap (λ (b : Bool). or_else (compile_refusal g) (or_else (plan_refusal b) (bounds_refusal x y z on sn dn))) (sym e ∙ d) in
-      record { answered = m ∙ k ∙ ap (λ (w : Answer). or_else w A.PlanLayoutMismatch) f ∙ sym l; ready = λ t. never (sym t ∙ ap is_done l ∙ refuses (compile_refusal g)) }
+      let l : lists_answer g (on_views g x y z) on sn dn ≡ or_else (compile_refusal g) (Err F.PlanLayoutMismatch) = ap (λ (b : Bool). or_else (compile_refusal g) (or_else (plan_refusal b) (bounds_refusal x y z on sn dn))) (sym e ∙ d) in
+      record { answered = m ∙ k ∙ ap (λ (w : Answer). or_else w (Err F.PlanLayoutMismatch)) f ∙ sym l; ready = λ t. never (sym t ∙ ap is_done l ∙ refuses (compile_refusal g)) }
     where
-      refuses : (w : Answer) → is_done (or_else w A.PlanLayoutMismatch) ≡ false
+      refuses : (w : Answer) → is_done (or_else w (Err F.PlanLayoutMismatch)) ≡ false
       refuses w = go (is_done w) refl
         where
-          go : (b : Bool) → is_done w ≡ b → is_done (cond b A.PlanLayoutMismatch w) ≡ false
+          go : (b : Bool) → is_done w ≡ b → is_done (cond b (Err F.PlanLayoutMismatch) w) ≡ false
           go true e = refl
           go false e = e

@@ -2,8 +2,7 @@
 use Rattle.std.specs.Prelude.{List, ℕ, length, ℤ}
 use Rattle.indexing.specs.Coordinates.{View}
 use Rattle.indexing.specs.Gather.{Gather}
-use Rattle.layout.specs.declared.Answer.{Answer}
-use Rattle.layout.specs.Answers.{or_else}
+use Rattle.layout.specs.Answers.{or_else, Answer}
 use Rattle.calls.specs.Calls.{view_with, same_views, plan_refusal, bounds_refusal, GatherCall}
 use Rattle.gather_checks.specs.Refusals.{compile_refusal}
 use Rattle.gather_move.specs.Prepared.{Prepares}

@@ -9,7 +9,7 @@ ghost use Rattle.gather_move.specs.Prepared.{gather_numbers};
 ghost use Rattle.gather_lists.specs.Lists.{ListedOn, ListedAt};
 
 use gather_move::{GatherNumbers, PreparedGather};
-use layout::{Answer, RAW_FUSED_RANK_LIMIT};
+use layout::{Refusal, RAW_FUSED_RANK_LIMIT};
 
 // The numbers that the cells of a gather are moved with, given the steps that compile's checks found.
 fn numbers_on(
@@ -216,6 +216,6 @@ pub fn prepare_views(
         index_vector_dim,
         slice_sizes,
     );
-    let answer = checks::or_else(refusal, Answer::PlanLayoutMismatch);
+    let answer = checks::or_else(refusal, Err(Refusal::PlanLayoutMismatch));
     gather_move::refused(answer)
 }

@@ -1,4 +1,5 @@
 -- The move of an accepted gather: its cells lie inside their slices, and what it leaves is the gather. Assumes nothing.
+use Rattle.std.specs.Prelude.{Ok}
 use mathlib.Core.Path.{◌≡◌, refl, sym, ap, ap₂, subst, ◌∙◌}
 use mathlib.Core.Bool.{Bool, true, false, cond}
 use mathlib.Core.List.{List}
@@ -21,7 +22,6 @@ use Rattle.indexing.proofs.Inside.{inside-within}
 use Rattle.indexing.proofs.Bounds.{offset-below, operand-inside, gather-start-within}
 use Rattle.indexing.specs.Valid.{Covered, ValidGather}
 use Rattle.indexing.proofs.Places.{reads_at, gather-component-at, reads-partly-in, writes-in, gather-starts-in, sum_same}
-use Rattle.layout.specs.declared.Answer.TheVariants as A
 use Rattle.layout.specs.Answers.{is_done}
 use Rattle.layout.specs.Layouts.{rank_limit, padded}
 use Rattle.layout.specs.Reach.{view_reach, buffer_bounds}
@@ -42,7 +42,7 @@ use Rattle.gather_move.specs.Prepared.{gather_numbers, start_base}
 use Rattle.gather_move.specs.declared.GatherNumbers.{GatherNumbers}
 use Rattle.gather_move.proofs.Numbers.{rank-few, map-few, array-room, extents-are, dest-steps, window-steps, batch-steps, offset-at, stride-at, limit-at}
 
-module _ (g : Gather) (done : is_done (refusal_of A.Done g) ≡ true) where
+module _ (g : Gather) (done : is_done (refusal_of (Ok tt) g) ≡ true) where
   abbrev w : GatherNumbers
   w = gather_numbers g
 
@@ -71,7 +71,7 @@ module _ (g : Gather) (done : is_done (refusal_of A.Done g) ≡ true) where
   strides = padded rank_limit (pos 0) (pick (pos 0) g.spec.start-index-map g.operand.strides)
 
   pub at-valid : ValidGather g
-  at-valid = valid A.Done g done
+  at-valid = valid (Ok tt) g done
 
   abbrev r : ℕ
   r = rank g.result
@@ -196,7 +196,7 @@ module _ (g : Gather) (done : is_done (refusal_of A.Done g) ≡ true) where
         small-limit j l =
             let m : ℕ = get_or g.spec.start-index-map j 0 in
             let q : m < rank g.operand = axis-below (rank g.operand) g.spec.start-index-map at-valid.mapped j (omega arith) in
-            omega (arith, limit-at g done j l, offset-below g at-valid k cell m q, (small A.Done g done).operand m q)
+            omega (arith, limit-at g done j l, offset-below g at-valid k cell m q, (small (Ok tt) g done).operand m q)
 
         pub starting : Starting starts offsets strides limits (source k) (start_place k) n on
         starting = record { few = map-few g done; small = small-limit; reads = reads_in; partly = partly-in }
@@ -222,7 +222,7 @@ module _ (g : Gather) (done : is_done (refusal_of A.Done g) ≡ true) where
       below k = subst (λ (e : List ℕ). k < product e) (extents-are g done)
 
       few-extents : (i : ℕ) → i < r → get_or extents i 0 ≤ 2 ^ 63
-      few-extents i h = subst (λ (m : ℕ). m ≤ 2 ^ 63) (sym (entry-below r extents i 0 h ∙ ap (λ (e : List ℕ). get_or e i 0) (extents-are g done))) ((small A.Done g done).result i h)
+      few-extents i h = subst (λ (m : ℕ). m ≤ 2 ^ 63) (sym (entry-below r extents i 0 h ∙ ap (λ (e : List ℕ). get_or e i 0) (extents-are g done))) ((small (Ok tt) g done).result i h)
 
       pub gathering : Gathering starts w.components.offsets w.components.strides w.components.limits w.components.count a (start_base g) c w.extents w.window_steps w.batch_steps w.dest_steps w.rank on dn
       unfolding gather_numbers

@@ -1,4 +1,5 @@
 -- The numbers of an accepted gather, as they are read. Assumes nothing.
+use Rattle.std.specs.Prelude.{Ok}
 use mathlib.Core.Path.{◌≡◌, sym, ap, ◌∙◌}
 use mathlib.Core.Bool.{true}
 use mathlib.Core.List.{List}
@@ -11,7 +12,6 @@ use Rattle.indexing.specs.Gather.{Gather}
 use Rattle.indexing.specs.Axes.{length-pick, get_or-pick}
 use Rattle.indexing.specs.Steps.{vector_stride, window_steps, batch_steps}
 use Rattle.indexing.proofs.Updates.{length-tabulate, get_d_tabulate}
-use Rattle.layout.specs.declared.Answer.TheVariants as A
 use Rattle.layout.specs.Answers.{is_done}
 use Rattle.layout.specs.Layouts.{rank_limit, padded}
 use Rattle.axis_lists.proofs.Filling.{read_back}
@@ -21,9 +21,9 @@ use Rattle.components.proofs.Padded.{padded-entry}
 use Rattle.gather_checks.specs.Refusals.{refusal_of}
 use Rattle.gather_plan.proofs.Accepted.{Accepted, accepted, length-window, length-batch}
 
-module _ (g : Gather) (done : is_done (refusal_of A.Done g) ≡ true) where
+module _ (g : Gather) (done : is_done (refusal_of (Ok tt) g) ≡ true) where
   given : Accepted g
-  given = accepted g A.Done done
+  given = accepted g (Ok tt) done
 
   abbrev n : ℕ
   n = rank g.result

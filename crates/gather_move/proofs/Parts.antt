@@ -1,4 +1,5 @@
 -- A move into the part of the destination that holds its cells is the gather into the whole. Assumes nothing.
+use Rattle.std.specs.Prelude.{Ok}
 use mathlib.Core.Path.{◌≡◌, refl, sym, ap, ap₂, subst, ◌∙◌}
 use mathlib.Core.Bool.{true}
 use mathlib.Core.List.{List, ◌++◌}
@@ -22,10 +23,8 @@ use Rattle.indexing.specs.Valid.{Covered}
 use Rattle.indexing.specs.Parts.{rebased}
 use Rattle.indexing.proofs.Parts.{covered-part, gathered-lent}
 use Rattle.layout.specs.Laws.{no_cells}
-use Rattle.layout.specs.declared.Answer.{Answer}
-use Rattle.layout.specs.declared.Answer.TheVariants as A
 use Rattle.layout.specs.declared.Reach.TheVariants as R
-use Rattle.layout.specs.Answers.{is_done}
+use Rattle.layout.specs.Answers.{is_done, Answer}
 use Rattle.layout.specs.Reach.{buffer_bounds}
 use Rattle.layout.specs.Inside.{Inside, reach-inside, low-most, high-least}
 use Rattle.checks.proofs.Made.{or-done}
@@ -55,7 +54,7 @@ back_end z rule src starts offsets strides limits count s t d shape ss ts ds ran
 abbrev on_part : Gather → ℤ → Gather
 on_part g at = record { spec = g.spec; operand = g.operand; indices = g.indices; result = record { extents = g.result.extents; strides = g.result.strides; offset = at } }
 
-done-part : (g : Gather) (at : ℤ) → is_done (refusal_of A.Done g) ≡ true → is_done (refusal_of A.Done (on_part g at)) ≡ true
+done-part : (g : Gather) (at : ℤ) → is_done (refusal_of (Ok tt) g) ≡ true → is_done (refusal_of (Ok tt) (on_part g at)) ≡ true
 unfolding spec_refusal window_steps batch_steps shown_dims batch_dims
 done-part g at e = e
 

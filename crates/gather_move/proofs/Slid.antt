@@ -1,4 +1,5 @@
 -- The batch coordinates of an accepted gather, and how many of them slid. Assumes nothing.
+use Rattle.std.specs.Prelude.{Option, Some, None, Ok, option_and_then}
 use mathlib.Core.Path.{◌≡◌, refl, sym, ap, ap₂, subst, ◌∙◌}
 use mathlib.Core.Logic.{inl, inr}
 use mathlib.Core.Bool.{Bool, true, false, cond}
@@ -11,8 +12,6 @@ use lib.Dec.{eqb, ltb}
 use lib.ListN.{length, get_or, take, replicate}
 use lib.IntN.{ℤ, pos, ◌+ℤ◌, ◌*ℤ◌, +ℤ_assoc}
 use Rattle.integer.specs.Defs.{checked_u, fits_or_u}
-use Rattle.integer.specs.declared.CheckedU.{CheckedU}
-use Rattle.integer.specs.declared.CheckedU.TheVariants as U
 use Rattle.indexing.specs.Coordinates.{rank, product, unravel, dot, ints, element_at, place_of, pick, tabulate, has}
 use Rattle.indexing.specs.Start.{index_coordinate, start_index, without}
 use Rattle.indexing.specs.Gather.{Gather, cells, batch_dims, gather_start}
@@ -23,11 +22,10 @@ use Rattle.indexing.specs.Axes.{get_or-same, spread_none, others-not}
 use Rattle.indexing.specs.Steps.{vector_stride, batch_steps}
 use Rattle.indexing.proofs.Updates.{length-tabulate, get_d_tabulate}
 use Rattle.indexing.proofs.Places.{gather-component-at}
-use Rattle.layout.specs.declared.Answer.TheVariants as A
 use Rattle.layout.specs.Answers.{is_done}
 use Rattle.layout.specs.Layouts.{rank_limit, padded}
 use Rattle.layout.proofs.Products.{total-is}
-use Rattle.layout.specs.Spans.{and_then_u, total_from, total_of}
+use Rattle.layout.specs.Spans.{total_from, total_of}
 use Rattle.axis_lists.proofs.Filling.{entry-below}
 use Rattle.checks.specs.Checks.{total_fits}
 use Rattle.checks.proofs.Held.{length-padded}
@@ -48,18 +46,18 @@ use Rattle.gather_move.specs.declared.GatherNumbers.{GatherNumbers}
 use Rattle.gather_move.proofs.Numbers.{rank-few, extents-are, batch-steps, offset-at, limit-at}
 
 -- ---- an accepted product fits a u64
-total-small : (acc : ℕ) (ds : List ℕ) (n : ℕ) → acc < 2 ^ 64 → total_from acc ds ≡ U.Fits n → n < 2 ^ 64
+total-small : (acc : ℕ) (ds : List ℕ) (n : ℕ) → acc < 2 ^ 64 → total_from acc ds ≡ Some n → n < 2 ^ 64
 unfolding total_from
 total-small acc [] n h e = let q : acc ≡ n = cc in subst (λ (k : ℕ). k < 2 ^ 64) q h
 total-small acc (d ∷ ds) n h e = go (λ k. total-small (acc * d) ds n k) (ltb (acc * d) (2 ^ 64)) refl (unfold checked_u in e)
   where
-    go : (acc * d < 2 ^ 64 → total_from (acc * d) ds ≡ U.Fits n → n < 2 ^ 64) → (t : Bool) → ltb (acc * d) (2 ^ 64) ≡ t → and_then_u (fits_or_u (ltb (acc * d) (2 ^ 64)) (acc * d)) (λ m. total_from m ds) ≡ U.Fits n → n < 2 ^ 64
-    go ih true q f = ih (ltb-true (acc * d) (2 ^ 64) q) (sym (ap (λ (u : Bool). and_then_u (fits_or_u u (acc * d)) (λ m. total_from m ds)) q) ∙ f)
-    go ih false q f = let g : U.Overflow ≡ U.Fits n = sym (ap (λ (u : Bool). and_then_u (fits_or_u u (acc * d)) (λ m. total_from m ds)) q) ∙ f in let z : ◌≡◌ {A = ℕ} 0 1 = cc in absurd (omega arith)
+    go : (acc * d < 2 ^ 64 → total_from (acc * d) ds ≡ Some n → n < 2 ^ 64) → (t : Bool) → ltb (acc * d) (2 ^ 64) ≡ t → option_and_then (λ m. total_from m ds) (fits_or_u (ltb (acc * d) (2 ^ 64)) (acc * d)) ≡ Some n → n < 2 ^ 64
+    go ih true q f = ih (ltb-true (acc * d) (2 ^ 64) q) (sym (ap (λ (u : Bool). option_and_then (λ m. total_from m ds) (fits_or_u u (acc * d))) q) ∙ f)
+    go ih false q f = let g : None ≡ Some n = sym (ap (λ (u : Bool). option_and_then (λ m. total_from m ds) (fits_or_u u (acc * d))) q) ∙ f in let z : ◌≡◌ {A = ℕ} 0 1 = cc in absurd (omega arith)
 
-small_of : (x : CheckedU) (b : ℕ) → is_done (total_fits x) ≡ true → ((n : ℕ) → x ≡ U.Fits n → n < 2 ^ 64) → ((n : ℕ) → x ≡ U.Fits n → n ≡ b) → b < 2 ^ 64
-small_of (U.Fits n) b e f g = subst (λ (k : ℕ). k < 2 ^ 64) (g n refl) (f n refl)
-small_of U.Overflow b e f g = let y : ◌≡◌ {A = ℕ} 0 1 = cc in absurd (omega arith)
+small_of : (x : Option ℕ) (b : ℕ) → is_done (total_fits x) ≡ true → ((n : ℕ) → x ≡ Some n → n < 2 ^ 64) → ((n : ℕ) → x ≡ Some n → n ≡ b) → b < 2 ^ 64
+small_of (Some n) b e f g = subst (λ (k : ℕ). k < 2 ^ 64) (g n refl) (f n refl)
+small_of None b e f g = let y : ◌≡◌ {A = ℕ} 0 1 = cc in absurd (omega arith)
 
 -- ---- lists
 take-tabulate : {A : Type 0} (n m : ℕ) (f : ℕ → A) → n ≤ m → take n (tabulate m f) ≡ tabulate n f
@@ -77,7 +75,7 @@ product-most (suc n) (d ∷ ds) (b ∷ bs) h k e p =
     let q : product (take n bs) ≤ product (take n ds) = product-most n ds bs (omega arith) (omega arith) (λ i l. e (suc i) (omega arith)) p.1 in
     omega (arith, mul-le-mul_left {m = product (take n bs)} {n = product (take n ds)} b q, mul-le-mul_left {m = b} {n = d} (product (take n ds)) (e 0 (omega arith) p.0), mul_comm b (product (take n ds)), mul_comm d (product (take n ds)))
 
-module _ (g : Gather) (done : is_done (refusal_of A.Done g) ≡ true) where
+module _ (g : Gather) (done : is_done (refusal_of (Ok tt) g) ≡ true) where
   abbrev w : GatherNumbers
   w = gather_numbers g
 
@@ -123,7 +121,7 @@ module _ (g : Gather) (done : is_done (refusal_of A.Done g) ≡ true) where
   -- ---- all
   total-fits : product g.result.extents < 2 ^ 64
   total-fits =
-      let t = checks A.Done g done in
+      let t = checks (Ok tt) g done in
       let x = or-done (total_fits (total_of g.operand.extents)) _ t.1 in
       let y = or-done (total_fits (total_of g.indices.extents)) _ x.1 in
       let z = or-done (total_fits (total_of g.result.extents)) _ y.1 in
@@ -171,7 +169,7 @@ module _ (g : Gather) (done : is_done (refusal_of A.Done g) ≡ true) where
   component b j h =
       ap₂ ◌+ℤ◌ (place_is (omega arith) b) (offset-at g done j h)
       ∙ +ℤ_assoc g.indices.offset (dot (batch_steps g) (at b)) (vector_stride g.indices g.spec.index-vector-dim *ℤ pos j)
-      ∙ sym (gather-component-at g (valid A.Done g done) (at b) j)
+      ∙ sym (gather-component-at g (valid (Ok tt) g done) (at b) j)
 
   module _ (starts : List ℤ) where
     abbrev limits : List ℕ

@@ -1,12 +1,10 @@
 -- What a call of a gather has decided before it touches an element. Definitions only.
-use Rattle.std.specs.Prelude.{◌≡◌, true, cond, ℕ, length, get_or, replicate, ℤ, pos, ◌*ℤ◌}
+use Rattle.std.specs.Prelude.{◌≡◌, true, cond, ℕ, length, get_or, replicate, ℤ, pos, ◌*ℤ◌, Ok}
 use Rattle.indexing.specs.Coordinates.{rank, pick, tabulate, has}
 use Rattle.indexing.specs.Gather.{Gather}
 use Rattle.indexing.specs.Steps.{vector_stride, window_steps, batch_steps}
-use Rattle.layout.specs.declared.Answer.{Answer}
-use Rattle.layout.specs.declared.Answer.TheVariants as A
 use Rattle.layout.specs.declared.Reach.TheVariants as R
-use Rattle.layout.specs.Answers.{is_done}
+use Rattle.layout.specs.Answers.{is_done, Answer}
 use Rattle.layout.specs.Layouts.{rank_limit, padded}
 use Rattle.components.specs.Components.{limit_at, unless_none}
 use Rattle.calls.specs.Calls.{reach_in, bounds_refusal}
@@ -38,7 +36,7 @@ start_base g = unless_none (length g.spec.start-index-map) (pos 0) g.indices.off
 
 -- a gather that is accepted and passes the test of 9, with its numbers and where its views begin
 pub record Ready (p : PreparedGather) (g : Gather) (on sn dn : ℕ) : Type 0 where
-  pub accepted : is_done (refusal_of A.Done g) ≡ true
+  pub accepted : is_done (refusal_of (Ok tt) g) ≡ true
   pub bounds : is_done (bounds_refusal g.operand g.indices g.result on sn dn) ≡ true
   pub reach : p.reach ≡ reach_in g.result dn
   pub numbers : p.numbers ≡ gather_numbers g

@@ -13,7 +13,7 @@ ghost use Rattle.calls.specs.Calls.{Does, as_is};
 ghost use Rattle.gather_move.specs.Prepared.{Cells, Movable};
 
 use indexed_runs::Components;
-use layout::{Answer, CallAnswer, RAW_FUSED_RANK_LIMIT, Reach};
+use layout::{CallAnswer, RAW_FUSED_RANK_LIMIT, Reach, Refusal};
 use rules::Element;
 
 // The numbers that the cells of a gather are moved with: the destination's axes, with the batch coordinates of each and its steps in
@@ -33,7 +33,7 @@ pub struct GatherNumbers {
 // where the operand, the starts and the destination begin.
 #[derive(Clone, Copy)]
 pub struct PreparedGather {
-    pub answer: Answer,
+    pub answer: Result<(), Refusal>,
     pub reach: Reach,
     pub numbers: GatherNumbers,
     pub operand: i64,
@@ -64,7 +64,7 @@ pub fn batch_extents(
 }
 
 // A call that is refused.
-pub fn refused(answer: Answer) -> PreparedGather
+pub fn refused(answer: Result<(), Refusal>) -> PreparedGather
     ensures { result.answer ≡ answer }
 {
     let ones = [1u64; RAW_FUSED_RANK_LIMIT];

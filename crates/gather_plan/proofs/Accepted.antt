@@ -12,8 +12,7 @@ use Rattle.indexing.specs.Start.{without}
 use Rattle.indexing.specs.Gather.{Gather, shown_dims, batch_dims}
 use Rattle.indexing.specs.Axes.{length-spread}
 use Rattle.indexing.specs.Steps.{vector_stride, window_steps, batch_steps}
-use Rattle.layout.specs.declared.Answer.{Answer}
-use Rattle.layout.specs.Answers.{is_done}
+use Rattle.layout.specs.Answers.{is_done, Answer}
 use Rattle.layout.specs.Layouts.{rank_limit, padded, layout_of, extents_of, strides_of, stride_length, rank_at_most}
 use Rattle.layout.specs.Spans.{total_of, reset_of, reset}
 use Rattle.layout.specs.Laws.{reset-is}

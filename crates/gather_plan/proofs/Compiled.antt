@@ -2,8 +2,7 @@
 use mathlib.Core.Path.{◌≡◌, sym, ap, ◌∙◌}
 use mathlib.Core.Bool.{Bool, true, false, cond}
 use Rattle.indexing.specs.Gather.{Gather}
-use Rattle.layout.specs.declared.Answer.{Answer}
-use Rattle.layout.specs.Answers.{is_done}
+use Rattle.layout.specs.Answers.{is_done, Answer}
 use Rattle.axis_lists.proofs.Filling.{read_back}
 use Rattle.gather_checks.specs.Refusals.{gather_from}
 use Rattle.gather_plan.specs.Plan.{plan_of, refused_plan, refused_gather, compiled_by, held_gather}

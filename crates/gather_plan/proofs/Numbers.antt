@@ -1,4 +1,5 @@
 -- The numbers of a plan do what `specs/Numbers.antt` says, for every gather that compile does not refuse. Assumes nothing.
+use Rattle.std.specs.Prelude.{Ok}
 use mathlib.Core.Path.{◌≡◌, refl, sym, ap, ◌∙◌}
 use mathlib.Core.Bool.{Bool, true, false, cond, ◌||◌, true≢false}
 use mathlib.Core.List.{List, [], ◌∷◌}
@@ -21,7 +22,6 @@ use Rattle.indexing.proofs.Steps.{place-ints, dot-window, write-place}
 use Rattle.indexing.proofs.Updates.{length-tabulate, get_d_tabulate}
 use Rattle.indexing.specs.Valid.{ValidGather}
 use Rattle.indexing.proofs.Places.{gather-component-at}
-use Rattle.layout.specs.declared.Answer.TheVariants as A
 use Rattle.layout.specs.Answers.{is_done}
 use Rattle.layout.specs.Layouts.{rank_limit}
 use Rattle.axis_lists.proofs.Without.{length-starts}
@@ -68,7 +68,7 @@ place_of (b ∷ axes) a h = go (eqb b a) refl h (place_of axes a)
     go false e f ih = let t = ih f in (suc t.0, omega (arith, t.1), t.2)
 
 -- ---- a gather that compile does not refuse
-module _ (g : Gather) (done : is_done (refusal_of A.Done g) ≡ true) where
+module _ (g : Gather) (done : is_done (refusal_of (Ok tt) g) ≡ true) where
   abbrev n : ℕ
   n = rank g.result
 
@@ -76,10 +76,10 @@ module _ (g : Gather) (done : is_done (refusal_of A.Done g) ≡ true) where
   axes = (plan_of g).axes
 
   v : ValidGather g
-  v = valid A.Done g done
+  v = valid (Ok tt) g done
 
   fits : Accepted g
-  fits = accepted g A.Done done
+  fits = accepted g (Ok tt) done
 
   -- axis a of the plan
   pub axis-at : (a : ℕ) → a < n → get_or axes a no_axis ≡ axis_of g a
@@ -112,7 +112,7 @@ module _ (g : Gather) (done : is_done (refusal_of A.Done g) ≡ true) where
   batch-axis a h e =
       let x = axis-at a h in
       let r = sym (ap (λ (y : GatherReplayAxis). y.role) x) ∙ e in
-      let p = place_of (batch_dims g) a (among-batch g a h (shown-count A.Done g done) r) in
+      let p = place_of (batch_dims g) a (among-batch g a h (shown-count (Ok tt) g done) r) in
       record {
         number = p.0;
         among = p.1;

@@ -1,4 +1,5 @@
 -- What the code makes of a gather that is not refused is its plan. Assumes nothing.
+use Rattle.std.specs.Prelude.{Ok}
 use mathlib.Core.Path.{◌≡◌, sym, ap, ◌∙◌}
 use mathlib.Core.List.{List}
 use Prim.Native.Nat.{ℕ, min}
@@ -8,7 +9,6 @@ use Rattle.indexing.specs.Coordinates.{pick, others, tabulate}
 use Rattle.indexing.specs.Gather.{Gather, shown_dims}
 use Rattle.indexing.specs.Axes.{length-pick}
 use Rattle.indexing.specs.Steps.{vector_stride}
-use Rattle.layout.specs.declared.Answer.TheVariants as A
 use Rattle.layout.specs.declared.MadeLayout.{MadeLayout}
 use Rattle.layout.specs.Layouts.{rank_limit, padded, layout_from}
 use Rattle.axis_lists.specs.Held.{numbers_of, held_numbers, held_steps, Numbers, Steps}
@@ -26,7 +26,7 @@ use Rattle.gather_plan.proofs.Accepted.{Accepted, accepted, axes-are, window-rea
 
 module _ (g : Gather) (window batch : List ℤ) (q : Found g window batch) where
   pub fits : Accepted g
-  fits = accepted g A.Done q.accepted
+  fits = accepted g (Ok tt) q.accepted
 
   shown-is : (shown : Numbers) → shown ≡ held_numbers (others (min (length g.operand.extents) rank_limit) g.spec.collapsed-slice-dims) → numbers_of shown ≡ shown_dims g
   unfolding shown_dims

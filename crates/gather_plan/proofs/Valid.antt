@@ -1,4 +1,5 @@
 -- A gather that compile does not refuse is valid, its extents are small, and its component offsets fit. Assumes nothing.
+use Rattle.std.specs.Prelude.{Ok, Err}
 use mathlib.Core.Path.{◌≡◌, refl, sym, ap, subst, ◌∙◌}
 use mathlib.Core.Bool.{Bool, true, false, cond, ◌||◌, true≢false}
 use mathlib.Core.List.{List, [], ◌∷◌}
@@ -13,9 +14,7 @@ use Rattle.indexing.specs.Start.{without, components}
 use Rattle.indexing.specs.Gather.{Gather, batch_dims, shown_dims}
 use Rattle.indexing.specs.Valid.{Strided, ValidGather}
 use Rattle.indexing.specs.Steps.{vector_stride, window_steps, batch_steps}
-use Rattle.layout.specs.declared.Answer.{Answer}
-use Rattle.layout.specs.declared.Answer.TheVariants as A
-use Rattle.layout.specs.Answers.{is_done}
+use Rattle.layout.specs.Answers.{is_done, Answer}
 use Rattle.layout.specs.Layouts.{stride_length}
 use Rattle.layout.specs.Lists.{unique_axes}
 use Rattle.layout.specs.Spans.{spanned, total_of}
@@ -27,6 +26,7 @@ use Rattle.checks.proofs.Made.{or-done, same_length}
 use Rattle.checks.proofs.Small.{spans-small}
 use Rattle.checks.proofs.Fits.{same-count, vector-fits}
 use Rattle.checks.proofs.Lists.{unique-axes}
+use Rattle.layout.specs.declared.Refusal.TheVariants as F
 
 -- ---- each check
 windows-fit : (r a : ℕ) (ds ws : List ℕ) → length ws ≡ length ds → is_done (windows_from r a ds ws) ≡ true → (i : ℕ) → i < length ds → get_or ws i 0 ≤ get_or ds i 0
@@ -35,7 +35,7 @@ windows-fit r a [] ws l e i h = absurd (omega arith)
 windows-fit r a (d ∷ ds) [] l e i h = absurd (omega arith)
 windows-fit r a (d ∷ ds) (w ∷ ws) l e i h = go (leb w d) refl e i h (windows-fit r (suc a) ds ws (omega arith))
   where
-    go : (t : Bool) → leb w d ≡ t → is_done (cond t (windows_from r (suc a) ds ws) (A.InvalidAxis a r)) ≡ true → (i : ℕ) → i < suc (length ds)
+    go : (t : Bool) → leb w d ≡ t → is_done (cond t (windows_from r (suc a) ds ws) (Err (F.InvalidAxis a r))) ≡ true → (i : ℕ) → i < suc (length ds)
         → (is_done (windows_from r (suc a) ds ws) ≡ true → (j : ℕ) → j < length ds → get_or ws j 0 ≤ get_or ds j 0) → get_or (w ∷ ws) i 0 ≤ get_or (d ∷ ds) i 0
     go true f q zero k ih = leb-true w d f
     go true f q (suc i) k ih = ih q i (omega arith)
@@ -46,7 +46,7 @@ unfolding collapsed_one has
 collapsed-one r sizes [] e a h = absurd (true≢false (sym h))
 collapsed-one r sizes (b ∷ bs) e a h = go (eqb (get_or sizes b 0) 1) refl e (eqb b a) refl h (λ q. collapsed-one r sizes bs q a)
   where
-    go : (t : Bool) → eqb (get_or sizes b 0) 1 ≡ t → is_done (cond t (collapsed_one r sizes bs) (A.InvalidAxis b r)) ≡ true → (u : Bool) → eqb b a ≡ u → (u || has bs a) ≡ true
+    go : (t : Bool) → eqb (get_or sizes b 0) 1 ≡ t → is_done (cond t (collapsed_one r sizes bs) (Err (F.InvalidAxis b r))) ≡ true → (u : Bool) → eqb b a ≡ u → (u || has bs a) ≡ true
         → (is_done (collapsed_one r sizes bs) ≡ true → has bs a ≡ true → get_or sizes a 0 ≡ 1) → get_or sizes a 0 ≡ 1
     go true f q true g k ih = ap (λ (n : ℕ). get_or sizes n 0) (sym (eqb-true b a g)) ∙ eqb-true (get_or sizes b 0) 1 f
     go true f q false g k ih = ih q k
@@ -64,7 +64,7 @@ shape_is : (oe ie de offsets collapsed : List ℕ) (vector : ℕ) (sizes : List 
 unfolding shape_fits
 shape_is oe ie de offsets collapsed vector sizes e = go (shape_fits oe ie de offsets collapsed vector sizes) refl e
   where
-    go : (t : Bool) → shape_fits oe ie de offsets collapsed vector sizes ≡ t → is_done (cond t A.Done (A.ShapeMismatch (length de) (length (without vector ie) + length offsets))) ≡ true
+    go : (t : Bool) → shape_fits oe ie de offsets collapsed vector sizes ≡ t → is_done (cond t (Ok tt) (Err (F.ShapeMismatch (length de) (length (without vector ie) + length offsets)))) ≡ true
         → (length de ≡ length (without vector ie) + length offsets) × (pick 0 offsets de ≡ pick 0 (others (length oe) collapsed) sizes) × (pick 0 (others (length de) offsets) de ≡ without vector ie)
     go true f h =
         let t = and-true (eqb (length de) (length (without vector ie) + length offsets)) _ f in

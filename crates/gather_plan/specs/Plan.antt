@@ -1,11 +1,9 @@
 -- To be believed. The plan of a gather by value, and what compile gives: document 01, "The window read". Definitions only.
-use Rattle.std.specs.Prelude.{cond, List, [], ◌∷◌, ℕ, eqb, length, get_or, replicate, ℤ, pos, ◌*ℤ◌}
+use Rattle.std.specs.Prelude.{cond, List, [], ◌∷◌, ℕ, eqb, length, get_or, replicate, ℤ, pos, ◌*ℤ◌, Ok}
 use Rattle.indexing.specs.Coordinates.{rank, product, pick, tabulate}
 use Rattle.indexing.specs.Gather.{Gather, shown_dims}
 use Rattle.indexing.specs.Steps.{vector_stride, window_steps, batch_steps}
-use Rattle.layout.specs.declared.Answer.{Answer}
-use Rattle.layout.specs.declared.Answer.TheVariants as A
-use Rattle.layout.specs.Answers.{is_done}
+use Rattle.layout.specs.Answers.{is_done, Answer}
 use Rattle.layout.specs.Spans.{reset}
 use Rattle.layout.specs.Layouts.{rank_limit, padded, layout_of, extents_of, strides_of}
 use Rattle.axis_lists.specs.Held.{numbers_of, held_numbers, held_steps}
@@ -93,7 +91,7 @@ compiled_gather g = compiled_by (compile_refusal g) g
 
 -- "4 not tried again"
 abbrev pub compiled_again : Gather → CompiledGather
-compiled_again g = compiled_by (refusal_of A.Done g) g
+compiled_again g = compiled_by (refusal_of (Ok tt) g) g
 
 -- the gather that the layouts and the spec in a plan describe
 abbrev pub held_gather : GatherPlan → Gather

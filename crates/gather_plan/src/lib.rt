@@ -13,8 +13,7 @@ ghost use Rattle.gather_plan.specs.Made.{axes_from};
 
 use axis_lists::{Numbers, Steps};
 use gather_checks::Examined;
-use integer::{Checked, CheckedU};
-use layout::{Answer, Layout, RAW_FUSED_RANK_LIMIT};
+use layout::{Refusal, Layout, RAW_FUSED_RANK_LIMIT};
 
 // A destination axis is a batch axis, or a window axis that shows one operand axis.
 #[derive(Clone, Copy, PartialEq, Eq)]
@@ -54,7 +53,7 @@ pub struct GatherPlan {
 // A plan; where the gather is refused, the one of no axes.
 #[derive(Clone, Copy)]
 pub struct CompiledGather {
-    pub answer: Answer,
+    pub answer: Result<(), Refusal>,
     pub plan: GatherPlan,
 }
 
@@ -72,7 +71,7 @@ fn no_axis() -> GatherReplayAxis
     }
 }
 
-fn refused(answer: Answer) -> CompiledGather
+fn refused(answer: Result<(), Refusal>) -> CompiledGather
     ensures { result ≡ refused_gather answer }
 {
     let extents = [1u64; RAW_FUSED_RANK_LIMIT];
@@ -118,8 +117,8 @@ fn reset_value(extent: u64, step: i64) -> i64
 {
     let reset = layout::checked_replay_reset(extent, step);
     match reset {
-        Checked::Fits(z) => z,
-        Checked::Overflow => 0,
+        Some(z) => z,
+        None => 0,
     }
 }
 
@@ -129,8 +128,8 @@ fn total_value(extents: &[u64]) -> u64
 {
     let total = spans::checked_total_len(extents);
     match total {
-        CheckedU::Fits(n) => n,
-        CheckedU::Overflow => 0,
+        Some(n) => n,
+        None => 0,
     }
 }
 

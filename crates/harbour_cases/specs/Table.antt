@@ -1,10 +1,6 @@
 -- Document 01's harbour cases marked as proved, as one table with one theorem about the definitions. Assumes nothing.
-use Rattle.std.specs.Prelude.{◌≡◌, refl, Bool, true, false, List, [], ◌∷◌, ℕ, replicate, ℤ, pos, negsuc, ◌+ℤ◌}
+use Rattle.std.specs.Prelude.{◌≡◌, refl, Bool, true, false, List, [], ◌∷◌, ℕ, replicate, ℤ, pos, negsuc, ◌+ℤ◌, Option, Some, None}
 use Rattle.integer.specs.Defs.{checked, checked_u, wrap32}
-use Rattle.integer.specs.declared.Checked.{Checked}
-use Rattle.integer.specs.declared.Checked.TheVariants as C
-use Rattle.integer.specs.declared.CheckedU.{CheckedU}
-use Rattle.integer.specs.declared.CheckedU.TheVariants as U
 use Rattle.indexing.specs.Coordinates.{product, unravel, plus, dot_ℤ, place_of, tabulate, pick, spread, has, others_from}
 use Rattle.indexing.specs.Start.{index_coordinate, start_index, clamp, start_on, full_start}
 use Rattle.indexing.specs.Gather.{Gather, cells, batch_dims, shown_dims, gather_start, full_offset, operand_index, read_at, write_at, reads as reads_of, copy_each, gathered}
@@ -15,9 +11,9 @@ use Rattle.layout.specs.Nested.{has_zero, long_axes, insert, ordered, exceeds, n
 
 -- a case: what is asked, and the answer (an overflow is refusal 3)
 pub data Case : Type 0 where
-  total : List ℕ → CheckedU → Case
+  total : List ℕ → Option ℕ → Case
   clamped : ℤ → ℕ → ℕ → ℤ → Case
-  reset : ℕ → ℤ → Checked → Case
+  reset : ℕ → ℤ → Option ℤ → Case
   nests : List ℕ → List ℤ → Bool → Case
   -- a gather or a scatter with starts, then the operand or the updates, then what the destination held, and what it holds
   reads : Gather → List ℤ → List ℤ → List ℤ → List ℤ → Case
@@ -35,14 +31,14 @@ Holds (wraps a b answer) = wrap32 (a +ℤ b) ≡ answer
 
 pub table : List Case
 table =
-    total [] (U.Fits 1)
-    ∷ total (18446744073709551615 ∷ 2 ∷ 0 ∷ []) U.Overflow
-    ∷ total (0 ∷ 18446744073709551615 ∷ 2 ∷ []) (U.Fits 0)
+    total [] (Some 1)
+    ∷ total (18446744073709551615 ∷ 2 ∷ 0 ∷ []) None
+    ∷ total (0 ∷ 18446744073709551615 ∷ 2 ∷ []) (Some 0)
     ∷ clamped (negsuc 4) 10 3 (pos 0)
     ∷ clamped (pos 7) 10 3 (pos 7)
     ∷ clamped (pos 8) 10 3 (pos 7)
-    ∷ reset 2 (negsuc 9223372036854775807) C.Overflow
-    ∷ reset 1 (negsuc 9223372036854775807) (C.Fits (pos 0))
+    ∷ reset 2 (negsuc 9223372036854775807) None
+    ∷ reset 1 (negsuc 9223372036854775807) (Some (pos 0))
     ∷ nests (2 ∷ 2 ∷ []) (pos 2 ∷ pos 3 ∷ []) true
     ∷ nests (3 ∷ 2 ∷ []) (pos 2 ∷ pos 3 ∷ []) false
     ∷ nests (1 ∷ 4 ∷ []) (pos 0 ∷ pos 1 ∷ []) true

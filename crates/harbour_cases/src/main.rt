@@ -1,19 +1,18 @@
 // Runs document 01's harbour cases through the code, and prints each with its answer.
 #![tactic(auto)]
 
-use integer::{Checked, CheckedU};
 use std::io;
 
 fn put_refused(rt: &impl Print) -> io::Result<()> {
-    let number = layout::number(layout::Answer::OffsetOverflow);
+    let number = layout::number(Err(layout::Refusal::OffsetOverflow));
     println!(rt; "refused by {number}")
 }
 
 fn product(rt: &impl Print, extents: &[u64]) -> io::Result<()> {
     print!(rt; "product of {extents:?}: ")?;
     match spans::checked_total_len(extents) {
-        CheckedU::Fits(n) => println!(rt; "{n}"),
-        CheckedU::Overflow => put_refused(rt),
+        Some(n) => println!(rt; "{n}"),
+        None => put_refused(rt),
     }
 }
 
@@ -27,8 +26,8 @@ fn clamp(rt: &impl Print, start: i64, extent: u64, window: u64) -> io::Result<()
 fn reset(rt: &impl Print, extent: u64, stride: i64) -> io::Result<()> {
     print!(rt; "reset of extent {extent}, stride {stride}: ")?;
     match layout::checked_replay_reset(extent, stride) {
-        Checked::Fits(r) => println!(rt; "{r}"),
-        Checked::Overflow => put_refused(rt),
+        Some(r) => println!(rt; "{r}"),
+        None => put_refused(rt),
     }
 }
 

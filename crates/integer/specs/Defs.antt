@@ -1,25 +1,21 @@
 -- To be believed. What the contracts of `src/` cite. Definitions only.
-use Rattle.std.specs.Prelude.{Bool, true, false, cond, ℕ, ◌-◌, ◌%◌, ◌^◌, eqb, ltb, ℤ, pos, negsuc, neg_ℤ}
+use Rattle.std.specs.Prelude.{Bool, true, false, cond, ℕ, ◌-◌, ◌%◌, ◌^◌, eqb, ltb, ℤ, pos, negsuc, neg_ℤ, Option, Some, None}
 use Rattle.std.specs.Int.Signed.{mag, le_z}
-use Rattle.integer.specs.declared.Checked.{Checked}
-use Rattle.integer.specs.declared.Checked.TheVariants as C
-use Rattle.integer.specs.declared.CheckedU.{CheckedU}
-use Rattle.integer.specs.declared.CheckedU.TheVariants as U
 
 -- z, where an i64 holds it: −2^63 .. 2^63 − 1. (`mag` is n for n and for −n − 1.)
-abbrev pub fits_or : Bool → ℤ → Checked
-fits_or true z = C.Fits z
-fits_or false z = C.Overflow
+abbrev pub fits_or : Bool → ℤ → Option ℤ
+fits_or true z = Some z
+fits_or false z = None
 
-unfoldable pub checked : ℤ → Checked
+unfoldable pub checked : ℤ → Option ℤ
 checked z = fits_or (ltb (mag z) (2 ^ 63)) z
 
 -- n, where a u64 holds it: below 2^64
-abbrev pub fits_or_u : Bool → ℕ → CheckedU
-fits_or_u true n = U.Fits n
-fits_or_u false n = U.Overflow
+abbrev pub fits_or_u : Bool → ℕ → Option ℕ
+fits_or_u true n = Some n
+fits_or_u false n = None
 
-unfoldable pub checked_u : ℕ → CheckedU
+unfoldable pub checked_u : ℕ → Option ℕ
 checked_u n = fits_or_u (ltb n (2 ^ 64)) n
 
 -- m, or −m

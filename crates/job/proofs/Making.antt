@@ -1,4 +1,5 @@
 -- A job from its parts, and that it is one that can be stored. Assumes nothing.
+use Rattle.std.specs.Prelude.{Ok, Err}
 use mathlib.Core.Path.{◌≡◌, refl, sym, ap, ◌∙◌}
 use mathlib.Core.Bool.{Bool, true, false}
 use mathlib.Core.List.{List, []}
@@ -7,9 +8,7 @@ use lib.ListN.{length}
 use lib.IntN.{ℤ}
 use mir.Syntax.{w64}
 use mir.Val.{SFits}
-use Rattle.layout.specs.declared.Answer.{Answer}
-use Rattle.layout.specs.declared.Answer.TheVariants as A
-use Rattle.layout.specs.Answers.{is_done, or_else}
+use Rattle.layout.specs.Answers.{is_done, or_else, Answer}
 use Rattle.layout.specs.Layouts.{stride_length}
 use Rattle.checks.proofs.Made.{or-done, same_length, at_most}
 use Rattle.job_bytes.specs.Version.{stored_rank_limit, list_limit}
@@ -20,6 +19,7 @@ use Rattle.job.specs.declared.Element.{Element}
 use Rattle.job.specs.declared.Job.{Job}
 use Rattle.job.specs.Jobs.{held_list, view_of, views_of, spec_of, rank_stored, list_at_most, views_refusal, lists_refusal, made_job, job_from}
 use Rattle.job.specs.Made.{MadeView, MadeList, MadeSizes, Made}
+use Rattle.layout.specs.declared.Refusal.TheVariants as F
 
 -- ---- what a job that is not refused tells of its counts
 pub record Counted (e1 s1 e2 s2 e3 s3 window unit map sizes : ℕ) : Type 0 where
@@ -28,10 +28,10 @@ pub record Counted (e1 s1 e2 s2 e3 s3 window unit map sizes : ℕ) : Type 0 wher
   pub lists : (window ≤ list_limit) × (unit ≤ list_limit) × (map ≤ list_limit) × (sizes ≤ list_limit)
 
 rank-done : (n : ℕ) → is_done (rank_stored n) ≡ true → n ≤ stored_rank_limit
-rank-done n e = at_most n stored_rank_limit (A.RankTooLarge n stored_rank_limit) refl e
+rank-done n e = at_most n stored_rank_limit (Err (F.RankTooLarge n stored_rank_limit)) refl e
 
 list_done : (n : ℕ) → is_done (list_at_most n) ≡ true → n ≤ list_limit
-list_done n e = at_most n list_limit (A.RankMismatch n list_limit) refl e
+list_done n e = at_most n list_limit (Err (F.RankMismatch n list_limit)) refl e
 
 pub counted : (e1 s1 e2 s2 e3 s3 window unit map sizes : ℕ) → is_done (or_else (views_refusal e1 s1 e2 s2 e3 s3) (lists_refusal window unit map sizes)) ≡ true → Counted e1 s1 e2 s2 e3 s3 window unit map sizes
 unfolding views_refusal lists_refusal
@@ -85,7 +85,7 @@ module _ (element : Element) (e1 : List ℕ) (s1 : List ℤ) (o1 : ℤ) (e2 : Li
         };
       }
 
-  done-made : (x : Answer) (j : Job) → (made_job x j).answer ≡ A.Done → (is_done x ≡ true → Made j) → Made (made_job x j).job
+  done-made : (x : Answer) (j : Job) → (made_job x j).answer ≡ Ok tt → (is_done x ≡ true → Made j) → Made (made_job x j).job
   done-made x j e f = go (is_done x) refl e
     where
       answer-is : (t : Bool) → is_done x ≡ t → (made_job x j).answer ≡ x
@@ -95,17 +95,17 @@ module _ (element : Element) (e1 : List ℕ) (s1 : List ℤ) (o1 : ℤ) (e2 : Li
       done : is_done x ≡ true
       done = ap is_done (sym (answer-is (is_done x) refl) ∙ e)
 
-      go : (t : Bool) → is_done x ≡ t → (made_job x j).answer ≡ A.Done → Made (made_job x j).job
+      go : (t : Bool) → is_done x ≡ t → (made_job x j).answer ≡ Ok tt → Made (made_job x j).job
       go t h e = rw done (f done)
 
   -- a gather and a scatter that are done can be stored
-  pub gather-made : (sizes : List ℕ) → AllBelow (2 ^ 64) sizes → (job_from K.Gather element e1 s1 o1 e2 s2 o2 e3 s3 o3 window unit map vector sizes).answer ≡ A.Done → Made (job_from K.Gather element e1 s1 o1 e2 s2 o2 e3 s3 o3 window unit map vector sizes).job
+  pub gather-made : (sizes : List ℕ) → AllBelow (2 ^ 64) sizes → (job_from K.Gather element e1 s1 o1 e2 s2 o2 e3 s3 o3 window unit map vector sizes).answer ≡ Ok tt → Made (job_from K.Gather element e1 s1 o1 e2 s2 o2 e3 s3 o3 window unit map vector sizes).job
   unfolding job_from
   gather-made sizes a e =
       done-made (or_else (views_refusal (length e1) (length s1) (length e2) (length s2) (length e3) (length s3)) (lists_refusal (length window) (length unit) (length map) (length sizes))) (record { kind = K.Gather; element = element; views = views_of (view_of e1 s1 o1) (view_of e2 s2 o2) (view_of e3 s3 o3); spec = spec_of window unit map vector sizes }) e
       (λ d. parts-made K.Gather sizes d (λ h. list-made sizes h a))
 
-  pub scatter-made : (job_from K.Scatter element e1 s1 o1 e2 s2 o2 e3 s3 o3 window unit map vector []).answer ≡ A.Done → Made (job_from K.Scatter element e1 s1 o1 e2 s2 o2 e3 s3 o3 window unit map vector []).job
+  pub scatter-made : (job_from K.Scatter element e1 s1 o1 e2 s2 o2 e3 s3 o3 window unit map vector []).answer ≡ Ok tt → Made (job_from K.Scatter element e1 s1 o1 e2 s2 o2 e3 s3 o3 window unit map vector []).job
   unfolding job_from
   scatter-made e =
       done-made (or_else (views_refusal (length e1) (length s1) (length e2) (length s2) (length e3) (length s3)) (lists_refusal (length window) (length unit) (length map) 0)) (record { kind = K.Scatter; element = element; views = views_of (view_of e1 s1 o1) (view_of e2 s2 o2) (view_of e3 s3 o3); spec = spec_of window unit map vector [] }) e

@@ -1,9 +1,7 @@
 -- To be believed. A job by value, from extents, strides, offsets and lists: the refusals 1, 2 and 5. Definitions only.
-use Rattle.std.specs.Prelude.{cond, List, [], ℕ, leb, length, take, ℤ, pos}
-use Rattle.layout.specs.declared.Answer.{Answer}
-use Rattle.layout.specs.declared.Answer.TheVariants as A
+use Rattle.std.specs.Prelude.{cond, List, [], ℕ, leb, length, take, ℤ, pos, Ok, Err}
 use Rattle.layout.specs.declared.View.{View}
-use Rattle.layout.specs.Answers.{is_done, or_else}
+use Rattle.layout.specs.Answers.{is_done, or_else, Answer}
 use Rattle.layout.specs.Layouts.{padded, layout_of, stride_length}
 use Rattle.job_bytes.specs.Version.{stored_rank_limit, list_limit}
 use Rattle.job.specs.declared.Kind.{Kind}
@@ -15,6 +13,7 @@ use Rattle.job.specs.declared.Views.{Views}
 use Rattle.job.specs.declared.Spec.{Spec}
 use Rattle.job.specs.declared.Job.{Job}
 use Rattle.job.specs.declared.MadeJob.{MadeJob}
+use Rattle.layout.specs.declared.Refusal.TheVariants as F
 
 -- a list as it is held, with zeros past its end, and what is read of it again
 abbrev pub held_list : List ℕ → List16
@@ -44,11 +43,11 @@ no_job = record { kind = K.Gather; element = E.I32; views = no_views; spec = spe
 
 -- 2: a rank above what is stored
 abbrev pub rank_stored : ℕ → Answer
-rank_stored n = cond (leb n stored_rank_limit) A.Done (A.RankTooLarge n stored_rank_limit)
+rank_stored n = cond (leb n stored_rank_limit) (Ok tt) (Err (F.RankTooLarge n stored_rank_limit))
 
 -- 5: "list length against 16"
 abbrev pub list_at_most : ℕ → Answer
-list_at_most n = cond (leb n list_limit) A.Done (A.RankMismatch n list_limit)
+list_at_most n = cond (leb n list_limit) (Ok tt) (Err (F.RankMismatch n list_limit))
 
 -- "The writer refuses by 1, 2, 5": each for the views in order, or for the lists as they are declared
 unfoldable pub views_refusal : ℕ → ℕ → ℕ → ℕ → ℕ → ℕ → Answer

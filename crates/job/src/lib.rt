@@ -9,7 +9,7 @@ ghost use Rattle.job.specs.Format.{kind_byte, element_byte, listed_kind, listed_
 ghost use Rattle.job.specs.Jobs.{held_list, view_of, entries_of, no_job, rank_stored, list_at_most, views_refusal, lists_refusal, stored_sizes, job_refusal, made_job, job_from};
 
 use job_bytes::{LIST_LIMIT, STORED_RANK_LIMIT};
-use layout::{Answer, Layout, RAW_FUSED_RANK_LIMIT, View};
+use layout::{Refusal, Layout, RAW_FUSED_RANK_LIMIT, View};
 
 #[derive(Clone, Copy, Debug, PartialEq, Eq)]
 pub enum Kind {
@@ -123,7 +123,7 @@ pub struct Job {
 // A job; where it is refused, that of no axes and no entries.
 #[derive(Clone, Copy)]
 pub struct MadeJob {
-    pub answer: Answer,
+    pub answer: Result<(), Refusal>,
     pub job: Job,
 }
 
@@ -188,13 +188,13 @@ pub fn list_from(list: &[u64]) -> List16
 }
 
 // 2 for a rank above what is stored.
-fn check_rank(n: usize) -> Answer
+fn check_rank(n: usize) -> Result<(), Refusal>
     ensures { result ≡ rank_stored n }
 {
     if n <= STORED_RANK_LIMIT {
-        Answer::Done
+        Ok(())
     } else {
-        Answer::RankTooLarge(n as u64, STORED_RANK_LIMIT as u64)
+        Err(Refusal::RankTooLarge(n as u64, STORED_RANK_LIMIT as u64))
     }
 }
 
@@ -205,7 +205,7 @@ fn check_views(
     first_strides: usize,
     second_strides: usize,
     third_strides: usize,
-) -> Answer
+) -> Result<(), Refusal>
     ensures { result ≡ views_refusal views.first.layout.rank first_strides views.second.layout.rank second_strides views.third.layout.rank third_strides }
 {
     let first = views.first.layout.rank;
@@ -222,13 +222,13 @@ fn check_views(
 }
 
 // 5 for a list that is too long.
-fn check_list(n: usize) -> Answer
+fn check_list(n: usize) -> Result<(), Refusal>
     ensures { result ≡ list_at_most n }
 {
     if n <= LIST_LIMIT {
-        Answer::Done
+        Ok(())
     } else {
-        Answer::RankMismatch(n as u64, LIST_LIMIT as u64)
+        Err(Refusal::RankMismatch(n as u64, LIST_LIMIT as u64))
     }
 }
 
@@ -244,7 +244,7 @@ fn stored_sizes(kind: Kind, sizes: List16) -> List16
 
 // 5 for the lists as they are declared.
 #[tactic(auto, unfolding(crate::specs::Jobs::lists_refusal))]
-fn check_lists(kind: Kind, spec: Spec) -> Answer
+fn check_lists(kind: Kind, spec: Spec) -> Result<(), Refusal>
     ensures { result ≡ lists_refusal spec.window_dims.count spec.unit_dims.count spec.start_map.count (stored_sizes kind spec.slice_sizes).count }
 {
     let a = check_list(spec.window_dims.count);
@@ -255,7 +255,7 @@ fn check_lists(kind: Kind, spec: Spec) -> Answer
 }
 
 // 2 and 5 of a job by value, whoever made it.
-pub fn job_refusal(job: Job) -> Answer
+pub fn job_refusal(job: Job) -> Result<(), Refusal>
     ensures { result ≡ job_refusal job }
 {
     let views = job.views;
@@ -268,7 +268,7 @@ pub fn job_refusal(job: Job) -> Answer
 }
 
 // The job, if the answer is that it is done.
-fn made_job(answer: Answer, job: Job) -> MadeJob
+fn made_job(answer: Result<(), Refusal>, job: Job) -> MadeJob
     ensures { result ≡ made_job answer job }
 {
     if layout::is_done(answer) {

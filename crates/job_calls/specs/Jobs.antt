@@ -1,11 +1,9 @@
 -- To be believed. "A read job is handed back to be compiled and called": a call by a stored job. Definitions only.
-use Rattle.std.specs.Prelude.{List, ℕ, length, ℤ}
+use Rattle.std.specs.Prelude.{List, ℕ, length, ℤ, Ok, Err}
 use Rattle.indexing.specs.Gather.{Gather}
 use Rattle.indexing.specs.Scatter.{Scatter}
-use Rattle.layout.specs.declared.Answer.{Answer}
-use Rattle.layout.specs.declared.Answer.TheVariants as A
 use Rattle.layout.specs.declared.Layout.{Layout}
-use Rattle.layout.specs.Answers.{or_else}
+use Rattle.layout.specs.Answers.{or_else, Answer}
 use Rattle.layout.specs.Layouts.{extents_of, strides_of}
 use Rattle.calls.specs.Calls.{GatherCall, ScatterCall}
 use Rattle.job.specs.declared.Kind.{Kind}
@@ -22,6 +20,7 @@ use Rattle.gather_checks.specs.Refusals.{gather_from}
 use Rattle.gather_lists.specs.Lists as gathers
 use Rattle.scatter_checks.specs.Refusals.{scatter_from}
 use Rattle.scatter_lists.specs.Lists as scatters
+use Rattle.layout.specs.declared.Refusal.TheVariants as F
 
 -- the gather, or the scatter, that the layouts and the spec of a job describe
 abbrev pub gather_with : Layout → Layout → Layout → Spec → Gather
@@ -49,16 +48,16 @@ job_scatter j = scatters.placed (held_scatter j) j.views.first.offset j.views.se
 
 -- a job of another kind or element than the one that is asked for: 10, with the place of the kind byte or of the element byte
 abbrev pub kind_answer : Kind → Kind → Answer
-kind_answer K.Gather K.Gather = A.Done
-kind_answer K.Gather K.Scatter = A.JobBytes 5
-kind_answer K.Scatter K.Gather = A.JobBytes 5
-kind_answer K.Scatter K.Scatter = A.Done
+kind_answer K.Gather K.Gather = Ok tt
+kind_answer K.Gather K.Scatter = Err (F.JobBytes 5)
+kind_answer K.Scatter K.Gather = Err (F.JobBytes 5)
+kind_answer K.Scatter K.Scatter = Ok tt
 
 abbrev pub element_answer : Element → Element → Answer
-element_answer E.I32 E.I32 = A.Done
-element_answer E.I32 E.F64 = A.JobBytes 6
-element_answer E.F64 E.I32 = A.JobBytes 6
-element_answer E.F64 E.F64 = A.Done
+element_answer E.I32 E.I32 = Ok tt
+element_answer E.I32 E.F64 = Err (F.JobBytes 6)
+element_answer E.F64 E.I32 = Err (F.JobBytes 6)
+element_answer E.F64 E.F64 = Ok tt
 
 -- the reader's refusal, then that of another kind or element
 abbrev pub read_refusal : Kind → Element → ReadJob → Answer

@@ -12,28 +12,28 @@ ghost use Rattle.scatter_lists.specs.Lists as listed-scatters;
 
 use gather_move::PreparedGather;
 use job::{Element, Job, Kind};
-use layout::Answer;
+use layout::Refusal;
 use scatter_move::PreparedScatter;
 
 // 10 at the kind byte, if a job is not of this kind.
-fn kind_answer(kind: Kind, wanted: Kind) -> Answer
+fn kind_answer(kind: Kind, wanted: Kind) -> Result<(), Refusal>
     ensures { result ≡ kind_answer kind wanted }
 {
     if kind == wanted {
-        Answer::Done
+        Ok(())
     } else {
-        Answer::JobBytes(5)
+        Err(Refusal::JobBytes(5))
     }
 }
 
 // 10 at the element byte, if a job is not of this element.
-fn element_answer(element: Element, wanted: Element) -> Answer
+fn element_answer(element: Element, wanted: Element) -> Result<(), Refusal>
     ensures { result ≡ element_answer element wanted }
 {
     if element == wanted {
-        Answer::Done
+        Ok(())
     } else {
-        Answer::JobBytes(6)
+        Err(Refusal::JobBytes(6))
     }
 }
 

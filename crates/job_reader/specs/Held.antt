@@ -1,6 +1,6 @@
 -- To be believed. The head of a job, and the job, as they are handed back by value. Definitions only.
-use Rattle.std.specs.Prelude.{Result}
-use Rattle.layout.specs.declared.Answer.TheVariants as A
+use Rattle.std.specs.Prelude.{Result, Ok, Err}
+use Rattle.layout.specs.declared.Refusal.TheVariants as F
 use Rattle.job_bytes.specs.Fields.{Field, read, fault, held_as}
 use Rattle.job_bytes.specs.declared.Read.{Read}
 use Rattle.job_bytes.specs.declared.Fault.{Fault}
@@ -19,5 +19,5 @@ held_head f = held_as head_of f
 
 -- what is handed back: the job; or 10, "a = place in a stored job", with the job of nothing in its place
 abbrev pub read_job : Field Job → ReadJob
-read_job (read j k) = record { answer = A.Done; job = j }
-read_job (fault k) = record { answer = A.JobBytes k; job = no_job }
+read_job (read j k) = record { answer = Ok tt; job = j }
+read_job (fault k) = record { answer = Err (F.JobBytes k); job = no_job }

@@ -8,11 +8,11 @@ ghost use Rattle.job_reader.specs.Held.{held_head, read_job};
 
 use job::{Element, Job, Kind, Spec, Views};
 use job_bytes::{Fault, Read, VERSION};
-use layout::Answer;
+use layout::Refusal;
 
 #[derive(Clone, Copy)]
 pub struct ReadJob {
-    pub answer: Answer,
+    pub answer: Result<(), Refusal>,
     pub job: Job,
 }
 
@@ -118,11 +118,11 @@ pub fn read_job(bytes: &[u8]) -> ReadJob
 {
     match job_of(bytes) {
         Ok(read) => ReadJob {
-            answer: Answer::Done,
+            answer: Ok(()),
             job: read.value,
         },
         Err(fault) => ReadJob {
-            answer: Answer::JobBytes(fault.at as u64),
+            answer: Err(Refusal::JobBytes(fault.at as u64)),
             job: job::no_job(),
         },
     }

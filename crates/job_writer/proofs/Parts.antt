@@ -1,4 +1,5 @@
 -- Parts of a job as bytes: how many they are, and one stored behind another. Assumes nothing.
+use Rattle.std.specs.Prelude.{Ok, Err}
 use mathlib.Core.Path.{◌≡◌, refl, sym, ap, ap₂, subst, ◌∙◌}
 use mathlib.Core.Bool.{Bool, true, false, cond}
 use mathlib.Core.List.{List, [], ◌++◌, map}
@@ -11,9 +12,7 @@ use lib.ListN.{length, take, drop, length-append, length-take, length-map}
 use lib.Seq.{sets, length-sets, sets-eq}
 use lib.IntN.{ℤ}
 use Rattle.checks.proofs.Held.{take-map}
-use Rattle.layout.specs.declared.Answer.{Answer}
-use Rattle.layout.specs.declared.Answer.TheVariants as A
-use Rattle.layout.specs.Answers.{is_done}
+use Rattle.layout.specs.Answers.{is_done, Answer}
 use Rattle.layout.specs.declared.View.{View}
 use Rattle.layout.specs.Layouts.{rank_limit}
 use Rattle.job_bytes.specs.Fields.{bytes_of, words_of, word_of}
@@ -27,6 +26,7 @@ use Rattle.job.specs.Jobs.{entries_of, job_refusal}
 use Rattle.job.specs.Format.{stored_extents, stored_strides, view_bytes, list_bytes, sizes_bytes, spec_bytes, views_bytes, body_bytes, encoded, view_most, list_most, views_most, spec_most, kind_byte, element_byte}
 use Rattle.job_bytes.specs.Version.{version, stored_rank_limit, stored-held}
 use Rattle.job_writer.specs.Written.{Put, PutJob, Written, Sized, room_refusal}
+use Rattle.layout.specs.declared.Refusal.TheVariants as F
 
 -- ---- how many bytes
 pub length-view : (v : View) → length v.layout.extents ≡ rank_limit → length v.layout.strides ≡ rank_limit → length (view_bytes v) ≡ 9 + 16 * min v.layout.rank stored_rank_limit
@@ -152,7 +152,7 @@ unfolding encoded
 length-encoded j = omega (arith, length-append (bytes_of 4 (length (body_bytes j))) (body_bytes j), length-bytes 4 (length (body_bytes j)))
 
 module _ (j : Job) (size : ℕ) (is : size ≡ length (body_bytes j)) (before : List ℕ) where
-  pub no_room : length before < 4 + size → PutJob j before (A.BufferBounds 0 (4 + size)) before
+  pub no_room : length before < 4 + size → PutJob j before (Err (F.BufferBounds 0 (4 + size))) before
   no_room h =
       let n : 4 + size ≡ length (encoded j) = omega (arith, length-encoded j) in
       let t : leb (length (encoded j)) (length before) ≡ false = lt-leb (length (encoded j)) (length before) (omega arith) in
@@ -160,7 +160,7 @@ module _ (j : Job) (size : ℕ) (is : size ≡ length (body_bytes j)) (before : 
 
   pub put-job-is : (a b c d e after : List ℕ) (kind element k m : ℕ) → kind ≡ kind_byte j.kind → element ≡ element_byte j.element → 4 + size ≤ length before
       → a ≡ sets before 0 (bytes_of 4 size) → b ≡ sets a 4 (bytes_of 1 version) → c ≡ sets b 5 (bytes_of 1 kind) → d ≡ sets c 6 (bytes_of 1 element)
-      → Put d e 7 (views_bytes j.views) k → Put e after k (spec_bytes j.kind j.spec) m → PutJob j before A.Done after
+      → Put d e 7 (views_bytes j.views) k → Put e after k (spec_bytes j.kind j.spec) m → PutJob j before (Ok tt) after
   unfolding encoded body_bytes
   put-job-is a b c d e after kind element k m ek ee h p q r s u v =
       let p1 : Put before a 0 (bytes_of 4 (length (body_bytes j))) 4 = put_of (rw (← is) p) (omega (arith, length-bytes 4 (length (body_bytes j)))) in

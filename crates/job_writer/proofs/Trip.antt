@@ -1,11 +1,11 @@
 -- The calls in a row: a job written and read back, and bytes read and written again. Assumes nothing.
+use Rattle.std.specs.Prelude.{Ok}
 use mathlib.Core.Path.{◌≡◌, sym, ap, ◌∙◌}
 use mathlib.Core.Bool.{true}
 use mathlib.Core.List.{List}
 use Prim.Native.Nat.{ℕ}
 use lib.ListN.{length, take, drop}
 use lib.Seq.{take-append_seam}
-use Rattle.layout.specs.declared.Answer.TheVariants as A
 use Rattle.layout.specs.Answers.{is_done}
 use Rattle.checks.proofs.Made.{or-done}
 use Rattle.job_bytes.specs.Fields.{read}
@@ -19,7 +19,7 @@ use Rattle.job.proofs.Stored.{stored-made, same_bytes}
 use Rattle.job_writer.specs.Written.{room_refusal, Written}
 
 -- the bytes in front are the job's where the writer answers that it is done
-module _ (j : Job) (before after : List ℕ) (w : Written j before A.Done after) where
+module _ (j : Job) (before after : List ℕ) (w : Written j before (Ok tt) after) where
   front : take (length (encoded j)) after ≡ encoded j
   front = ap (take (length (encoded j))) w.leaves ∙ take-append_seam (encoded j) (drop (length (encoded j)) before)
 

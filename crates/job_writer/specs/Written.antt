@@ -1,12 +1,11 @@
 -- To be believed. What the writer hands back, and what the lent bytes hold afterwards. Definitions only.
-use Rattle.std.specs.Prelude.{◌≡◌, cond, List, ◌++◌, ℕ, ◌+◌, ◌≤◌, leb, length, drop}
+use Rattle.std.specs.Prelude.{◌≡◌, cond, List, ◌++◌, ℕ, ◌+◌, ◌≤◌, leb, length, drop, Ok, Err}
 use Rattle.std.proofs.lemmas.List.Edits.{sets}
-use Rattle.layout.specs.declared.Answer.{Answer}
-use Rattle.layout.specs.declared.Answer.TheVariants as A
-use Rattle.layout.specs.Answers.{is_done, or_else}
+use Rattle.layout.specs.Answers.{is_done, or_else, Answer}
 use Rattle.job.specs.declared.Job.{Job}
 use Rattle.job.specs.Jobs.{job_refusal}
 use Rattle.job.specs.Format.{encoded}
+use Rattle.layout.specs.declared.Refusal.TheVariants as F
 
 -- a part, stored from a place on, and the place after it
 pub record Put (before after : List ℕ) (at : ℕ) (part : List ℕ) (next : ℕ) : Type 0 where
@@ -15,7 +14,7 @@ pub record Put (before after : List ℕ) (at : ℕ) (part : List ℕ) (next : �
 
 -- 9, "a = 0, b = bytes a writer needs", of a job and the bytes that are lent
 abbrev pub room_refusal : Job → ℕ → Answer
-room_refusal job room = cond (leb (length (encoded job)) room) A.Done (A.BufferBounds 0 (length (encoded job)))
+room_refusal job room = cond (leb (length (encoded job)) room) (Ok tt) (Err (F.BufferBounds 0 (length (encoded job))))
 
 -- what the writer answers: 2 and 5 of the job, then 9
 abbrev pub written_answer : Job → ℕ → Answer

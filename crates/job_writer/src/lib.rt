@@ -10,7 +10,7 @@ ghost use Rattle.job_writer.specs.Written.{Put, PutJob, Written, Sized};
 
 use job::{Job, Kind, List16, Spec, Views};
 use job_bytes::{STORED_RANK_LIMIT, VERSION};
-use layout::{Answer, RAW_FUSED_RANK_LIMIT, View};
+use layout::{RAW_FUSED_RANK_LIMIT, Refusal, View};
 
 // The stored size of a layout with its offset, by its rank.
 const LAYOUT_SIZES: [usize; STORED_RANK_LIMIT + 1] = [9, 25, 41, 57, 73, 89, 105, 121, 137];
@@ -129,12 +129,12 @@ fn put_spec(out: &mut [u8], at: usize, kind: Kind, spec: Spec) -> usize
 }
 
 // Writes the job from the first byte on, or refuses by 9 with the bytes that are needed. Of a scatter no slice sizes are written.
-fn put_job(job: Job, out: &mut [u8]) -> Answer
+fn put_job(job: Job, out: &mut [u8]) -> Result<(), Refusal>
     ensures { PutJob job out.old result out.new }
 {
     let size = body_size(job);
     if out.len() < 4 + size {
-        return Answer::BufferBounds(0, 4 + size as u64);
+        return Err(Refusal::BufferBounds(0, 4 + size as u64));
     }
     job_bytes::put_number(out, 0, 4, size as u64);
     job_bytes::put_number(out, 4, 1, VERSION);
@@ -142,11 +142,11 @@ fn put_job(job: Job, out: &mut [u8]) -> Answer
     job_bytes::put_number(out, 6, 1, u64::from(job.element));
     let next = put_views(out, 7, job.views);
     put_spec(out, next, job.kind, job.spec);
-    Answer::Done
+    Ok(())
 }
 
 // The same after 2 and 5, whoever made the job.
-pub fn write_job(job: Job, out: &mut [u8]) -> Answer
+pub fn write_job(job: Job, out: &mut [u8]) -> Result<(), Refusal>
     ensures { Written job out.old result out.new }
 {
     let refusal = job::job_refusal(job);

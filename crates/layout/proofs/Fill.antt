@@ -7,7 +7,8 @@ use native.Mathlib.Numerals.{add-one}
 use native.Mathlib.Omega.{arith}
 use borrow.Author.Tests.{ltb-true, ltb-false}
 use lib.Dec.{ltb}
-use lib.ListN.{length, take, get_or, set, replicate}
+use lib.ListN.{length, take, drop, get_or, set, replicate}
+use Rattle.std.proofs.lemmas.List.{drop-replicate}
 use lib.Seq.{set_at, take-suc, length-take-le, take_all, append_snoc, take_at}
 use Rattle.layout.specs.Layouts.{padded}
 
@@ -40,6 +41,10 @@ fill_done n d xs out i h e = e ∙ go (ltb n (length xs)) refl
         let l : length xs ≤ n = ltb-false n (length xs) q in
         let f : i ≡ length xs = omega arith in
         rw (take_all i xs (omega arith), take_all n xs l, f)
+
+-- the first entries of a list, as far as there is room, followed by the rest of what was filled with d
+pub filled-rest : {A : Type 0} (n : ℕ) (d : A) (xs : List A) (i : ℕ) → i ≡ min (length xs) n → take i xs ++ drop i (replicate n d) ≡ padded n d xs
+filled-rest n d xs i h = rw (drop-replicate i n d) (fill_done n d xs (filled n d xs i) i (omega (arith, h)) refl)
 
 -- a list as long as the array
 pub fill-all : {A : Type 0} (n : ℕ) (d : A) (xs out : List A) (i : ℕ) → length xs ≡ n → i ≡ n → out ≡ filled n d xs i → out ≡ xs

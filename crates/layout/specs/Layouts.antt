@@ -1,10 +1,9 @@
 -- To be believed. The rank limit, and a layout by value from extents and strides: refusals 1 and 2. Definitions only.
-use Rattle.std.specs.Prelude.{cond, List, ◌++◌, ℕ, ◌-◌, eqb, leb, length, take, replicate, ℤ, pos}
-use Rattle.layout.specs.declared.Answer.{Answer}
-use Rattle.layout.specs.declared.Answer.TheVariants as A
+use Rattle.std.specs.Prelude.{cond, List, ◌++◌, ℕ, ◌-◌, eqb, leb, length, take, replicate, ℤ, pos, Ok, Err}
 use Rattle.layout.specs.declared.Layout.{Layout}
 use Rattle.layout.specs.declared.MadeLayout.{MadeLayout}
-use Rattle.layout.specs.Answers.{is_done, or_else}
+use Rattle.layout.specs.Answers.{is_done, or_else, Answer}
+use Rattle.layout.specs.declared.Refusal.TheVariants as F
 
 -- "Rank is 0 to 8": `RAW_FUSED_RANK_LIMIT`
 abbrev pub rank_limit : ℕ
@@ -27,11 +26,11 @@ strides_of l = take l.rank l.strides
 
 -- 1: "extents and strides differ in length"
 abbrev pub stride_length : ℕ → ℕ → Answer
-stride_length extents strides = cond (eqb strides extents) A.Done A.StrideLengthMismatch
+stride_length extents strides = cond (eqb strides extents) (Ok tt) (Err F.StrideLengthMismatch)
 
 -- 2: "a layout has rank above 8; a = rank .., b = 8"
 abbrev pub rank_at_most : ℕ → Answer
-rank_at_most rank = cond (leb rank rank_limit) A.Done (A.RankTooLarge rank rank_limit)
+rank_at_most rank = cond (leb rank rank_limit) (Ok tt) (Err (F.RankTooLarge rank rank_limit))
 
 -- where it is refused the layout of no axes stands in its place
 abbrev pub refused_layout : Answer → MadeLayout

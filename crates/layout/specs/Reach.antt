@@ -1,13 +1,13 @@
 -- To be believed. The reach of a view, and the test of 9. Definitions only.
-use Rattle.std.specs.Prelude.{cond, ◌&&◌, List, ℕ, ℤ, pos, ◌+ℤ◌}
+use Rattle.layout.specs.Answers.{Answer}
+use Rattle.std.specs.Prelude.{cond, ◌&&◌, List, ℕ, ℤ, pos, ◌+ℤ◌, Ok, Err}
 use Rattle.std.specs.Int.Signed.{le_z, lt_z}
 use Rattle.integer.specs.Z.{up}
 use Rattle.indexing.specs.Reach.{lowest, highest}
-use Rattle.layout.specs.declared.Answer.{Answer}
-use Rattle.layout.specs.declared.Answer.TheVariants as A
 use Rattle.layout.specs.declared.Reach.{Reach}
 use Rattle.layout.specs.declared.Reach.TheVariants as R
 use Rattle.layout.specs.Nested.{has_zero}
+use Rattle.layout.specs.declared.Refusal.TheVariants as F
 
 -- "A view with cells needs all inside its slice; one without needs an offset from 0 to the length."
 unfoldable pub view_reach : List ℕ → List ℤ → ℤ → ℕ → Reach
@@ -20,6 +20,6 @@ view_reach ds ss offset len =
 
 -- 9: "a = view"
 abbrev pub buffer_bounds : ℕ → Reach → Answer
-buffer_bounds view (R.Cells low high) = A.Done
-buffer_bounds view R.NoCells = A.Done
-buffer_bounds view R.Outside = A.BufferBounds view 0
+buffer_bounds view (R.Cells low high) = Ok tt
+buffer_bounds view R.NoCells = Ok tt
+buffer_bounds view R.Outside = Err (F.BufferBounds view 0)

@@ -1,11 +1,8 @@
 -- What the code adds up where it tests a layout, axis by axis. `Apart` and `Ends` of `spans` show that the tests are those of `Nested` and `Reach`. Definitions only.
-use Rattle.std.specs.Prelude.{Bool, true, false, cond, ◌||◌, List, [], ◌∷◌, ℕ, suc, ◌+◌, ◌*◌, ◌-◌, eqb, leb, ltb, get_or, ℤ, pos, nat_abs}
+use Rattle.std.specs.Prelude.{Bool, true, false, cond, ◌||◌, List, [], ◌∷◌, ℕ, suc, ◌+◌, ◌*◌, ◌-◌, eqb, leb, ltb, get_or, ℤ, pos, nat_abs, Option, Some, None, option_and_then}
 use Rattle.integer.specs.Defs.{checked_u, is_neg}
-use Rattle.integer.specs.declared.CheckedU.{CheckedU}
-use Rattle.integer.specs.declared.CheckedU.TheVariants as U
 use Rattle.layout.specs.declared.Reach.{Reach}
 use Rattle.layout.specs.declared.Reach.TheVariants as R
-use Rattle.layout.specs.Spans.{and_then_u}
 
 -- f of each axis, which is given its place in the list, its extent and its stride
 unfoldable pub sum_axes : (ℕ → ℕ → ℤ → ℕ) → ℕ → List ℕ → List ℤ → ℕ
@@ -42,13 +39,13 @@ side_at below i d s = side_weight below d s
 abbrev pub side_reach : Bool → List ℕ → List ℤ → ℕ
 side_reach below ds ss = sum_axes (side_at below) 0 ds ss
 
-abbrev pub high_by : CheckedU → ℕ → ℕ → Reach
-high_by (U.Fits h) low len = cond (ltb h len) (R.Cells low h) R.Outside
-high_by U.Overflow low len = R.Outside
+abbrev pub high_by : Option ℕ → ℕ → ℕ → Reach
+high_by (Some h) low len = cond (ltb h len) (R.Cells low h) R.Outside
+high_by None low len = R.Outside
 
-abbrev pub low_by : CheckedU → ℕ → CheckedU → ℕ → Reach
-low_by (U.Fits d) at up len = cond (ltb at d) R.Outside (high_by (and_then_u up (λ e. checked_u (at + e))) (at - d) len)
-low_by U.Overflow at up len = R.Outside
+abbrev pub low_by : Option ℕ → ℕ → Option ℕ → ℕ → Reach
+low_by (Some d) at up len = cond (ltb at d) R.Outside (high_by (option_and_then (λ e. checked_u (at + e)) up) (at - d) len)
+low_by None at up len = R.Outside
 
-unfoldable pub cells_within : ℕ → CheckedU → CheckedU → ℕ → Reach
+unfoldable pub cells_within : ℕ → Option ℕ → Option ℕ → ℕ → Reach
 cells_within at down up len = low_by down at up len

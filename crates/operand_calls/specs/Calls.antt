@@ -4,9 +4,8 @@ use Rattle.indexing.specs.Coordinates.{View}
 use Rattle.indexing.specs.Scatter.{Scatter, scattered}
 use Rattle.indexing.specs.Operand.{operand_copied}
 use Rattle.indexing.specs.Slid.{slid_scatter}
-use Rattle.layout.specs.declared.Answer.{Answer}
 use Rattle.layout.specs.declared.CallAnswer.{CallAnswer}
-use Rattle.layout.specs.Answers.{or_else}
+use Rattle.layout.specs.Answers.{or_else, Answer}
 use Rattle.layout.specs.Reach.{buffer_bounds}
 use Rattle.calls.specs.Calls.{same_view, same_views, reach_in, ScatterCall, Does}
 

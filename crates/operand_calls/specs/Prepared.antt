@@ -2,8 +2,7 @@
 use Rattle.std.specs.Prelude.{◌≡◌, true, ℕ, List, ℤ, pos}
 use Rattle.indexing.specs.Coordinates.{View}
 use Rattle.indexing.specs.Scatter.{Scatter}
-use Rattle.layout.specs.declared.Answer.{Answer}
-use Rattle.layout.specs.Answers.{is_done}
+use Rattle.layout.specs.Answers.{is_done, Answer}
 use Rattle.layout.specs.Layouts.{rank_limit, padded, layout_of}
 use Rattle.layout.specs.Reach.{buffer_bounds}
 use Rattle.calls.specs.Calls.{reach_in}

@@ -1,4 +1,5 @@
 -- What is known of four layouts whose sizes are not refused. Assumes nothing.
+use Rattle.std.specs.Prelude.{Ok, Err}
 use mathlib.Core.Path.{◌≡◌, refl, sym, ap, ◌∙◌}
 use mathlib.Core.Bool.{Bool, true, false, cond, true≢false}
 use mathlib.Core.List.{List}
@@ -8,9 +9,7 @@ use lib.ListN.{length}
 use lib.IntN.{ℤ}
 use Rattle.indexing.specs.Coordinates.{View}
 use Rattle.indexing.specs.Scatter.{Scatter}
-use Rattle.layout.specs.declared.Answer.{Answer}
-use Rattle.layout.specs.declared.Answer.TheVariants as A
-use Rattle.layout.specs.Answers.{is_done, or_else}
+use Rattle.layout.specs.Answers.{is_done, or_else, Answer}
 use Rattle.layout.specs.Layouts.{rank_limit, stride_length, rank_at_most}
 use Rattle.layout.specs.Spans.{total_of, spanned}
 use Rattle.equality.specs.Same.{same_by}
@@ -22,6 +21,7 @@ use Rattle.scatter_checks.specs.declared.Examined.{Examined}
 use Rattle.scatter_checks.specs.Examine.{Examines}
 use Rattle.operand_checks.specs.Refusals.{layouts_refusal, extents_refusal, numbers_refusal, sizes_refusal, sizes_of, refusal_of}
 use Rattle.operand_checks.specs.Examine.{ExaminesOn}
+use Rattle.layout.specs.declared.Refusal.TheVariants as F
 
 -- two answers that are done are done in turn
 pub both-done : (x y : Answer) → is_done x ≡ true → is_done y ≡ true → is_done (or_else x y) ≡ true
@@ -38,7 +38,7 @@ or_assoc x y w = go (is_done x) refl
 pub extents-same : (de oe : List ℕ) → is_done (extents_refusal de oe) ≡ true → de ≡ oe
 extents-same de oe e = go (same_by eqb de oe) refl e
   where
-    go : (t : Bool) → same_by eqb de oe ≡ t → is_done (cond t A.Done (A.ShapeMismatch (length de) (length oe))) ≡ true → de ≡ oe
+    go : (t : Bool) → same_by eqb de oe ≡ t → is_done (cond t (Ok tt) (Err (F.ShapeMismatch (length de) (length oe)))) ≡ true → de ≡ oe
     go true f h = (lists-decide eqb numbers-decide de oe).yes f
     go false f h = absurd (true≢false (sym h))
 

@@ -2,8 +2,7 @@
 use Rattle.std.specs.Prelude.{◌≡◌, true}
 use Rattle.indexing.specs.Coordinates.{View}
 use Rattle.indexing.specs.Scatter.{Scatter}
-use Rattle.layout.specs.declared.Answer.{Answer}
-use Rattle.layout.specs.Answers.{is_done}
+use Rattle.layout.specs.Answers.{is_done, Answer}
 use Rattle.replay.specs.declared.CompiledReplay.{CompiledReplay}
 use Rattle.scatter_checks.specs.declared.Examined.{Examined}
 use Rattle.scatter_checks.specs.Examine.{Found}

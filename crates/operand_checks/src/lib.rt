@@ -10,7 +10,7 @@ ghost use Rattle.scatter_checks.specs.Refusals.{scatter_from};
 ghost use Rattle.operand_checks.specs.Refusals.{layouts_refusal, extents_refusal, numbers_refusal, sizes_refusal, compile_refusal};
 ghost use Rattle.operand_checks.specs.Examine.{ExaminesOn};
 
-use layout::Answer;
+use layout::Refusal;
 use scatter_checks::Examined;
 
 // 1 for the four views, operand first, then 2: the counts of extents and of strides.
@@ -23,7 +23,7 @@ fn check_layouts(
     us: usize,
     de: usize,
     ds: usize,
-) -> Answer
+) -> Result<(), Refusal>
     ensures { result ≡ layouts_refusal oe os ie is ue us de ds }
 {
     let a = layout::check_stride_length(oe, os);
@@ -42,18 +42,18 @@ fn check_layouts(
 }
 
 // 7 where the destination's extents are not the operand's.
-fn check_extents(dest: &[u64], operand: &[u64]) -> Answer
+fn check_extents(dest: &[u64], operand: &[u64]) -> Result<(), Refusal>
     ensures { result ≡ extents_refusal dest.now operand.now }
 {
     if dest == operand {
-        Answer::Done
+        Ok(())
     } else {
-        Answer::ShapeMismatch(dest.len() as u64, operand.len() as u64)
+        Err(Refusal::ShapeMismatch(dest.len() as u64, operand.len() as u64))
     }
 }
 
 // 3 for the products.
-fn check_products(operand: &[u64], index: &[u64], updates: &[u64]) -> Answer
+fn check_products(operand: &[u64], index: &[u64], updates: &[u64]) -> Result<(), Refusal>
     ensures { result ≡ or_else (total_fits (total_of operand.now)) (or_else (total_fits (total_of index.now)) (total_fits (total_of updates.now))) }
 {
     let a = checks::check_total(operand);
@@ -73,7 +73,7 @@ fn check_spans(
     operand_strides: &[i64],
     dest: &[u64],
     dest_strides: &[i64],
-) -> Answer
+) -> Result<(), Refusal>
     requires { (length operand_strides.now ≡ length operand.now) × (length dest_strides.now ≡ length dest.now) }
     ensures { result ≡ or_else (extents_refusal dest.now operand.now) (or_else (span_fits (spanned dest.now dest_strides.now)) (span_fits (spanned operand.now operand_strides.now))) }
 {
@@ -96,7 +96,7 @@ fn check_numbers(
     updates: &[u64],
     dest: &[u64],
     dest_strides: &[i64],
-) -> Answer
+) -> Result<(), Refusal>
     requires { (length operand_strides.now ≡ length operand.now) × (length dest_strides.now ≡ length dest.now) }
     ensures { result ≡ numbers_refusal operand.now operand_strides.now index.now updates.now dest.now dest_strides.now }
 {
@@ -115,7 +115,7 @@ pub fn check_sizes(
     us: &[i64],
     de: &[u64],
     ds: &[i64],
-) -> Answer
+) -> Result<(), Refusal>
     ensures { result ≡ sizes_refusal oe.now os.now ie.now is.now ue.now us.now de.now ds.now }
 {
     let lengths = check_layouts(
@@ -194,7 +194,7 @@ pub fn operand_refusal(
     inserted_window_dims: &[u64],
     scatter_dims_to_operand_dims: &[u64],
     index_vector_dim: u64,
-) -> Answer
+) -> Result<(), Refusal>
     ensures { result ≡ compile_refusal (view_from operand_extents.now operand_strides.now) (scatter_from index_extents.now index_strides.now updates_extents.now updates_strides.now dest_extents.now dest_strides.now update_window_dims.now inserted_window_dims.now scatter_dims_to_operand_dims.now index_vector_dim) }
 {
     let found = examine(

@@ -9,7 +9,6 @@ ghost use Rattle.fused_axes.specs.Fusing.{dims, dsts, srcs};
 ghost use Rattle.operand_copy.specs.Views.{held_view, Cells};
 
 use fused_axes::FusedAxes;
-use integer::CheckedU;
 use layout::RAW_FUSED_RANK_LIMIT;
 use rules::{Element, Replace};
 
@@ -58,7 +57,7 @@ pub fn copy_operand<E: Element>(
 {
     let total = fused_axes::total_len(extents, rank);
     match total {
-        CheckedU::Fits(n) => {
+        Some(n) => {
             if n == 0 {
                 return;
             }
@@ -69,7 +68,7 @@ pub fn copy_operand<E: Element>(
             }
             over_axes(src, dst, extents, ss, ds, rank, s, d);
         }
-        CheckedU::Overflow => {
+        None => {
             over_axes(src, dst, extents, ss, ds, rank, s, d);
         }
     }

@@ -13,7 +13,6 @@ ghost use Rattle.fused_axes.specs.Fusing.{dims, dsts, srcs};
 ghost use Rattle.operand_copy.specs.Views.{held_view, Cells};
 
 use fused_axes::FusedAxes;
-use integer::CheckedU;
 use layout::RAW_FUSED_RANK_LIMIT;
 use rules::RuleF64;
 
@@ -75,7 +74,7 @@ pub fn copy_operand(
 {
     let total = fused_axes::total_len(extents, rank);
     match total {
-        CheckedU::Fits(n) => {
+        Some(n) => {
             if n == 0 {
                 return;
             }
@@ -86,7 +85,7 @@ pub fn copy_operand(
             }
             over_axes(src, dst, extents, ss, ds, rank, s, d);
         }
-        CheckedU::Overflow => {
+        None => {
             over_axes(src, dst, extents, ss, ds, rank, s, d);
         }
     }

@@ -2,8 +2,7 @@
 use Rattle.std.specs.Prelude.{List, ℕ, length, ℤ}
 use Rattle.indexing.specs.Coordinates.{View}
 use Rattle.indexing.specs.Scatter.{Scatter}
-use Rattle.layout.specs.declared.Answer.{Answer}
-use Rattle.layout.specs.Answers.{or_else}
+use Rattle.layout.specs.Answers.{or_else, Answer}
 use Rattle.calls.specs.Calls.{plan_refusal, ScatterCall}
 use Rattle.operand_checks.specs.Refusals.{compile_refusal}
 use Rattle.scatter_move.specs.declared.PreparedScatter.{PreparedScatter}

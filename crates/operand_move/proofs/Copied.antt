@@ -13,9 +13,8 @@ use Rattle.integer.specs.Z.{back}
 use Rattle.indexing.specs.Coordinates.{View}
 use Rattle.indexing.specs.Scatter.{Scatter}
 use Rattle.indexing.specs.Operand.{operand_copied}
-use Rattle.layout.specs.declared.Answer.{Answer}
 use Rattle.layout.specs.declared.CallAnswer.{CallAnswer}
-use Rattle.layout.specs.Answers.{is_done, or_else}
+use Rattle.layout.specs.Answers.{is_done, or_else, Answer}
 use Rattle.layout.specs.Layouts.{rank_limit, padded}
 use Rattle.layout.specs.Reach.{view_reach, buffer_bounds}
 use Rattle.layout.proofs.Fill.{padded-back}

@@ -1,4 +1,5 @@
 -- A compiled plan is what compile gives for the operand and the scatter that it describes. Assumes nothing.
+use Rattle.std.specs.Prelude.{Ok}
 use mathlib.Core.Path.{◌≡◌, refl, sym, ap, ap₂, ◌∙◌}
 use mathlib.Core.Bool.{Bool, true, false, cond, ◌&&◌}
 use mathlib.Core.List.{List}
@@ -8,10 +9,8 @@ use lib.IntN.{ℤ, pos}
 use Rattle.integer.specs.Tests.{and-true, and_both}
 use Rattle.indexing.specs.Coordinates.{View}
 use Rattle.indexing.specs.Scatter.{Scatter}
-use Rattle.layout.specs.declared.Answer.{Answer}
-use Rattle.layout.specs.declared.Answer.TheVariants as A
 use Rattle.layout.specs.declared.Layout.{Layout}
-use Rattle.layout.specs.Answers.{is_done, or_else}
+use Rattle.layout.specs.Answers.{is_done, or_else, Answer}
 use Rattle.layout.specs.Layouts.{rank_limit, layout_of, extents_of, strides_of}
 use Rattle.layout.proofs.Fill.{padded-back}
 use Rattle.equality.specs.Same.{same_layout}
@@ -72,11 +71,11 @@ module _ (p : OperandPlan) (b w : List (List ℤ)) where
   unfolding is_compiled compiled_by scatter-same.is_compiled scatters.compiled_by
   tests-are = go (is_done (sizes_of o s)) refl
     where
-      go : (t : Bool) → is_done (sizes_of o s) ≡ t → (t && (layouts && rest (scatter-refusals.refusal_of A.Done s))) ≡ asked (refusal_of A.Done o s)
-      go true e = asked_is (scatter-refusals.refusal_of A.Done s) ∙ ap asked (same_rest o s e A.Done)
+      go : (t : Bool) → is_done (sizes_of o s) ≡ t → (t && (layouts && rest (scatter-refusals.refusal_of (Ok tt) s))) ≡ asked (refusal_of (Ok tt) o s)
+      go true e = asked_is (scatter-refusals.refusal_of (Ok tt) s) ∙ ap asked (same_rest o s e (Ok tt))
       go false e =
-          let n : is_done (refusal_of A.Done o s) ≡ false = ap (λ (t : Bool). is_done (cond t (or_else A.Done (scatter-refusals.spec_refusal s)) (sizes_of o s))) e ∙ e in
-          sym (ap (λ (t : Bool). t && (same_layout p.operand (cond (is_done (refusal_of A.Done o s)) (layout_of o.extents o.strides) no_layout) && (same_plan p.scatter (scatters.compiled_by (refusal_of A.Done o s) s).plan && has_rows (scatters.compiled_by (refusal_of A.Done o s) s) b w))) n)
+          let n : is_done (refusal_of (Ok tt) o s) ≡ false = ap (λ (t : Bool). is_done (cond t (or_else (Ok tt) (scatter-refusals.spec_refusal s)) (sizes_of o s))) e ∙ e in
+          sym (ap (λ (t : Bool). t && (same_layout p.operand (cond (is_done (refusal_of (Ok tt) o s)) (layout_of o.extents o.strides) no_layout) && (same_plan p.scatter (scatters.compiled_by (refusal_of (Ok tt) o s) s).plan && has_rows (scatters.compiled_by (refusal_of (Ok tt) o s) s) b w))) n)
 
   -- A COMPILED PLAN: sizes that are not refused, the operand's layout as it is held, and a scatter's plan that is compiled
   pub parts_are : is_compiled p b w ≡ true → (is_done (sizes_of o s) ≡ true) × (p.operand ≡ layout_of o.extents o.strides) × (scatter-same.is_compiled p.scatter b w ≡ true)

@@ -1,10 +1,8 @@
 -- To be believed. The plan of a scatter with an operand by value, what compile gives, and whether a plan is compiled: "the plan .. holds the operand's layout too". Definitions only.
-use Rattle.std.specs.Prelude.{Bool, cond, ◌&&◌, List, ℤ}
+use Rattle.std.specs.Prelude.{Bool, cond, ◌&&◌, List, ℤ, Ok}
 use Rattle.indexing.specs.Coordinates.{View}
 use Rattle.indexing.specs.Scatter.{Scatter}
-use Rattle.layout.specs.declared.Answer.{Answer}
-use Rattle.layout.specs.declared.Answer.TheVariants as A
-use Rattle.layout.specs.Answers.{is_done}
+use Rattle.layout.specs.Answers.{is_done, Answer}
 use Rattle.layout.specs.Layouts.{layout_of, extents_of, strides_of}
 use Rattle.equality.specs.Same.{same_layout}
 use Rattle.checks.specs.Checks.{view_from}
@@ -24,7 +22,7 @@ compiled_operand o s = compiled_by (compile_refusal o s) o s
 
 -- "4 not tried again"
 abbrev pub compiled_again : View → Scatter → CompiledOperand
-compiled_again o s = compiled_by (refusal_of A.Done o s) o s
+compiled_again o s = compiled_by (refusal_of (Ok tt) o s) o s
 
 -- the operand and the scatter that the layouts and the spec in a plan describe
 abbrev pub held_operand : OperandPlan → View

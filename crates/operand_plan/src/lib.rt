@@ -10,7 +10,7 @@ ghost use Rattle.scatter_checks.specs.Refusals.{scatter_from};
 ghost use Rattle.operand_checks.specs.Refusals.{sizes_refusal};
 ghost use Rattle.operand_plan.specs.Plan.{compiled_operand, is_compiled};
 
-use layout::{Answer, Layout, RAW_FUSED_RANK_LIMIT};
+use layout::{Refusal, Layout, RAW_FUSED_RANK_LIMIT};
 use scatter_plan::{CompiledScatter, ScatterPlan};
 
 // The operand's layout, and the plan of the scatter without it.
@@ -28,7 +28,7 @@ pub struct CompiledOperand {
 }
 
 // The operand's layout by value, or the one of no axes where it is refused.
-fn layout_by(answer: Answer, extents: &[u64], strides: &[i64]) -> Layout
+fn layout_by(answer: Result<(), Refusal>, extents: &[u64], strides: &[i64]) -> Layout
     requires { is_done answer ≡ true → (is_done (stride_length (length extents.now) (length strides.now)) ≡ true) × (is_done (rank_at_most (length extents.now)) ≡ true) }
     ensures { result ≡ cond (is_done answer) (layout_of extents.now strides.now) no_layout }
 {
@@ -95,7 +95,7 @@ pub fn compile(
 }
 
 // What is asked before 4 of four layouts by value.
-fn sizes_of(operand: Layout, index: Layout, updates: Layout, dest: Layout) -> Answer
+fn sizes_of(operand: Layout, index: Layout, updates: Layout, dest: Layout) -> Result<(), Refusal>
     ensures { result ≡ sizes_refusal (extents_of operand) (strides_of operand) (extents_of index) (strides_of index) (extents_of updates) (strides_of updates) (extents_of dest) (strides_of dest) }
 {
     let n = layout::axis_count(operand.rank);
@@ -121,7 +121,7 @@ fn held_again(l: Layout) -> Layout
     let n = layout::axis_count(l.rank);
     Layout {
         rank: n,
-        extents: layout::padded_numbers(&l.extents[..n], 1),
+        extents: layout::padded(&l.extents[..n], 1),
         strides: layout::padded_strides(&l.strides[..n]),
     }
 }

@@ -2,9 +2,8 @@
 use Rattle.std.specs.Prelude.{Bool, ◌&&◌, List, ℕ, length, ℤ}
 use Rattle.indexing.specs.Coordinates as C
 use Rattle.indexing.specs.Scatter.{Scatter}
-use Rattle.layout.specs.declared.Answer.{Answer}
 use Rattle.layout.specs.declared.View.{View}
-use Rattle.layout.specs.Answers.{or_else}
+use Rattle.layout.specs.Answers.{or_else, Answer}
 use Rattle.calls.specs.Calls.{view_of, plan_refusal, ScatterCall}
 use Rattle.operand_calls.specs.Calls.{same_four, bounds_refusal}
 use Rattle.operand_plan.specs.declared.OperandPlan.{OperandPlan}

@@ -16,9 +16,8 @@ use Rattle.indexing.specs.Sums.{total}
 use Rattle.indexing.proofs.Sums.{added-plain, total-append}
 use Rattle.indexing.specs.Demand3.{Unseen}
 use Rattle.indexing.proofs.Demand3.{unseen-by}
-use Rattle.layout.specs.declared.Answer.{Answer}
 use Rattle.layout.specs.declared.CallAnswer.{CallAnswer}
-use Rattle.layout.specs.Answers.{is_done}
+use Rattle.layout.specs.Answers.{is_done, Answer}
 use Rattle.layout.proofs.First.{done-is}
 use Rattle.rules.specs.declared.Rule.{Rule}
 use Rattle.rules.specs.declared.Rule.TheVariants as R

@@ -10,10 +10,8 @@ use Rattle.indexing.specs.Scatter.{placed_updates, scattered}
 use Rattle.indexing.specs.Operand.{operand_copied}
 use Rattle.indexing.proofs.OperandCells.{length-copied}
 use Rattle.indexing.proofs.Updates.{length-combined}
-use Rattle.layout.specs.declared.Answer.{Answer}
-use Rattle.layout.specs.declared.Answer.TheVariants as A
 use Rattle.layout.specs.declared.CallAnswer.{CallAnswer}
-use Rattle.layout.specs.Answers.{is_done}
+use Rattle.layout.specs.Answers.{is_done, Answer}
 use Rattle.rules.specs.declared.Rule.{Rule}
 use Rattle.rules.specs.Rules.{rule_i32}
 use Rattle.rules.specs.Swaps.{put_on}

@@ -3,9 +3,8 @@
 use Rattle.std.specs.Prelude.{◌≡◌, true, cond, List, ℕ, length, ℤ, pos}
 use Rattle.indexing.specs.Coordinates.{View}
 use Rattle.indexing.specs.Operand.{operand_copied}
-use Rattle.layout.specs.declared.Answer.{Answer}
 use Rattle.layout.specs.declared.CallAnswer.{CallAnswer}
-use Rattle.layout.specs.Answers.{is_done}
+use Rattle.layout.specs.Answers.{is_done, Answer}
 use Rattle.rules.specs.declared.Rule.{Rule}
 use Rattle.rules.specs.Swaps.{put_on}
 use Rattle.calls.specs.Calls.{GatherCall, ScatterCall, answer_with}

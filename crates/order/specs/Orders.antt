@@ -1,7 +1,7 @@
 -- To be believed. Demand 3: two scatters on one grid, and a gather beside a scatter, as claims about runs from beginning to end. The grid is a whole lent slice of i32,
 -- and each ship's scatter, document 01's North and South, is a scatter call with a rule: North's is r, South's s. What is handed back is the answer with the number of windows that slid, as `says` puts them.
 -- Definitions only.
-use Rattle.std.specs.Prelude.{◌≡◌, true, cond, List, [], ℕ, ◌<◌, length, get_or, ℤ, pos, ◌+ℤ◌}
+use Rattle.std.specs.Prelude.{◌≡◌, true, cond, List, [], ℕ, ◌<◌, length, get_or, ℤ, pos, ◌+ℤ◌, Ok}
 use Rattle.std.specs.Int.{w32}
 use Rattle.std.proofs.Common.{SFits}
 use Rattle.integer.specs.Defs.{wrap32}
@@ -11,7 +11,6 @@ use Rattle.indexing.specs.Slid.{slid_gather, slid_scatter}
 use Rattle.indexing.specs.Sums.{total}
 use Rattle.indexing.specs.Demand3.{Unseen}
 use Rattle.layout.specs.declared.CallAnswer.{CallAnswer}
-use Rattle.layout.specs.declared.Answer.TheVariants as A
 use Rattle.layout.specs.Answers.{is_done}
 use Rattle.rules.specs.declared.Rule.{Rule}
 use Rattle.rules.specs.declared.Rule.TheVariants as R
@@ -41,7 +40,7 @@ told_gather g n m = answer_with (g.answer n m) (slid_gather g.gather g.starts)
 
 -- that it is done, with the number
 abbrev pub done_with : ℕ → CallAnswer
-done_with number = record { answer = A.Done; reported = number }
+done_with number = record { answer = Ok tt; reported = number }
 
 -- a scatter of a call on a grid by a rule, as `scattered` has it
 abbrev pub done_by : Rule → ScatterCall ℤ → List ℤ → List ℤ

@@ -1,24 +1,20 @@
 -- The merged walk is the walk over the axes as they were given: the same offsets at every linear index on both sides, as many cells, the same spans. For lists of any length. Assumes nothing.
-use Rattle.std.specs.Prelude.{◌≡◌, refl, Bool, true, false, cond, ◌&&◌, List, [], ◌∷◌, ℕ, ◌*◌, ◌^◌, ltb, length, ℤ, pos, ◌*ℤ◌}
+use Rattle.std.specs.Prelude.{◌≡◌, refl, Bool, true, false, cond, ◌&&◌, List, [], ◌∷◌, ℕ, ◌*◌, ◌^◌, ltb, length, ℤ, pos, ◌*ℤ◌, Option, Some, None, Ok}
 use Rattle.std.proofs.Common.{arith}
 use Rattle.integer.specs.Defs.{eq_z}
 use Rattle.integer.specs.Laws.{eq_z-true}
-use Rattle.integer.specs.declared.Checked.{Checked}
-use Rattle.integer.specs.declared.Checked.TheVariants as C
 use Rattle.integer.specs.Tests.{and-true}
-use Rattle.layout.specs.declared.Answer.TheVariants as N
-use Rattle.layout.specs.declared.OffsetSpan.{OffsetSpan}
-use Rattle.layout.specs.declared.OffsetSpan.TheVariants as S
 use Rattle.layout.specs.Spans.{reset_of, spanned}
 use Rattle.layout.specs.Laws.{reset-size}
 use Rattle.replay.specs.declared.WindowReplayAxis.{WindowReplayAxis}
 use Rattle.replay.specs.Replays.{axis_of, given_axes, merges, merged_from, merged_axes, is_fits, axis_fits, past_fits, later_fit, axes_fit, where_fits, after_spans, compiled_replay}
 use Rattle.replay.specs.Merging.{side_same, IsReset, AllReset, Meets, meets-one, meets-cons, meets-fuse, IsDone}
+use Rattle.layout.specs.declared.Span.{Span}
 
 -- ---- the axes that fit
-fits-inv : (x : Checked) → is_fits x ≡ true → (r : ℤ) × (x ≡ C.Fits r)
-fits-inv (C.Fits r) e = (r, refl)
-fits-inv C.Overflow e = let z : ◌≡◌ {A = ℕ} 0 1 = cc in absurd (omega arith)
+fits-inv : (x : Option ℤ) → is_fits x ≡ true → (r : ℤ) × (x ≡ Some r)
+fits-inv (Some r) e = (r, refl)
+fits-inv None e = let z : ◌≡◌ {A = ℕ} 0 1 = cc in absurd (omega arith)
 
 axis-reset : (d : ℕ) (s t : ℤ) → axis_fits (axis_of d s t) ≡ true → IsReset (axis_of d s t)
 axis-reset d s t e =
@@ -63,22 +59,22 @@ meets-given (d ∷ ds) (s ∷ ss) (t ∷ ts) a b e =
     let k = and-true (axis_fits (axis_of d s t)) _ e in
     meets-from ds ss ts (axis_of d s t) (axis-reset d s t k.0) (omega arith) (omega arith) k.1
 
-pub compiled-done : (ds : List ℕ) (ss ts : List ℤ) → length ss ≡ length ds → length ts ≡ length ds → (compiled_replay ds ss ts).answer ≡ N.Done → IsDone ds ss ts
+pub compiled-done : (ds : List ℕ) (ss ts : List ℤ) → length ss ≡ length ds → length ts ≡ length ds → (compiled_replay ds ss ts).answer ≡ Ok tt → IsDone ds ss ts
 unfolding compiled_replay
 compiled-done ds ss ts p q e = go (spanned ds ss) (spanned ds ts) (axes_fit (given_axes ds ss ts)) refl refl refl e
   where
-    go : (x y : OffsetSpan) (t : Bool) → spanned ds ss ≡ x → spanned ds ts ≡ y → axes_fit (given_axes ds ss ts) ≡ t → (after_spans x y (λ spans. where_fits t (merged_axes (given_axes ds ss ts)) spans)).answer ≡ N.Done → IsDone ds ss ts
-    go (S.Fits a b) (S.Fits a' b') true ex ey et h = record {
+    go : (x y : Option Span) (t : Bool) → spanned ds ss ≡ x → spanned ds ts ≡ y → axes_fit (given_axes ds ss ts) ≡ t → (after_spans x y (λ spans. where_fits t (merged_axes (given_axes ds ss ts)) spans)).answer ≡ Ok tt → IsDone ds ss ts
+    go (Some a) (Some b) true ex ey et h = record {
       axes = merged_axes (given_axes ds ss ts);
       meets = meets-given ds ss ts p q et;
-      source-low = a;
-      source-high = b;
+      source-low = a.low;
+      source-high = a.high;
       source-span = ex;
-      dest-low = a';
-      dest-high = b';
+      dest-low = b.low;
+      dest-high = b.high;
       dest-span = ey;
       is = (λ ι. after_spans (ex ι) (ey ι) (λ spans. where_fits (et ι) (merged_axes (given_axes ds ss ts)) spans));
     }
-    go (S.Fits a b) (S.Fits a' b') false ex ey et h = let z : ◌≡◌ {A = ℕ} 0 1 = cc in absurd (omega arith)
-    go (S.Fits a b) S.Overflow t ex ey et h = let z : ◌≡◌ {A = ℕ} 0 1 = cc in absurd (omega arith)
-    go S.Overflow y t ex ey et h = let z : ◌≡◌ {A = ℕ} 0 1 = cc in absurd (omega arith)
+    go (Some a) (Some b) false ex ey et h = let z : ◌≡◌ {A = ℕ} 0 1 = cc in absurd (omega arith)
+    go (Some a) None t ex ey et h = let z : ◌≡◌ {A = ℕ} 0 1 = cc in absurd (omega arith)
+    go None y t ex ey et h = let z : ◌≡◌ {A = ℕ} 0 1 = cc in absurd (omega arith)

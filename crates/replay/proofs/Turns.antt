@@ -1,4 +1,5 @@
 -- The loop over the axes: those that are done stand before what is left. Assumes nothing.
+use Rattle.std.specs.Prelude.{Option, Some, None}
 use mathlib.Core.Path.{◌≡◌, refl, sym, ap, ap₂, ◌∙◌}
 use mathlib.Core.Bool.{Bool, true, false, cond, ◌&&◌}
 use mathlib.Core.List.{List, [], ◌∷◌, ◌++◌, append_assoc}
@@ -11,8 +12,6 @@ use lib.IntN.{ℤ, pos}
 use Rattle.layout.specs.Layouts.{rank_limit, padded}
 use Rattle.layout.proofs.Turns.{drop-take, drop-done}
 use Rattle.replay.specs.declared.WindowReplayAxis.{WindowReplayAxis}
-use Rattle.replay.specs.declared.CheckedAxis.{CheckedAxis}
-use Rattle.replay.specs.declared.CheckedAxis.TheVariants as A
 use Rattle.replay.specs.declared.JoinedAxis.{JoinedAxis}
 use Rattle.replay.specs.declared.JoinedAxis.TheVariants as J
 use Rattle.replay.specs.declared.ReplaySpans.{ReplaySpans}
@@ -63,16 +62,16 @@ module _ (ds : List ℕ) (ss ts : List ℤ) (rank : ℕ) where
     unfolding given_axes
     left-turn i h = rw (drop-take rank ds i 0 (omega arith), drop-take rank ss i (pos 0) (omega arith), drop-take rank ts i (pos 0) (omega arith))
 
-    module _ (h : 0 < rank) (x : CheckedAxis) (e : x ≡ checked_axis (axis 0)) (spans : ReplaySpans) where
+    module _ (h : 0 < rank) (x : Option WindowReplayAxis) (e : x ≡ checked_axis (axis 0)) (spans : ReplaySpans) where
       all-is : all ≡ axis 0 ∷ left 1
       all-is = left-turn 0 (omega arith)
 
-      pub first-over : x ≡ A.Overflow → refused_replay ≡ walk_of all spans
+      pub first-over : x ≡ None → refused_replay ≡ walk_of all spans
       first-over o =
           sym (ap (λ (l : List WindowReplayAxis). walk_of l spans) all-is
           ∙ ap (λ (t : Bool). where_fits (t && later_fit (axis 0) (left 1)) (merged_from (axis 0) (left 1)) spans) (axis-not (axis 0) (sym e ∙ o)))
 
-      pub first_fits : (p : WindowReplayAxis) → x ≡ A.Fits p → walk_from p (left 1) spans ≡ walk_of all spans
+      pub first_fits : (p : WindowReplayAxis) → x ≡ Some p → walk_from p (left 1) spans ≡ walk_of all spans
       first_fits p o =
           let k = axis-is (axis 0) p (sym e ∙ o) in
           sym (ap (λ (l : List WindowReplayAxis). walk_of l spans) all-is
@@ -104,8 +103,8 @@ module _ (ds : List ℕ) (ss ts : List ℤ) (rank : ℕ) where
           (λ ι. done_replay (sym k ι) (a ι) spans)
           ∙ ap₂ (λ (t : Bool) (m : List WindowReplayAxis). where_fits t m spans) fit same
 
-      module _ (h : i < min rank rank_limit) (j : JoinedAxis) (e : j ≡ joined_axis p (axis i)) where
-        pub fusing-over : j ≡ J.Overflow → refused_replay ≡ walk_from first (left 1) spans
+      module _ (h : i < min rank rank_limit) (j : Option JoinedAxis) (e : j ≡ joined_axis p (axis i)) where
+        pub fusing-over : j ≡ None → refused_replay ≡ walk_from first (left 1) spans
         fusing-over o =
             let w : later_fit p (left i) ≡ false = ap (later_fit p) (left-turn i h) ∙ (unfold later_fit in joined-over p (axis i) _ (sym e ∙ o)) in
             ap (λ (t : Bool). where_fits t (merged_from first (left 1)) spans) (sym w ∙ f.fit)
@@ -118,12 +117,12 @@ module _ (ds : List ℕ) (ss ts : List ℤ) (rank : ℕ) where
           same-on : (merge : Bool) → Joined p (axis i) q merge → take n axes ++ cond merge (merged_from q (left (i + 1))) (p ∷ merged_from q (left (i + 1))) ≡ merged_from first (left 1)
           same-on merge k = sym (ap (λ (m : List WindowReplayAxis). take n axes ++ m) (ap (merged_from p) (left-turn i h) ∙ merged-turn p (axis i) q (left (i + 1)) merge k)) ∙ f.same
 
-          pub fusing-merged : j ≡ J.Merged q → Fusing first axes q n (i + 1)
+          pub fusing-merged : j ≡ Some (J.Merged q) → Fusing first axes q n (i + 1)
           fusing-merged o =
               let k = joined-merged p (axis i) q (sym e ∙ o) in
               record { at = omega arith; count = omega (arith, f.count); full = f.full; rest = f.rest; fit = fit_on true k; same = same-on true k }
 
-          pub fusing-apart : j ≡ J.Apart q → Fusing first (set axes n p) q (n + 1) (i + 1)
+          pub fusing-apart : j ≡ Some (J.Apart q) → Fusing first (set axes n p) q (n + 1) (i + 1)
           fusing-apart o =
               let k = joined-apart p (axis i) q (sym e ∙ o) in
               record {

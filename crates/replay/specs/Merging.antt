@@ -1,5 +1,5 @@
 -- What it is that merged axes meet the axes as they were given: the same offsets at every linear index on both sides, as many cells, the same spans. That two axes as one meet the two. For lists of any length; `proofs/Merging.antt` has the theorem. Assumes nothing.
-use Rattle.std.specs.Prelude.{◌≡◌, refl, List, [], ◌∷◌, ℕ, zero, suc, ◌+◌, ◌*◌, ◌-◌, ◌/◌, ◌%◌, ◌<◌, ◌≤◌, length, ℤ, pos, negsuc, neg_ℤ, ◌+ℤ◌, ◌*ℤ◌}
+use Rattle.std.specs.Prelude.{◌≡◌, refl, List, [], ◌∷◌, ℕ, zero, suc, ◌+◌, ◌*◌, ◌-◌, ◌/◌, ◌%◌, ◌<◌, ◌≤◌, length, ℤ, pos, negsuc, neg_ℤ, ◌+ℤ◌, ◌*ℤ◌, Some}
 use Rattle.std.proofs.Common.{sym, ap, ap₂, ◌∙◌, mul-pos, mul-add, arith, SFits}
 use Rattle.std.proofs.Math.IntN.{+ℤ_assoc, neg_ℤ-+ℤ}
 use Rattle.std.specs.Int.{w64}
@@ -9,7 +9,6 @@ use Rattle.indexing.specs.Odometer.{AllPos}
 use Rattle.indexing.specs.Reach.{below_zero, above_zero, lowest, highest}
 use Rattle.indexing.proofs.Reach.{below-neg, above-neg}
 use Rattle.indexing.proofs.Fusion.{dot-fuse, product-fuse}
-use Rattle.layout.specs.declared.OffsetSpan.TheVariants as S
 use Rattle.layout.specs.Layouts.{rank_limit, padded}
 use Rattle.layout.specs.Spans.{spanned}
 use Rattle.replay.specs.declared.WindowReplayAxis.{WindowReplayAxis}
@@ -129,8 +128,8 @@ pub record IsDone (ds : List ℕ) (ss ts : List ℤ) : Type 0 where
   pub meets : Meets ds ss ts axes
   pub source-low : ℤ
   pub source-high : ℤ
-  pub source-span : spanned ds ss ≡ S.Fits source-low source-high
+  pub source-span : spanned ds ss ≡ Some (record { low = source-low; high = source-high })
   pub dest-low : ℤ
   pub dest-high : ℤ
-  pub dest-span : spanned ds ts ≡ S.Fits dest-low dest-high
+  pub dest-span : spanned ds ts ≡ Some (record { low = dest-low; high = dest-high })
   pub is : compiled_replay ds ss ts ≡ done_replay (length axes) (padded rank_limit no_axis axes) (the_spans source-low source-high dest-low dest-high)

@@ -1,17 +1,14 @@
 -- To be believed. The walk of a window over two sides, source and destination (000, `WindowReplay`): document 01's sentence on walks, over exact integers. Definitions only.
-use Rattle.std.specs.Prelude.{Bool, true, false, cond, ◌&&◌, List, [], ◌∷◌, map, ℕ, ◌*◌, ◌^◌, ltb, length, get_or, replicate, ℤ, pos, ◌*ℤ◌}
+use Rattle.std.specs.Prelude.{Bool, true, false, cond, ◌&&◌, List, [], ◌∷◌, map, ℕ, ◌*◌, ◌^◌, ltb, length, get_or, replicate, ℤ, pos, ◌*ℤ◌, Option, Some, None, Ok, Err}
 use Rattle.integer.specs.Defs.{checked, eq_z}
-use Rattle.integer.specs.declared.Checked.{Checked}
-use Rattle.integer.specs.declared.Checked.TheVariants as C
 use Rattle.indexing.specs.Coordinates.{tabulate}
-use Rattle.layout.specs.declared.Answer.TheVariants as N
-use Rattle.layout.specs.declared.OffsetSpan.{OffsetSpan}
-use Rattle.layout.specs.declared.OffsetSpan.TheVariants as S
 use Rattle.layout.specs.Layouts.{rank_limit, padded}
 use Rattle.layout.specs.Spans.{spanned, reset, reset_of}
 use Rattle.replay.specs.declared.WindowReplayAxis.{WindowReplayAxis}
 use Rattle.replay.specs.declared.ReplaySpans.{ReplaySpans}
 use Rattle.replay.specs.declared.CompiledReplay.{CompiledReplay}
+use Rattle.layout.specs.declared.Refusal.TheVariants as F
+use Rattle.layout.specs.declared.Span.{Span}
 
 -- ---- the axes: extent, source step and reset, destination step and reset
 abbrev pub the_axis : ℕ → ℤ → ℤ → ℤ → ℤ → WindowReplayAxis
@@ -46,9 +43,9 @@ merged_axes [] = []
 merged_axes (a ∷ l) = merged_from a l
 
 -- ---- what must fit
-abbrev pub is_fits : Checked → Bool
-is_fits (C.Fits z) = true
-is_fits C.Overflow = false
+abbrev pub is_fits : Option ℤ → Bool
+is_fits (Some z) = true
+is_fits None = false
 
 -- "merged extents must fit u64 .., resets .. i64"
 abbrev pub axis_fits : WindowReplayAxis → Bool
@@ -79,11 +76,11 @@ extents = map (λ (a : WindowReplayAxis). a.extent)
 
 -- the walk keeps rank, extents and spans; its axes stand beside it
 abbrev pub done_replay : ℕ → List WindowReplayAxis → ReplaySpans → CompiledReplay
-done_replay n axes spans = record { answer = N.Done; replay = record { rank = n; extents = extents axes; spans = spans }; axes = axes }
+done_replay n axes spans = record { answer = Ok tt; replay = record { rank = n; extents = extents axes; spans = spans }; axes = axes }
 
 -- where it is refused, by 3, the walk of no axes stands in its place
 abbrev pub refused_replay : CompiledReplay
-refused_replay = record { answer = N.OffsetOverflow; replay = record { rank = 0; extents = replicate rank_limit 1; spans = the_spans (pos 0) (pos 0) (pos 0) (pos 0) }; axes = replicate rank_limit no_axis }
+refused_replay = record { answer = Err F.OffsetOverflow; replay = record { rank = 0; extents = replicate rank_limit 1; spans = the_spans (pos 0) (pos 0) (pos 0) (pos 0) }; axes = replicate rank_limit no_axis }
 
 -- the merged axes l with these spans where all fits, or the refusal; so of the axes of a window
 abbrev pub where_fits : Bool → List WindowReplayAxis → ReplaySpans → CompiledReplay
@@ -93,10 +90,10 @@ abbrev pub walk_of : List WindowReplayAxis → ReplaySpans → CompiledReplay
 walk_of l spans = where_fits (axes_fit l) (merged_axes l) spans
 
 -- "spans of both sides"
-abbrev pub after_spans : OffsetSpan → OffsetSpan → (ReplaySpans → CompiledReplay) → CompiledReplay
-after_spans (S.Fits a b) (S.Fits c d) f = f (the_spans a b c d)
-after_spans (S.Fits a b) S.Overflow f = refused_replay
-after_spans S.Overflow y f = refused_replay
+abbrev pub after_spans : Option Span → Option Span → (ReplaySpans → CompiledReplay) → CompiledReplay
+after_spans (Some source) (Some dest) f = f (the_spans source.low source.high dest.low dest.high)
+after_spans (Some source) None f = refused_replay
+after_spans None y f = refused_replay
 
 -- THE WALK: its merged axes with both spans, or refusal 3
 unfoldable pub compiled_replay : List ℕ → List ℤ → List ℤ → CompiledReplay

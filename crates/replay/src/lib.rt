@@ -6,8 +6,7 @@ ghost use Rattle.std.specs.Prelude.{◌≡◌, take, drop, ◌*◌};
 ghost use Rattle.replay.specs.Replays.{no_axis, axis_of, given_axes, walk_of, done_replay, refused_replay, compiled_replay, extents, rows_of, axes_from};
 ghost use Rattle.replay.specs.Parts.{past, checked_axis, as_merged, as_apart, joined_axis, walk_from};
 
-use integer::{Checked, CheckedU};
-use layout::{Answer, OffsetSpan, RAW_FUSED_RANK_LIMIT};
+use layout::{RAW_FUSED_RANK_LIMIT, Refusal};
 
 // An axis of a walk: its extent, and for each side the step along it and what takes it back from its last place to its
 // first.
@@ -41,16 +40,9 @@ pub struct WindowReplay {
 // refused, the walk of no axes with spans of 0.
 #[derive(Clone, Copy)]
 pub struct CompiledReplay {
-    pub answer: Answer,
+    pub answer: Result<(), Refusal>,
     pub replay: WindowReplay,
     pub axes: [WindowReplayAxis; RAW_FUSED_RANK_LIMIT],
-}
-
-// An axis with its resets, or that one of them does not fit.
-#[derive(Clone, Copy)]
-pub enum CheckedAxis {
-    Fits(WindowReplayAxis),
-    Overflow,
 }
 
 // An axis after another: one axis with it, or an axis of its own.
@@ -58,7 +50,6 @@ pub enum CheckedAxis {
 pub enum JoinedAxis {
     Merged(WindowReplayAxis),
     Apart(WindowReplayAxis),
-    Overflow,
 }
 
 fn no_axis() -> WindowReplayAxis
@@ -73,97 +64,59 @@ fn no_axis() -> WindowReplayAxis
     }
 }
 
-fn make_axis(extent: u64, source: i64, dest: i64) -> CheckedAxis
+// An axis with its resets, where both fit.
+fn make_axis(extent: u64, source: i64, dest: i64) -> Option<WindowReplayAxis>
     ensures { result ≡ checked_axis (axis_of extent source dest) }
 {
-    let source_reset = layout::checked_replay_reset(extent, source);
-    let dest_reset = layout::checked_replay_reset(extent, dest);
-    match source_reset {
-        Checked::Fits(back) => match dest_reset {
-            Checked::Fits(home) => CheckedAxis::Fits(WindowReplayAxis {
-                extent,
-                source_step: source,
-                source_reset: back,
-                dest_step: dest,
-                dest_reset: home,
-            }),
-            Checked::Overflow => CheckedAxis::Overflow,
-        },
-        Checked::Overflow => CheckedAxis::Overflow,
-    }
-}
-
-fn as_merged(a: CheckedAxis) -> JoinedAxis
-    ensures { result ≡ as_merged a }
-{
-    match a {
-        CheckedAxis::Fits(x) => JoinedAxis::Merged(x),
-        CheckedAxis::Overflow => JoinedAxis::Overflow,
-    }
-}
-
-fn as_apart(a: CheckedAxis) -> JoinedAxis
-    ensures { result ≡ as_apart a }
-{
-    match a {
-        CheckedAxis::Fits(x) => JoinedAxis::Apart(x),
-        CheckedAxis::Overflow => JoinedAxis::Overflow,
-    }
+    let source_reset = layout::checked_replay_reset(extent, source)?;
+    let dest_reset = layout::checked_replay_reset(extent, dest)?;
+    Some(WindowReplayAxis {
+        extent,
+        source_step: source,
+        source_reset,
+        dest_step: dest,
+        dest_reset,
+    })
 }
 
 // The step times the whole extent.
-fn past_last(extent: u64, step: i64) -> Checked
+#[tactic(auto, unfolding(crate::specs::Parts::past))]
+fn past_last(extent: u64, step: i64) -> Option<i64>
     ensures { result ≡ past extent step }
 {
-    let size = integer::u64_to_i64(extent);
-    layout::scaled(size, step)
+    let size = integer::u64_to_i64(extent)?;
+    integer::checked_mul_i64(step, size)
 }
 
 // Two axes as one, with the steps of the first.
-fn merge(before: u64, extent: u64, source: i64, dest: i64) -> JoinedAxis
+fn merge(before: u64, extent: u64, source: i64, dest: i64) -> Option<JoinedAxis>
     ensures { result ≡ as_merged (checked_axis (axis_of (before * extent) source dest)) }
 {
-    let size = integer::checked_mul_u64(before, extent);
-    match size {
-        CheckedU::Fits(n) => {
-            let a = make_axis(n, source, dest);
-            as_merged(a)
-        }
-        CheckedU::Overflow => JoinedAxis::Overflow,
-    }
+    let size = integer::checked_mul_u64(before, extent)?;
+    let axis = make_axis(size, source, dest)?;
+    Some(JoinedAxis::Merged(axis))
 }
 
-fn apart(extent: u64, source: i64, dest: i64) -> JoinedAxis
+fn apart(extent: u64, source: i64, dest: i64) -> Option<JoinedAxis>
     ensures { result ≡ as_apart (checked_axis (axis_of extent source dest)) }
 {
-    let a = make_axis(extent, source, dest);
-    as_apart(a)
+    let axis = make_axis(extent, source, dest)?;
+    Some(JoinedAxis::Apart(axis))
 }
 
 // The axis of this extent and these steps after the merged axis `before`.
-fn join(before: WindowReplayAxis, extent: u64, source: i64, dest: i64) -> JoinedAxis
+fn join(before: WindowReplayAxis, extent: u64, source: i64, dest: i64) -> Option<JoinedAxis>
     ensures { result ≡ joined_axis before (axis_of extent source dest) }
 {
-    let size = before.extent;
-    let source_step = before.source_step;
-    let dest_step = before.dest_step;
-    let expected_source = past_last(size, source_step);
-    let expected_dest = past_last(size, dest_step);
-    match expected_source {
-        Checked::Fits(s) => match expected_dest {
-            Checked::Fits(d) => {
-                if source != s {
-                    return apart(extent, source, dest);
-                }
-                if dest != d {
-                    return apart(extent, source, dest);
-                }
-                merge(size, extent, source_step, dest_step)
-            }
-            Checked::Overflow => JoinedAxis::Overflow,
-        },
-        Checked::Overflow => JoinedAxis::Overflow,
+    let next_source = past_last(before.extent, before.source_step)?;
+    let next_dest = past_last(before.extent, before.dest_step)?;
+    if source != next_source {
+        return apart(extent, source, dest);
     }
+    if dest != next_dest {
+        return apart(extent, source, dest);
+    }
+    merge(before.extent, extent, before.source_step, before.dest_step)
 }
 
 pub fn refused_replay() -> CompiledReplay
@@ -173,7 +126,7 @@ pub fn refused_replay() -> CompiledReplay
     let axes = [empty; RAW_FUSED_RANK_LIMIT];
     let extents = [1u64; RAW_FUSED_RANK_LIMIT];
     CompiledReplay {
-        answer: Answer::OffsetOverflow,
+        answer: Err(Refusal::OffsetOverflow),
         replay: WindowReplay {
             rank: 0,
             extents,
@@ -211,7 +164,7 @@ fn done_replay(
 {
     let extents = shape_of(axes);
     CompiledReplay {
-        answer: Answer::Done,
+        answer: Ok(()),
         replay: WindowReplay {
             rank,
             extents,
@@ -237,23 +190,18 @@ fn fuse_rest(
     let mut axes = [empty; RAW_FUSED_RANK_LIMIT];
     let mut last = first;
     let mut n: usize = 0;
-    let mut i: usize = 1;
-    while i < count {
-        let joined = join(last, shape[i], source_strides[i], dest_strides[i]);
-        i += 1;
+    for i in 1..count {
+        let Some(joined) = join(last, shape[i], source_strides[i], dest_strides[i]) else {
+            return refused_replay();
+        };
         match joined {
             JoinedAxis::Merged(axis) => {
                 last = axis;
-                continue;
             }
             JoinedAxis::Apart(axis) => {
                 axes[n] = last;
                 n += 1;
                 last = axis;
-                continue;
-            }
-            JoinedAxis::Overflow => {
-                return refused_replay();
             }
         }
     }
@@ -276,17 +224,9 @@ fn fuse(
         let axes = [empty; RAW_FUSED_RANK_LIMIT];
         return done_replay(0, axes, spans);
     }
-    let first = make_axis(shape[0], source_strides[0], dest_strides[0]);
-    match first {
-        CheckedAxis::Fits(axis) => fuse_rest(
-            axis,
-            shape,
-            source_strides,
-            dest_strides,
-            rank,
-            spans,
-        ),
-        CheckedAxis::Overflow => refused_replay(),
+    match make_axis(shape[0], source_strides[0], dest_strides[0]) {
+        Some(axis) => fuse_rest(axis, shape, source_strides, dest_strides, rank, spans),
+        None => refused_replay(),
     }
 }
 
@@ -299,23 +239,19 @@ pub fn compile_window_replay(
 ) -> CompiledReplay
     ensures { result ≡ compiled_replay (take rank shape) (take rank source_strides) (take rank dest_strides) }
 {
-    let source_span = spans::held_span(shape, source_strides, rank);
-    let dest_span = spans::held_span(shape, dest_strides, rank);
-    match source_span {
-        OffsetSpan::Fits(source_low, source_high) => match dest_span {
-            OffsetSpan::Fits(dest_low, dest_high) => {
-                let spans = ReplaySpans {
-                    source_low,
-                    source_high,
-                    dest_low,
-                    dest_high,
-                };
-                fuse(shape, source_strides, dest_strides, rank, spans)
-            }
-            OffsetSpan::Overflow => refused_replay(),
-        },
-        OffsetSpan::Overflow => refused_replay(),
-    }
+    let Some(source) = spans::held_span(shape, source_strides, rank) else {
+        return refused_replay();
+    };
+    let Some(dest) = spans::held_span(shape, dest_strides, rank) else {
+        return refused_replay();
+    };
+    let spans = ReplaySpans {
+        source_low: source.low,
+        source_high: source.high,
+        dest_low: dest.low,
+        dest_high: dest.high,
+    };
+    fuse(shape, source_strides, dest_strides, rank, spans)
 }
 
 // The rows, one per axis, four numbers in a row: source step, source reset, destination step, destination reset.

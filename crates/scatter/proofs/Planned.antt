@@ -1,4 +1,5 @@
 -- What a plan that fits a call holds. Assumes nothing.
+use Rattle.std.specs.Prelude.{Ok}
 use mathlib.Core.Path.{◌≡◌, refl, sym, ap, ap₂, subst, ◌∙◌}
 use mathlib.Core.Bool.{Bool, true}
 use mathlib.Core.List.{List}
@@ -12,11 +13,9 @@ use Rattle.indexing.specs.Start.{without}
 use Rattle.indexing.specs.Scatter.{Scatter, scatter_dims, window_dims, batch_shape, window_shape, windows}
 use Rattle.indexing.specs.Axes.{length-spread}
 use Rattle.indexing.specs.Steps.{update_batch_steps, update_window_steps, land_steps}
-use Rattle.layout.specs.declared.Answer.{Answer}
-use Rattle.layout.specs.declared.Answer.TheVariants as A
 use Rattle.layout.specs.declared.Reach.{Reach}
 use Rattle.layout.specs.declared.View.{View}
-use Rattle.layout.specs.Answers.{is_done, or_else}
+use Rattle.layout.specs.Answers.{is_done, or_else, Answer}
 use Rattle.layout.specs.Layouts.{rank_limit, padded, extents_of}
 use Rattle.layout.specs.Reach.{buffer_bounds}
 use Rattle.layout.proofs.First.{done-is}
@@ -52,14 +51,14 @@ module _ (p : ScatterPlan) (b w : List (List ℤ)) (ok : is_compiled p b w ≡ t
   abbrev s : Scatter
   s = held_scatter p
 
-  done : is_done (refusal_of A.Done s) ≡ true
+  done : is_done (refusal_of (Ok tt) s) ≡ true
   done = (compiled-is p b w ok).0
 
   is : p ≡ plan_of s
   is = (compiled-is p b w ok).1
 
   fits : Accepted s
-  fits = accepted s A.Done done
+  fits = accepted s (Ok tt) done
 
   batch-is : p.batch ≡ (batch_walk s).replay
   batch-is = ap (λ (q : ScatterPlan). q.batch) is
@@ -185,7 +184,7 @@ module _ (p : ScatterPlan) (b w : List (List ℤ)) (i u d : View) (sn un dn : �
         result = record { extents = ed j; strides = sd j; offset = d.offset };
       }
 
-  at_done : is_done (refusal_of A.Done at) ≡ true
+  at_done : is_done (refusal_of (Ok tt) at) ≡ true
   unfolding spec_refusal batch_walk window_walk batch_shape window_shape windows scatter_dims window_dims update_batch_steps update_window_steps land_steps
   at_done = (compiled-is p b w compiled).0
 
@@ -200,7 +199,7 @@ module _ (p : ScatterPlan) (b w : List (List ℤ)) (i u d : View) (sn un dn : �
   pub ready : (reach : Reach) → reach ≡ reach_in h.result dn → Ready (prepared_by p b i u d reach) h sn un dn
   ready reach er =
       record {
-        accepted = subst (λ (x : Scatter). is_done (refusal_of A.Done x) ≡ true) (sym scatter-is) at_done;
+        accepted = subst (λ (x : Scatter). is_done (refusal_of (Ok tt) x) ≡ true) (sym scatter-is) at_done;
         bounds = tests.1;
         reach = er;
         numbers = at-numbers ∙ ap scatter_numbers (sym scatter-is);

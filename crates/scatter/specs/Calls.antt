@@ -1,9 +1,8 @@
 -- To be believed. A call of a scatter with a plan and the rows of its walks. Definitions only.
 use Rattle.std.specs.Prelude.{Bool, ◌&&◌, List, ℕ, length, ℤ}
 use Rattle.indexing.specs.Scatter.{Scatter}
-use Rattle.layout.specs.declared.Answer.{Answer}
 use Rattle.layout.specs.declared.View.{View}
-use Rattle.layout.specs.Answers.{or_else}
+use Rattle.layout.specs.Answers.{or_else, Answer}
 use Rattle.calls.specs.Calls.{view_of, same_views, plan_refusal, bounds_refusal, ScatterCall}
 use Rattle.scatter_plan.specs.declared.ScatterPlan.{ScatterPlan}
 use Rattle.scatter_plan.specs.Plan.{held_scatter}

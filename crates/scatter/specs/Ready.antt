@@ -1,6 +1,5 @@
 -- What is ready to be moved by a plan. Definitions only.
-use Rattle.std.specs.Prelude.{List, ℤ}
-use Rattle.layout.specs.declared.Answer.TheVariants as A
+use Rattle.std.specs.Prelude.{List, ℤ, Ok}
 use Rattle.layout.specs.declared.Reach.{Reach}
 use Rattle.layout.specs.declared.View.{View}
 use Rattle.replay.specs.Replays.{axes_from}
@@ -14,7 +13,7 @@ use Rattle.scatter.specs.Calls.{scatter_of}
 abbrev pub prepared_by : ScatterPlan → List (List ℤ) → View → View → View → Reach → PreparedScatter
 prepared_by p b i u d reach =
     record {
-      answer = A.Done;
+      answer = Ok tt;
       reach = reach;
       numbers = scatter_numbers (held_scatter p);
       batch_axes = axes_from p.batch.extents b;

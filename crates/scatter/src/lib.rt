@@ -13,7 +13,7 @@ ghost use Rattle.scatter_move.specs.Prepared.{scatter_numbers, Prepares};
 ghost use Rattle.scatter.specs.Calls.{scatter_of, plan_fits, call_answer, by_plan};
 ghost use Rattle.scatter.specs.Ready.{prepared_by};
 
-use layout::{Answer, CallAnswer, RAW_FUSED_RANK_LIMIT, Reach, View};
+use layout::{CallAnswer, RAW_FUSED_RANK_LIMIT, Reach, View};
 use rules::{Rule, RuleF64};
 use scatter_move::{PreparedScatter, ScatterNumbers};
 use scatter_plan::ScatterPlan;
@@ -108,7 +108,7 @@ pub fn prepared_by(
     let extents = batch.extents;
     let batch_axes = replay::axes_from(extents, batch_rows);
     PreparedScatter {
-        answer: Answer::Done,
+        answer: Ok(()),
         reach,
         numbers,
         batch_axes,

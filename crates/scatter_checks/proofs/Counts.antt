@@ -1,4 +1,5 @@
 -- Where nothing before the walks refuses, the counts are as the walks need them. Assumes nothing.
+use Rattle.std.specs.Prelude.{Ok, Err}
 use mathlib.Core.Path.{◌≡◌, refl, sym, ap, ◌∙◌}
 use mathlib.Core.Bool.{Bool, true, false, cond, ◌&&◌}
 use mathlib.Core.List.{List, [], ◌∷◌}
@@ -10,7 +11,6 @@ use lib.IntN.{ℤ}
 use Rattle.indexing.specs.Coordinates.{rank, pick, others}
 use Rattle.indexing.specs.Start.{without}
 use Rattle.indexing.specs.Scatter.{Scatter, scatter_dims, window_dims, batch_shape}
-use Rattle.layout.specs.declared.Answer.TheVariants as A
 use Rattle.layout.specs.Answers.{is_done}
 use Rattle.axis_lists.specs.Held.{same_list}
 use Rattle.axis_lists.proofs.Filling.{length_without}
@@ -19,6 +19,7 @@ use Rattle.checks.proofs.Made.{or-done}
 use Rattle.checks.proofs.Fits.{same-count}
 use Rattle.scatter_checks.specs.Refusals.{lists_refusal, counts_refusal, batch_refusal, axes_refusal}
 use Rattle.scatter_checks.specs.Examine.{Counted}
+use Rattle.layout.specs.declared.Refusal.TheVariants as F
 
 same_length : (xs ys : List ℕ) → same_list xs ys ≡ true → length xs ≡ length ys
 unfolding same_list
@@ -31,10 +32,10 @@ same_length (a ∷ xs) (b ∷ ys) e = go (eqb a b) e (same_length xs ys)
     go true h ih = ap suc (ih h)
     go false h ih = let z : ◌≡◌ {A = ℕ} 0 1 = cc in absurd (omega arith)
 
-same-batch : (n : ℕ) (xs ys : List ℕ) → is_done (cond (same_list xs ys) A.Done (A.ShapeMismatch n n)) ≡ true → length xs ≡ length ys
+same-batch : (n : ℕ) (xs ys : List ℕ) → is_done (cond (same_list xs ys) (Ok tt) (Err (F.ShapeMismatch n n))) ≡ true → length xs ≡ length ys
 same-batch n xs ys e = go (same_list xs ys) refl e
   where
-    go : (t : Bool) → same_list xs ys ≡ t → is_done (cond t A.Done (A.ShapeMismatch n n)) ≡ true → length xs ≡ length ys
+    go : (t : Bool) → same_list xs ys ≡ t → is_done (cond t (Ok tt) (Err (F.ShapeMismatch n n))) ≡ true → length xs ≡ length ys
     go true f h = same_length xs ys f
     go false f h = let z : ◌≡◌ {A = ℕ} 0 1 = cc in absurd (omega arith)
 

@@ -1,4 +1,5 @@
 -- What is found of a scatter is what is asked. Assumes nothing.
+use Rattle.std.specs.Prelude.{Ok}
 use mathlib.Core.Path.{◌≡◌, refl, sym, ap, ◌∙◌}
 use mathlib.Core.Bool.{Bool, true, false, cond}
 use mathlib.Core.List.{List}
@@ -6,9 +7,7 @@ use Prim.Native.Nat.{ℕ}
 use lib.ListN.{length}
 use lib.IntN.{ℤ}
 use Rattle.indexing.specs.Scatter.{Scatter}
-use Rattle.layout.specs.declared.Answer.{Answer}
-use Rattle.layout.specs.declared.Answer.TheVariants as A
-use Rattle.layout.specs.Answers.{is_done, or_else}
+use Rattle.layout.specs.Answers.{is_done, or_else, Answer}
 use Rattle.checks.specs.Checks.{layouts_refusal}
 use Rattle.checks.proofs.Made.{or-done}
 use Rattle.checks.proofs.Held.{never, Lengths, lengths-pass}
@@ -30,7 +29,7 @@ fitting s e =
     record { index = l.operand; updates = l.index; dest = l.dest; index-few = l.operand-few; updates-few = l.index-few; dest-few = l.dest-few }
 
 -- ---- 4 not tried again
-pub done-again : (four : Answer) (s : Scatter) → is_done (refusal_of four s) ≡ true → is_done (refusal_of A.Done s) ≡ true
+pub done-again : (four : Answer) (s : Scatter) → is_done (refusal_of four s) ≡ true → is_done (refusal_of (Ok tt) s) ≡ true
 done-again four s e =
     let t = or-done (sizes_of s) (or_else four (spec_refusal s)) e in
     ap (λ (b : Bool). is_done (cond b (spec_refusal s) (sizes_of s))) t.0 ∙ (or-done four (spec_refusal s) t.1).1

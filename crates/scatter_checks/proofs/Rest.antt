@@ -10,8 +10,7 @@ use Rattle.indexing.specs.Start.{without}
 use Rattle.indexing.specs.Scatter.{Scatter, scatter_dims, window_dims, batch_shape, window_shape, windows}
 use Rattle.indexing.specs.Steps.{vector_stride, update_batch_steps, update_window_steps, land_steps}
 use Rattle.indexing.specs.Axes.{length-pick}
-use Rattle.layout.specs.declared.Answer.{Answer}
-use Rattle.layout.specs.Answers.{or_else}
+use Rattle.layout.specs.Answers.{or_else, Answer}
 use Rattle.layout.specs.Layouts.{rank_limit}
 use Rattle.layout.specs.Spans.{total_of}
 use Rattle.axis_lists.proofs.Filling.{length-others}

@@ -1,11 +1,9 @@
 -- What is found of a scatter: its first refusal, and where there is none its two walks. Definitions only.
-use Rattle.std.specs.Prelude.{◌≡◌, true, List, [], ◌∷◌, ℕ, ◌≤◌, length}
+use Rattle.std.specs.Prelude.{◌≡◌, true, List, [], ◌∷◌, ℕ, ◌≤◌, length, Ok}
 use Rattle.indexing.specs.Coordinates.{rank, others}
 use Rattle.indexing.specs.Start.{without}
 use Rattle.indexing.specs.Scatter.{Scatter, scatter_dims, window_dims, batch_shape}
-use Rattle.layout.specs.declared.Answer.{Answer}
-use Rattle.layout.specs.declared.Answer.TheVariants as A
-use Rattle.layout.specs.Answers.{is_done}
+use Rattle.layout.specs.Answers.{is_done, Answer}
 use Rattle.layout.specs.Layouts.{rank_limit}
 use Rattle.replay.specs.declared.CompiledReplay.{CompiledReplay}
 use Rattle.scatter_checks.specs.declared.Examined.{Examined}
@@ -43,7 +41,7 @@ walks_of s = record { answer = walks_refusal s; batch = batch_walk s; window = w
 
 -- a scatter that is not refused, with its walks from batch to batch and from cell to cell of a window
 pub record Found (s : Scatter) (batch window : CompiledReplay) : Type 0 where
-  pub accepted : is_done (refusal_of A.Done s) ≡ true
+  pub accepted : is_done (refusal_of (Ok tt) s) ≡ true
   pub batch-is : batch ≡ batch_walk s
   pub window-is : window ≡ window_walk s
 

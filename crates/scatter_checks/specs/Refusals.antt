@@ -1,18 +1,17 @@
 -- To be believed. "Scatter": document 01's refusals of a scatter, in its order; the first hit counts. Definitions only.
-use Rattle.std.specs.Prelude.{cond, List, [], ℕ, ◌-◌, leb, length, ℤ}
+use Rattle.std.specs.Prelude.{cond, List, [], ℕ, ◌-◌, leb, length, ℤ, Ok, Err}
 use Rattle.indexing.specs.Coordinates.{pick, others}
 use Rattle.indexing.specs.Start.{without}
 use Rattle.indexing.specs.Scatter.{Scatter, batch_shape, window_shape, windows}
 use Rattle.indexing.specs.Steps.{vector_stride, update_batch_steps, update_window_steps, land_steps}
-use Rattle.layout.specs.declared.Answer.{Answer}
-use Rattle.layout.specs.declared.Answer.TheVariants as A
-use Rattle.layout.specs.Answers.{or_else}
+use Rattle.layout.specs.Answers.{or_else, Answer}
 use Rattle.layout.specs.Lists.{unique_axes}
 use Rattle.layout.specs.Spans.{total_of, spanned}
 use Rattle.axis_lists.specs.Held.{same_list}
 use Rattle.checks.specs.Checks.{first_of, total_fits, span_fits, nested_refusal, same_count, vector_axis, components_of, windows_fit, view_from, layouts_refusal, offset_fits}
 use Rattle.replay.specs.declared.CompiledReplay.{CompiledReplay}
 use Rattle.replay.specs.Replays.{compiled_replay}
+use Rattle.layout.specs.declared.Refusal.TheVariants as F
 
 -- a scatter from its layouts and its spec's lists; where its views begin does not matter to a plan
 abbrev pub scatter_from : List ℕ → List ℤ → List ℕ → List ℤ → List ℕ → List ℤ → List ℕ → List ℕ → List ℕ → ℕ → Scatter
@@ -40,7 +39,7 @@ lists_refusal ie de inserted map vector =
 
 -- 5 where a count is above another
 abbrev pub count_at_most : ℕ → ℕ → Answer
-count_at_most a b = cond (leb a b) A.Done (A.RankMismatch a b)
+count_at_most a b = cond (leb a b) (Ok tt) (Err (F.RankMismatch a b))
 
 -- "window axis count against kept axes (5); that count above update rank (5); update rank less that count, against batch rank (5);
 -- window axes (6, b = update rank)"
@@ -52,7 +51,7 @@ counts_refusal ie ue de window inserted vector =
 -- "batch extents (7)": those of the updates on their other axes against those of the index view without the vector axis
 abbrev pub batch_refusal : List ℕ → List ℕ → List ℕ → ℕ → Answer
 batch_refusal ie ue window vector =
-    cond (same_list (pick 0 (others (length ue) window) ue) (without vector ie)) A.Done (A.ShapeMismatch (length ue) (length ue))
+    cond (same_list (pick 0 (others (length ue) window) ue) (without vector ie)) (Ok tt) (Err (F.ShapeMismatch (length ue) (length ue)))
 
 -- all that is asked after 4 and before the window's own
 abbrev pub axes_refusal : Scatter → Answer
@@ -88,6 +87,6 @@ refusal_of four s =
     or_else (sizes_refusal s.indices.extents s.indices.strides s.updates.extents s.updates.strides s.result.extents s.result.strides)
     (or_else four (spec_refusal s))
 
--- compile's: 4 where the destination is not nested. "4 not tried again" at a call: `refusal_of A.Done`
+-- compile's: 4 where the destination is not nested. "4 not tried again" at a call: `refusal_of (Ok tt)`
 abbrev pub compile_refusal : Scatter → Answer
 compile_refusal s = refusal_of (nested_refusal s.result.extents s.result.strides) s

@@ -1,9 +1,8 @@
 // Scatter: compile's checks in the order of document 01, over lent extents and strides, and the two walks of its plan.
 #![tactic(auto)]
 
-ghost use Rattle.std.specs.Prelude.{◌≡◌, true, cond, [], ◌-◌, ◌≤◌, min, length, pos};
+ghost use Rattle.std.specs.Prelude.{◌≡◌, true, cond, [], ◌-◌, ◌≤◌, min, length, pos, Ok, Err};
 ghost use Rattle.indexing.specs.Coordinates.{pick, spread};
-ghost use Rattle.layout.specs.declared.Answer.TheVariants as Ans;
 ghost use Rattle.layout.specs.Answers.{is_done, or_else};
 ghost use Rattle.layout.specs.Layouts.{rank_limit, padded};
 ghost use Rattle.layout.specs.Lists.{unique_axes};
@@ -13,20 +12,21 @@ ghost use Rattle.checks.specs.Checks.{total_fits, nested_refusal, same_count, wi
 ghost use Rattle.replay.specs.Replays.{compiled_replay};
 ghost use Rattle.scatter_checks.specs.Refusals.{scatter_from, numbers_refusal, sizes_refusal, lists_refusal, count_at_most, axes_refusal, compile_refusal};
 ghost use Rattle.scatter_checks.specs.Examine.{Listed, Walkable, walks_of, Examines};
+ghost use Rattle.layout.specs.declared.Refusal.TheVariants as F;
 
-use layout::{Answer, RAW_FUSED_RANK_LIMIT};
+use layout::{Refusal, RAW_FUSED_RANK_LIMIT};
 use replay::CompiledReplay;
 
 // What compile answers; where that is Done, the walks from batch to batch and from cell to cell of a window.
 #[derive(Clone, Copy)]
 pub struct Examined {
-    pub answer: Answer,
+    pub answer: Result<(), Refusal>,
     pub batch: CompiledReplay,
     pub window: CompiledReplay,
 }
 
 // What is refused before the axes are looked at.
-pub fn unexamined(answer: Answer) -> Examined
+pub fn unexamined(answer: Result<(), Refusal>) -> Examined
     ensures { result.answer ≡ answer }
 {
     let none = replay::refused_replay();
@@ -38,7 +38,7 @@ pub fn unexamined(answer: Answer) -> Examined
 }
 
 // 3 for the products and the destination's span.
-fn check_numbers(index: &[u64], updates: &[u64], extents: &[u64], strides: &[i64]) -> Answer
+fn check_numbers(index: &[u64], updates: &[u64], extents: &[u64], strides: &[i64]) -> Result<(), Refusal>
     requires { length strides.now ≡ length extents.now }
     ensures { result ≡ numbers_refusal index.now updates.now extents.now strides.now }
 {
@@ -50,7 +50,7 @@ fn check_numbers(index: &[u64], updates: &[u64], extents: &[u64], strides: &[i64
 }
 
 // 1 and 2, then 3 for products and span: what is asked before 4.
-fn check_sizes(ie: &[u64], is: &[i64], ue: &[u64], us: &[i64], de: &[u64], ds: &[i64]) -> Answer
+fn check_sizes(ie: &[u64], is: &[i64], ue: &[u64], us: &[i64], de: &[u64], ds: &[i64]) -> Result<(), Refusal>
     ensures { result ≡ sizes_refusal ie.now is.now ue.now us.now de.now ds.now }
 {
     let lengths = checks::check_layouts(ie.len(), is.len(), ue.len(), us.len(), de.len(), ds.len());
@@ -61,7 +61,7 @@ fn check_sizes(ie: &[u64], is: &[i64], ue: &[u64], us: &[i64], de: &[u64], ds: &
 }
 
 // 6 for the inserted axes, the scatter map and the vector axis, then 5 for the component count.
-fn check_lists(index: &[u64], dest: &[u64], inserted: &[u64], map: &[u64], vector: u64) -> Answer
+fn check_lists(index: &[u64], dest: &[u64], inserted: &[u64], map: &[u64], vector: u64) -> Result<(), Refusal>
     ensures { result ≡ lists_refusal index.now dest.now inserted.now map.now vector }
 {
     let rank = dest.len() as u64;
@@ -74,13 +74,13 @@ fn check_lists(index: &[u64], dest: &[u64], inserted: &[u64], map: &[u64], vecto
 }
 
 // 5 where a count is above another.
-fn check_at_most(a: u64, b: u64) -> Answer
+fn check_at_most(a: u64, b: u64) -> Result<(), Refusal>
     ensures { result ≡ count_at_most a b }
 {
     if a <= b {
-        Answer::Done
+        Ok(())
     } else {
-        Answer::RankMismatch(a, b)
+        Err(Refusal::RankMismatch(a, b))
     }
 }
 
@@ -92,7 +92,7 @@ fn less(a: u64, b: u64) -> u64
 }
 
 // 5 for the counts of window axes, against kept axes, and of batch axes, then 6 for the window axes.
-fn check_counts(updates: &[u64], window: &[u64], kept: usize, batch: usize) -> Answer
+fn check_counts(updates: &[u64], window: &[u64], kept: usize, batch: usize) -> Result<(), Refusal>
     ensures { result ≡ or_else (same_count (length window.now) kept) (or_else (count_at_most (length window.now) (length updates.now)) (or_else (same_count (length updates.now - length window.now) batch) (unique_axes (length updates.now) [] window.now))) }
 {
     let count = window.len() as u64;
@@ -106,14 +106,14 @@ fn check_counts(updates: &[u64], window: &[u64], kept: usize, batch: usize) -> A
 }
 
 // 7 where the batch extents of the updates are not those of the index view.
-fn check_batch(updates: &[u64], batch: &[u64], index: &[u64], starts: &[u64]) -> Answer
-    ensures { result ≡ cond (same_list (pick 0 batch.now updates.now) (pick 0 starts.now index.now)) Ans.Done (Ans.ShapeMismatch (length updates.now) (length updates.now)) }
+fn check_batch(updates: &[u64], batch: &[u64], index: &[u64], starts: &[u64]) -> Result<(), Refusal>
+    ensures { result ≡ cond (same_list (pick 0 batch.now updates.now) (pick 0 starts.now index.now)) (Ok tt) (Err (F.ShapeMismatch (length updates.now) (length updates.now))) }
 {
     let rank = updates.len() as u64;
     if axis_lists::picked_same(batch, updates, starts, index) {
-        Answer::Done
+        Ok(())
     } else {
-        Answer::ShapeMismatch(rank, rank)
+        Err(Refusal::ShapeMismatch(rank, rank))
     }
 }
 
@@ -133,7 +133,7 @@ fn check_axes(
     kept: &[u64],
     batch: &[u64],
     starts: &[u64],
-) -> Answer
+) -> Result<(), Refusal>
     requires { Listed (scatter_from index_extents.now index_strides.now updates_extents.now updates_strides.now dest_extents.now dest_strides.now window.now inserted.now map.now vector) kept.now batch.now starts.now }
     ensures { result ≡ axes_refusal (scatter_from index_extents.now index_strides.now updates_extents.now updates_strides.now dest_extents.now dest_strides.now window.now inserted.now map.now vector) }
 {
@@ -183,7 +183,7 @@ pub fn spread_windows(
 }
 
 // 6 for the first window above its extent.
-fn check_windows(dest: &[u64], kept: &[u64], window: &[u64], updates: &[u64]) -> Answer
+fn check_windows(dest: &[u64], kept: &[u64], window: &[u64], updates: &[u64]) -> Result<(), Refusal>
     requires { (length window.now ≡ length kept.now) × (length dest.now ≤ rank_limit) }
     ensures { result ≡ windows_fit 0 dest.now (spread 1 (length dest.now) kept.now (pick 0 window.now updates.now)) }
 {
@@ -193,7 +193,7 @@ fn check_windows(dest: &[u64], kept: &[u64], window: &[u64], updates: &[u64]) ->
 }
 
 // 3 where the product of the extents on the axes does not fit.
-fn check_product(axes: &[u64], list: &[u64]) -> Answer
+fn check_product(axes: &[u64], list: &[u64]) -> Result<(), Refusal>
     requires { length axes.now ≤ rank_limit }
     ensures { result ≡ total_fits (total_of (pick 0 axes.now list.now)) }
 {
@@ -284,7 +284,7 @@ fn examine_axes(
     inserted: &[u64],
     map: &[u64],
     vector: u64,
-    four: Answer,
+    four: Result<(), Refusal>,
     kept: &[u64],
     batch: &[u64],
     starts: &[u64],
@@ -340,7 +340,7 @@ pub fn examine_from(
     inserted_window_dims: &[u64],
     scatter_dims_to_operand_dims: &[u64],
     index_vector_dim: u64,
-    four: Answer,
+    four: Result<(), Refusal>,
 ) -> Examined
     requires { is_done (sizes_refusal index_extents.now index_strides.now updates_extents.now updates_strides.now dest_extents.now dest_strides.now) ≡ true }
     ensures { Examines result four (scatter_from index_extents.now index_strides.now updates_extents.now updates_strides.now dest_extents.now dest_strides.now update_window_dims.now inserted_window_dims.now scatter_dims_to_operand_dims.now index_vector_dim) }
@@ -428,7 +428,7 @@ pub fn examine_again(
     scatter_dims_to_operand_dims: &[u64],
     index_vector_dim: u64,
 ) -> Examined
-    ensures { Examines result Ans.Done (scatter_from index_extents.now index_strides.now updates_extents.now updates_strides.now dest_extents.now dest_strides.now update_window_dims.now inserted_window_dims.now scatter_dims_to_operand_dims.now index_vector_dim) }
+    ensures { Examines result (Ok tt) (scatter_from index_extents.now index_strides.now updates_extents.now updates_strides.now dest_extents.now dest_strides.now update_window_dims.now inserted_window_dims.now scatter_dims_to_operand_dims.now index_vector_dim) }
 {
     let sizes = check_sizes(
         index_extents,
@@ -452,7 +452,7 @@ pub fn examine_again(
         inserted_window_dims,
         scatter_dims_to_operand_dims,
         index_vector_dim,
-        Answer::Done,
+        Ok(()),
     )
 }
 
@@ -468,7 +468,7 @@ pub fn scatter_refusal(
     inserted_window_dims: &[u64],
     scatter_dims_to_operand_dims: &[u64],
     index_vector_dim: u64,
-) -> Answer
+) -> Result<(), Refusal>
     ensures { result ≡ compile_refusal (scatter_from index_extents.now index_strides.now updates_extents.now updates_strides.now dest_extents.now dest_strides.now update_window_dims.now inserted_window_dims.now scatter_dims_to_operand_dims.now index_vector_dim) }
 {
     let found = examine(

@@ -1,4 +1,5 @@
 -- What a call by lists decides. Assumes nothing.
+use Rattle.std.specs.Prelude.{Ok, Err}
 use mathlib.Core.Path.{◌≡◌, refl, sym, ap, subst, ◌∙◌}
 use mathlib.Core.Bool.{Bool, true, false, cond}
 use mathlib.Core.List.{List}
@@ -9,10 +10,8 @@ use Rattle.integer.specs.Tests.{and-true, and_both}
 use Rattle.indexing.specs.Coordinates.{View, rank, pick, spread, others, tabulate}
 use Rattle.indexing.specs.Scatter.{Scatter, scatter_dims, window_dims, batch_shape, window_shape, windows}
 use Rattle.indexing.specs.Steps.{vector_stride, update_batch_steps, update_window_steps, land_steps}
-use Rattle.layout.specs.declared.Answer.{Answer}
-use Rattle.layout.specs.declared.Answer.TheVariants as A
 use Rattle.layout.specs.declared.Reach.{Reach}
-use Rattle.layout.specs.Answers.{is_done, or_else}
+use Rattle.layout.specs.Answers.{is_done, or_else, Answer}
 use Rattle.layout.specs.Layouts.{rank_limit, padded}
 use Rattle.layout.specs.Reach.{buffer_bounds}
 use Rattle.layout.proofs.First.{done-is}
@@ -31,11 +30,12 @@ use Rattle.scatter_move.specs.Prepared.{steps_at, scatter_numbers, start_base, R
 use Rattle.scatter_move.specs.declared.ScatterNumbers.{ScatterNumbers}
 use Rattle.scatter_move.specs.declared.PreparedScatter.{PreparedScatter}
 use Rattle.scatter_lists.specs.Lists.{on_views, placed, lists_answer, prepared_at}
+use Rattle.layout.specs.declared.Refusal.TheVariants as F
 
 -- ---- the numbers by what was found
 module _ (s : Scatter) (batch window : CompiledReplay) (q : Found s batch window) where
   pub fits : Accepted s
-  fits = accepted s A.Done q.accepted
+  fits = accepted s (Ok tt) q.accepted
 
   -- as many window axes as the destination has axes that are not inserted
   pub counted : length s.spec.update-window-dims ≡ length (others (rank s.result) s.spec.inserted-window-dims)
@@ -88,7 +88,7 @@ module _ (s : Scatter) (a b c : ℤ) where
   pub placed-answer : (sn un dn : ℕ) → or_else (compile_refusal s) (bounds_refusal h.indices h.updates h.result sn un dn) ≡ lists_answer s h sn un dn
   placed-answer sn un dn = sym (ap (λ (t : Bool). or_else (compile_refusal s) (or_else (plan_refusal t) (bounds_refusal h.indices h.updates h.result sn un dn))) same-placed)
 
-  done-placed : is_done (refusal_of A.Done s) ≡ true → is_done (refusal_of A.Done h) ≡ true
+  done-placed : is_done (refusal_of (Ok tt) s) ≡ true → is_done (refusal_of (Ok tt) h) ≡ true
   unfolding spec_refusal batch_walk window_walk batch_shape window_shape windows scatter_dims window_dims update_batch_steps update_window_steps land_steps
   done-placed e = e
 
@@ -101,7 +101,7 @@ module _ (s : Scatter) (a b c : ℤ) where
   batch-placed = refl
 
   -- what is prepared for views that pass the test of 9 is ready
-  pub ready_at : is_done (refusal_of A.Done s) ≡ true → (sn un dn : ℕ) (reach : Reach) → reach ≡ reach_in h.result dn → is_done (bounds_refusal h.indices h.updates h.result sn un dn) ≡ true → Ready (prepared_at s a b c reach) h sn un dn
+  pub ready_at : is_done (refusal_of (Ok tt) s) ≡ true → (sn un dn : ℕ) (reach : Reach) → reach ≡ reach_in h.result dn → is_done (bounds_refusal h.indices h.updates h.result sn un dn) ≡ true → Ready (prepared_at s a b c reach) h sn un dn
   ready_at q sn un dn reach er d =
       record {
         accepted = done-placed q;
@@ -116,9 +116,9 @@ module _ (s : Scatter) (a b c : ℤ) where
 
   -- what was made of the numbers that were found
   pub prepared-is : {batch window : CompiledReplay} → Found s batch window → {reach : Reach} {n : ScatterNumbers} {i u d : ℤ} → n ≡ scatter_numbers s → i ≡ start_base h → u ≡ b → d ≡ c
-      → ◌≡◌ {A = PreparedScatter} (record { answer = A.Done; reach = reach; numbers = n; batch_axes = batch.axes; index = i; updates = u; dest = d }) (prepared_at s a b c reach)
+      → ◌≡◌ {A = PreparedScatter} (record { answer = Ok tt; reach = reach; numbers = n; batch_axes = batch.axes; index = i; updates = u; dest = d }) (prepared_at s a b c reach)
   prepared-is q {reach = reach} en ei eu ed =
-      λ j. record { answer = A.Done; reach = reach; numbers = en j; batch_axes = (q.batch-is j).axes; index = ei j; updates = eu j; dest = ed j }
+      λ j. record { answer = Ok tt; reach = reach; numbers = en j; batch_axes = (q.batch-is j).axes; index = ei j; updates = eu j; dest = ed j }
 
   module _ (sn un dn : ℕ) where
     -- compile refuses
@@ -148,10 +148,10 @@ module _ (s : Scatter) (a b c : ℤ) where
           }
 
 -- an answer, and 8 after it, refuse
-pub refuses : (w : Answer) → is_done (or_else w A.PlanLayoutMismatch) ≡ false
+pub refuses : (w : Answer) → is_done (or_else w (Err F.PlanLayoutMismatch)) ≡ false
 refuses w = go (is_done w) refl
   where
-    go : (b : Bool) → is_done w ≡ b → is_done (cond b A.PlanLayoutMismatch w) ≡ false
+    go : (b : Bool) → is_done w ≡ b → is_done (cond b (Err F.PlanLayoutMismatch) w) ≡ false
     go true e = refl
     go false e = e
 
@@ -173,7 +173,7 @@ module _ (s : Scatter) (x y z : View) (sn un dn : ℕ) where
       → Prepares r (lists_answer s (placed s x.offset y.offset z.offset) sn un dn) (placed s x.offset y.offset z.offset) sn un dn → Prepares r (lists_answer s (on_views s x y z) sn un dn) (on_views s x y z) sn un dn
   same-views r e d p = subst (λ (h : Scatter). Prepares r (lists_answer s h sn un dn) h sn un dn) (views-are (sym e ∙ d)) p
 
-  pub other-views : (r : PreparedScatter) {t : Bool} {first answer : Answer} → t ≡ all → t ≡ false → first ≡ compile_refusal s → answer ≡ or_else first A.PlanLayoutMismatch → r.answer ≡ answer → Prepares r (lists_answer s (on_views s x y z) sn un dn) (on_views s x y z) sn un dn
+  pub other-views : (r : PreparedScatter) {t : Bool} {first answer : Answer} → t ≡ all → t ≡ false → first ≡ compile_refusal s → answer ≡ or_else first (Err F.PlanLayoutMismatch) → r.answer ≡ answer → Prepares r (lists_answer s (on_views s x y z) sn un dn) (on_views s x y z) sn un dn
   other-views r {first = first} e d f k m =
-      let l : lists_answer s (on_views s x y z) sn un dn ≡ or_else (compile_refusal s) A.PlanLayoutMismatch = ap (λ (b : Bool). or_else (compile_refusal s) (or_else (plan_refusal b) (bounds_refusal x y z sn un dn))) (sym e ∙ d) in
-      record { answered = m ∙ k ∙ ap (λ (w : Answer). or_else w A.PlanLayoutMismatch) f ∙ sym l; ready = λ t. never (sym t ∙ ap is_done l ∙ refuses (compile_refusal s)) }
+      let l : lists_answer s (on_views s x y z) sn un dn ≡ or_else (compile_refusal s) (Err F.PlanLayoutMismatch) = ap (λ (b : Bool). or_else (compile_refusal s) (or_else (plan_refusal b) (bounds_refusal x y z sn un dn))) (sym e ∙ d) in
+      record { answered = m ∙ k ∙ ap (λ (w : Answer). or_else w (Err F.PlanLayoutMismatch)) f ∙ sym l; ready = λ t. never (sym t ∙ ap is_done l ∙ refuses (compile_refusal s)) }

@@ -1,11 +1,9 @@
 -- To be believed. A call of a scatter by lists: what compile is given, and apart from it the views of the call. Definitions only.
-use Rattle.std.specs.Prelude.{List, ℕ, length, ℤ}
+use Rattle.std.specs.Prelude.{List, ℕ, length, ℤ, Ok}
 use Rattle.indexing.specs.Coordinates.{View}
 use Rattle.indexing.specs.Scatter.{Scatter}
-use Rattle.layout.specs.declared.Answer.{Answer}
-use Rattle.layout.specs.declared.Answer.TheVariants as A
 use Rattle.layout.specs.declared.Reach.{Reach}
-use Rattle.layout.specs.Answers.{or_else}
+use Rattle.layout.specs.Answers.{or_else, Answer}
 use Rattle.calls.specs.Calls.{view_with, same_views, plan_refusal, bounds_refusal, ScatterCall}
 use Rattle.scatter_checks.specs.Refusals.{batch_walk, compile_refusal}
 use Rattle.scatter_move.specs.Prepared.{scatter_numbers, start_base, Prepares}
@@ -39,4 +37,4 @@ ListedAt r s a b c sn un dn = Prepares r (lists_answer s (placed s a b c) sn un 
 -- what is ready to be moved: the numbers of a scatter that is not refused, and where its views begin
 abbrev pub prepared_at : Scatter → ℤ → ℤ → ℤ → Reach → PreparedScatter
 prepared_at s a b c reach =
-    record { answer = A.Done; reach = reach; numbers = scatter_numbers s; batch_axes = (batch_walk s).axes; index = start_base (placed s a b c); updates = b; dest = c }
+    record { answer = Ok tt; reach = reach; numbers = scatter_numbers s; batch_axes = (batch_walk s).axes; index = start_base (placed s a b c); updates = b; dest = c }

@@ -11,7 +11,7 @@ ghost use Rattle.scatter_checks.specs.Examine.{Found};
 ghost use Rattle.scatter_move.specs.Prepared.{scatter_numbers};
 ghost use Rattle.scatter_lists.specs.Lists.{ListedOn, ListedAt, prepared_at};
 
-use layout::{Answer, RAW_FUSED_RANK_LIMIT, Reach};
+use layout::{Refusal, RAW_FUSED_RANK_LIMIT, Reach};
 use replay::CompiledReplay;
 use scatter_move::{PreparedScatter, ScatterNumbers};
 
@@ -134,7 +134,7 @@ pub fn prepared_from(
     let base = components::start_base(scatter_dims_to_operand_dims.len(), index_offset);
     let batch_axes = from_batch.axes;
     PreparedScatter {
-        answer: Answer::Done,
+        answer: Ok(()),
         reach,
         numbers,
         batch_axes,
@@ -293,6 +293,6 @@ pub fn prepare_views(
         scatter_dims_to_operand_dims,
         index_vector_dim,
     );
-    let answer = checks::or_else(refusal, Answer::PlanLayoutMismatch);
+    let answer = checks::or_else(refusal, Err(Refusal::PlanLayoutMismatch));
     scatter_move::refused(answer)
 }

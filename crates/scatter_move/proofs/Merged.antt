@@ -1,4 +1,5 @@
 -- A walk that compile merged, as the arrays that the cells are walked with: the same places, and as many. Assumes nothing.
+use Rattle.std.specs.Prelude.{Ok}
 use mathlib.Core.Path.{◌≡◌, refl, sym, ap, ap₂, subst, ◌∙◌}
 use mathlib.Core.List.{List, [], ◌∷◌, map}
 use Prim.Native.Nat.{ℕ, zero, suc, ◌<◌, ◌≤◌, ◌^◌}
@@ -12,7 +13,6 @@ use Rattle.indexing.proofs.Updates.{length-tabulate, get_d_tabulate}
 use Rattle.indexing.specs.Odometer.{offset_at}
 use Rattle.indexing.specs.Axes.{get_d_any}
 use Rattle.layout.specs.Layouts.{rank_limit, padded}
-use Rattle.layout.specs.declared.Answer.TheVariants as N
 use Rattle.axis_lists.proofs.Filling.{entry-below, read_back}
 use Rattle.replay.specs.declared.WindowReplayAxis.{WindowReplayAxis}
 use Rattle.replay.specs.declared.CompiledReplay.{CompiledReplay}
@@ -92,7 +92,7 @@ module _ (ds : List ℕ) (ss ts : List ℤ) (ls : length ss ≡ length ds) (lt :
         dest = λ base k. ap₂ (λ (x : List ℕ) (y : List ℤ). base +ℤ dot y (unravel x k)) e u ∙ ap (λ (x : ℤ). base +ℤ x) (m.dest.offset k);
       }
 
-  pub walked : (c : CompiledReplay) → c ≡ compiled_replay ds ss ts → c.answer ≡ N.Done → Walked ds ss ts c.replay.extents (steps_at 0 (rows_of c.axes)) (steps_at 2 (rows_of c.axes)) c.replay.rank
+  pub walked : (c : CompiledReplay) → c ≡ compiled_replay ds ss ts → c.answer ≡ Ok tt → Walked ds ss ts c.replay.extents (steps_at 0 (rows_of c.axes)) (steps_at 2 (rows_of c.axes)) c.replay.rank
   walked c e done =
       let d : IsDone ds ss ts = compiled-done ds ss ts ls lt (ap (λ (x : CompiledReplay). x.answer) (sym e) ∙ done) in
       subst (λ (x : CompiledReplay). Walked ds ss ts x.replay.extents (steps_at 0 (rows_of x.axes)) (steps_at 2 (rows_of x.axes)) x.replay.rank) (sym (e ∙ d.is)) (at-axes d)

@@ -1,4 +1,5 @@
 -- The move of an accepted scatter: its cells lie inside their slices, and what it leaves is the scatter. Assumes nothing.
+use Rattle.std.specs.Prelude.{Ok}
 use mathlib.Core.Path.{◌≡◌, refl, sym, ap, ap₂, subst, ◌∙◌}
 use mathlib.Core.Bool.{Bool, true, false, cond}
 use mathlib.Core.List.{List}
@@ -20,7 +21,6 @@ use Rattle.indexing.proofs.Once.{update-within}
 use Rattle.indexing.specs.Valid.{Covered, ValidScatter}
 use Rattle.indexing.proofs.Places.{updates-at, scatter-component-at, lands-at, lands-in, lands-partly-in, updates-in, scatter-starts-in, sum_same}
 use Rattle.indexing.proofs.Linear.{dot-first}
-use Rattle.layout.specs.declared.Answer.TheVariants as A
 use Rattle.layout.specs.Answers.{is_done}
 use Rattle.layout.specs.Layouts.{rank_limit, padded}
 use Rattle.layout.specs.Reach.{view_reach, buffer_bounds}
@@ -47,7 +47,7 @@ index-room r n steps h k = go (eqb n 0)
     go true = omega (arith, length-replicate rank_limit (pos 0))
     go false = k
 
-module _ (s : Scatter) (done : is_done (refusal_of A.Done s) ≡ true) where
+module _ (s : Scatter) (done : is_done (refusal_of (Ok tt) s) ≡ true) where
   abbrev w : ScatterNumbers
   w = scatter_numbers s
 
@@ -73,7 +73,7 @@ module _ (s : Scatter) (done : is_done (refusal_of A.Done s) ≡ true) where
   wrank = (window_walk s).replay.rank
 
   pub at-valid : ValidScatter s
-  at-valid = valid A.Done s done
+  at-valid = valid (Ok tt) s done
 
   abbrev n : ℕ
   n = length s.spec.scatter-dims-to-operand-dims

@@ -1,4 +1,5 @@
 -- The numbers of an accepted scatter, as they are read. Assumes nothing.
+use Rattle.std.specs.Prelude.{Ok}
 use mathlib.Core.Path.{◌≡◌, refl, sym, ◌∙◌}
 use mathlib.Core.Bool.{true}
 use mathlib.Core.List.{List}
@@ -12,7 +13,6 @@ use Rattle.indexing.specs.Scatter.{Scatter, scatter_dims, window_dims, batch_sha
 use Rattle.indexing.specs.Axes.{length-pick, get_or-pick}
 use Rattle.indexing.specs.Steps.{vector_stride, update_batch_steps, update_window_steps, land_steps}
 use Rattle.indexing.proofs.Updates.{length-tabulate, get_d_tabulate}
-use Rattle.layout.specs.declared.Answer.TheVariants as A
 use Rattle.layout.specs.Answers.{is_done}
 use Rattle.layout.specs.Layouts.{rank_limit, padded}
 use Rattle.axis_lists.proofs.Filling.{length-others}
@@ -24,9 +24,9 @@ use Rattle.scatter_plan.proofs.Accepted.{Accepted, accepted}
 use Rattle.scatter_move.specs.Prepared.{steps_at, batch_rows, window_rows}
 use Rattle.scatter_move.proofs.Merged.{Walked, walked}
 
-module _ (s : Scatter) (done : is_done (refusal_of A.Done s) ≡ true) where
+module _ (s : Scatter) (done : is_done (refusal_of (Ok tt) s) ≡ true) where
   pub given : Accepted s
-  given = accepted s A.Done done
+  given = accepted s (Ok tt) done
 
   pub batch-few : length (batch_shape s) ≤ rank_limit
   unfolding batch_shape scatter_dims

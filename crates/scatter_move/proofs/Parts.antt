@@ -1,4 +1,5 @@
 -- A move into the part of the destination that holds its cells is the scatter into the whole. Assumes nothing.
+use Rattle.std.specs.Prelude.{Ok}
 use mathlib.Core.Path.{◌≡◌, refl, sym, ap, ap₂, subst, ◌∙◌}
 use mathlib.Core.Bool.{true}
 use mathlib.Core.List.{List, ◌++◌}
@@ -18,9 +19,7 @@ use Rattle.indexing.specs.Steps.{update_batch_steps, update_window_steps, land_s
 use Rattle.indexing.specs.Valid.{Covered}
 use Rattle.indexing.specs.Parts.{rebased}
 use Rattle.indexing.proofs.Parts.{covered-part, combined-lent}
-use Rattle.layout.specs.declared.Answer.{Answer}
-use Rattle.layout.specs.declared.Answer.TheVariants as A
-use Rattle.layout.specs.Answers.{is_done}
+use Rattle.layout.specs.Answers.{is_done, Answer}
 use Rattle.layout.specs.Reach.{buffer_bounds}
 use Rattle.layout.specs.Inside.{Inside, reach-inside, low-most, high-least}
 use Rattle.replay.specs.Replays.{rows_of}
@@ -48,7 +47,7 @@ back_end z rule src starts offsets strides limits count t u d bs ts us br ws ss 
 abbrev on_part : Scatter → ℤ → Scatter
 on_part s at = record { spec = s.spec; indices = s.indices; updates = s.updates; result = record { extents = s.result.extents; strides = s.result.strides; offset = at } }
 
-done-part : (s : Scatter) (at : ℤ) → is_done (refusal_of A.Done s) ≡ true → is_done (refusal_of A.Done (on_part s at)) ≡ true
+done-part : (s : Scatter) (at : ℤ) → is_done (refusal_of (Ok tt) s) ≡ true → is_done (refusal_of (Ok tt) (on_part s at)) ≡ true
 unfolding spec_refusal batch_walk window_walk batch_shape window_shape windows scatter_dims window_dims update_batch_steps update_window_steps land_steps
 done-part s at e = e
 
@@ -116,7 +115,7 @@ module _ (p : PreparedScatter) (low high : ℕ) (starts : List ℤ) (un dn : ℕ
     abbrev part : Scatter
     part = on_part s (c -ℤ pos low)
 
-    on-part : is_done (refusal_of A.Done part) ≡ true
+    on-part : is_done (refusal_of (Ok tt) part) ≡ true
     on-part = done-part s (c -ℤ pos low) ready.accepted
 
     scattering-part : length starts < 2 ^ 63 → Scattering starts (scatter_numbers part).offsets (scatter_numbers part).strides (scatter_numbers part).limits (scatter_numbers part).count (start_base s) s.updates.offset (c -ℤ pos low) (scatter_numbers part).batch_extents (scatter_numbers part).index_steps (scatter_numbers part).update_steps (scatter_numbers part).batch_rank (scatter_numbers part).window_extents (scatter_numbers part).window_steps (scatter_numbers part).dest_steps (scatter_numbers part).window_rank un n

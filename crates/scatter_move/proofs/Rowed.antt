@@ -1,4 +1,5 @@
 -- A compiled plan, where today's loops may be called: the batches can be walked by the plan's own rows. Assumes nothing.
+use Rattle.std.specs.Prelude.{Ok}
 use mathlib.Core.Path.{◌≡◌, refl, sym, ap, subst, ◌∙◌}
 use mathlib.Core.Bool.{true}
 use mathlib.Core.List.{List}
@@ -33,9 +34,8 @@ use Rattle.driven.specs.Driving.{Rowed}
 use Rattle.driven.proofs.Reaching.{reaches}
 use Rattle.driven.proofs.Rows.{steps-are}
 use Rattle.layout.specs.Answers.{is_done}
-use Rattle.layout.specs.declared.Answer.TheVariants as A
 
-module _ (s : Scatter) (ok : is_done (refusal_of A.Done s) ≡ true) where
+module _ (s : Scatter) (ok : is_done (refusal_of (Ok tt) s) ≡ true) where
   abbrev ds : List ℕ
   ds = batch_shape s
 

@@ -1,4 +1,5 @@
 -- How many windows of a prepared scatter slid: its batches have the flags of the scatter's batch coordinates. Assumes nothing.
+use Rattle.std.specs.Prelude.{Ok}
 use mathlib.Core.Path.{◌≡◌, refl, sym, ap, ap₂, ◌∙◌}
 use mathlib.Core.Bool.{Bool, true}
 use mathlib.Core.List.{List}
@@ -18,7 +19,6 @@ use Rattle.indexing.proofs.Fusion.{product-pos}
 use Rattle.indexing.proofs.Linear.{unravel-within}
 use Rattle.indexing.proofs.Once.{update-taken, update-within}
 use Rattle.indexing.specs.Valid.{ValidScatter}
-use Rattle.layout.specs.declared.Answer.TheVariants as A
 use Rattle.layout.specs.Answers.{is_done}
 use Rattle.layout.specs.Laws.{some-cells}
 use Rattle.runs.proofs.Place.{read}
@@ -58,7 +58,7 @@ module _ (s : Scatter) (v : ValidScatter s) where
       go (suc m) (suc n) p q = sym (slid-some (suc n) (how_many (suc m) flag) (omega arith)) ∙ slid-some (product s.updates.extents) (how_many (suc m) flag) (some-updates (omega arith) (omega arith))
 
 -- ---- the flags
-module _ (s : Scatter) (done : is_done (refusal_of A.Done s) ≡ true) (starts : List ℤ) where
+module _ (s : Scatter) (done : is_done (refusal_of (Ok tt) s) ≡ true) (starts : List ℤ) where
   abbrev w : ScatterNumbers
   w = scatter_numbers s
 

@@ -1,12 +1,10 @@
 -- What a call of a scatter has decided before it touches an element. Definitions only.
-use Rattle.std.specs.Prelude.{◌≡◌, true, List, [], ℕ, length, get_or, replicate, ℤ, pos, ◌*ℤ◌}
+use Rattle.std.specs.Prelude.{◌≡◌, true, List, [], ℕ, length, get_or, replicate, ℤ, pos, ◌*ℤ◌, Ok}
 use Rattle.indexing.specs.Coordinates.{product, pick, tabulate}
 use Rattle.indexing.specs.Scatter.{Scatter, batch_shape, windows}
 use Rattle.indexing.specs.Steps.{vector_stride}
-use Rattle.layout.specs.declared.Answer.{Answer}
-use Rattle.layout.specs.declared.Answer.TheVariants as A
 use Rattle.layout.specs.declared.Reach.TheVariants as R
-use Rattle.layout.specs.Answers.{is_done}
+use Rattle.layout.specs.Answers.{is_done, Answer}
 use Rattle.layout.specs.Layouts.{rank_limit, padded}
 use Rattle.replay.specs.Replays.{rows_of}
 use Rattle.components.specs.Components.{limit_at, unless_none}
@@ -51,7 +49,7 @@ start_base s = unless_none (length s.spec.scatter-dims-to-operand-dims) (pos 0) 
 
 -- a scatter that is accepted and passes the test of 9, with its numbers and where its views begin
 pub record Ready (p : PreparedScatter) (s : Scatter) (sn un dn : ℕ) : Type 0 where
-  pub accepted : is_done (refusal_of A.Done s) ≡ true
+  pub accepted : is_done (refusal_of (Ok tt) s) ≡ true
   pub bounds : is_done (bounds_refusal s.indices s.updates s.result sn un dn) ≡ true
   pub reach : p.reach ≡ reach_in s.result dn
   pub numbers : p.numbers ≡ scatter_numbers s

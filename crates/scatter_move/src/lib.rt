@@ -10,7 +10,7 @@ ghost use Rattle.calls.specs.Calls.{Does, as_is};
 ghost use Rattle.scatter_move.specs.Batches.{BatchesFrom, after_batches, batches_moved};
 ghost use Rattle.scatter_move.specs.Prepared.{steps_at, Cells, Movable};
 
-use layout::{Answer, CallAnswer, RAW_FUSED_RANK_LIMIT, Reach};
+use layout::{Refusal, CallAnswer, RAW_FUSED_RANK_LIMIT, Reach};
 use replay::WindowReplayAxis;
 use rules::{Rule, RuleF64};
 
@@ -37,7 +37,7 @@ pub struct ScatterNumbers {
 // of the walk from batch to batch, and where the starts, the updates and the destination begin.
 #[derive(Clone, Copy)]
 pub struct PreparedScatter {
-    pub answer: Answer,
+    pub answer: Result<(), Refusal>,
     pub reach: Reach,
     pub numbers: ScatterNumbers,
     pub batch_axes: [WindowReplayAxis; RAW_FUSED_RANK_LIMIT],
@@ -47,7 +47,7 @@ pub struct PreparedScatter {
 }
 
 // A call that is refused.
-pub fn refused(answer: Answer) -> PreparedScatter
+pub fn refused(answer: Result<(), Refusal>) -> PreparedScatter
     ensures { result.answer ≡ answer }
 {
     let ones = [1u64; RAW_FUSED_RANK_LIMIT];

@@ -1,4 +1,5 @@
 -- What is known of a scatter that is not refused: its lists fit, its numbers fit, and its walks are done. Assumes nothing.
+use Rattle.std.specs.Prelude.{Option, Some, None, Ok}
 use mathlib.Core.Path.{◌≡◌, refl, sym, ap, ◌∙◌}
 use mathlib.Core.Bool.{true}
 use mathlib.Core.List.{List, []}
@@ -7,17 +8,11 @@ use native.Mathlib.Omega.{arith}
 use lib.ListN.{length, take}
 use lib.Seq.{take_all}
 use lib.IntN.{ℤ, pos, ◌*ℤ◌, +ℤ_idl}
-use Rattle.integer.specs.declared.Checked.{Checked}
-use Rattle.integer.specs.declared.Checked.TheVariants as C
-use Rattle.integer.specs.declared.CheckedU.{CheckedU}
-use Rattle.integer.specs.declared.CheckedU.TheVariants as U
 use Rattle.indexing.specs.Coordinates.{rank, product, others, tabulate}
 use Rattle.indexing.specs.Start.{without}
 use Rattle.indexing.specs.Scatter.{Scatter, scatter_dims, window_dims, batch_shape, window_shape, windows}
 use Rattle.indexing.specs.Steps.{vector_stride}
-use Rattle.layout.specs.declared.Answer.{Answer}
-use Rattle.layout.specs.declared.Answer.TheVariants as A
-use Rattle.layout.specs.Answers.{is_done}
+use Rattle.layout.specs.Answers.{is_done, Answer}
 use Rattle.layout.specs.Layouts.{rank_limit, padded, layout_of, extents_of, strides_of, stride_length, rank_at_most}
 use Rattle.layout.specs.Lists.{unique_axes}
 use Rattle.layout.specs.Spans.{total_of, spanned, offset_add}
@@ -35,19 +30,19 @@ use Rattle.scatter_checks.specs.Examine.{Counted}
 use Rattle.scatter_checks.proofs.Counts.{counted}
 
 -- ---- a number that was accepted is the number
-total-fits : (ds : List ℕ) → is_done (total_fits (total_of ds)) ≡ true → total_of ds ≡ U.Fits (product ds)
+total-fits : (ds : List ℕ) → is_done (total_fits (total_of ds)) ≡ true → total_of ds ≡ Some (product ds)
 total-fits ds e = go (total_of ds) refl e
   where
-    go : (x : CheckedU) → total_of ds ≡ x → is_done (total_fits x) ≡ true → total_of ds ≡ U.Fits (product ds)
-    go (U.Fits n) f h = f ∙ ap U.Fits (total-is ds n f)
-    go U.Overflow f h = let z : ◌≡◌ {A = ℕ} 0 1 = cc in absurd (omega arith)
+    go : (x : Option ℕ) → total_of ds ≡ x → is_done (total_fits x) ≡ true → total_of ds ≡ Some (product ds)
+    go (Some n) f h = f ∙ ap Some (total-is ds n f)
+    go None f h = let z : ◌≡◌ {A = ℕ} 0 1 = cc in absurd (omega arith)
 
-offset-fits : (s : ℤ) (c : ℕ) → is_done (offset_fits s c) ≡ true → offset_add (pos 0) s c ≡ C.Fits (s *ℤ pos c)
+offset-fits : (s : ℤ) (c : ℕ) → is_done (offset_fits s c) ≡ true → offset_add (pos 0) s c ≡ Some (s *ℤ pos c)
 offset-fits s c e = go (offset_add (pos 0) s c) refl e
   where
-    go : (x : Checked) → offset_add (pos 0) s c ≡ x → is_done (number_fits x) ≡ true → offset_add (pos 0) s c ≡ C.Fits (s *ℤ pos c)
-    go (C.Fits z) f h = f ∙ ap C.Fits (offset-add-is (pos 0) s c z f ∙ +ℤ_idl (s *ℤ pos c))
-    go C.Overflow f h = let z : ◌≡◌ {A = ℕ} 0 1 = cc in absurd (omega arith)
+    go : (x : Option ℤ) → offset_add (pos 0) s c ≡ x → is_done (number_fits x) ≡ true → offset_add (pos 0) s c ≡ Some (s *ℤ pos c)
+    go (Some z) f h = f ∙ ap Some (offset-add-is (pos 0) s c z f ∙ +ℤ_idl (s *ℤ pos c))
+    go None f h = let z : ◌≡◌ {A = ℕ} 0 1 = cc in absurd (omega arith)
 
 -- ---- each check of a scatter that is not refused is done, in document 01's order
 module _ (s : Scatter) where
@@ -150,15 +145,15 @@ module _ (s : Scatter) where
     pub inserted-few : length s.spec.inserted-window-dims ≤ rank_limit
     pub map-few : length s.spec.scatter-dims-to-operand-dims ≤ rank_limit
     pub counts : Counted s
-    pub index-total : total_of s.indices.extents ≡ U.Fits (product s.indices.extents)
-    pub updates-total : total_of s.updates.extents ≡ U.Fits (product s.updates.extents)
-    pub dest-total : total_of s.result.extents ≡ U.Fits (product s.result.extents)
+    pub index-total : total_of s.indices.extents ≡ Some (product s.indices.extents)
+    pub updates-total : total_of s.updates.extents ≡ Some (product s.updates.extents)
+    pub dest-total : total_of s.result.extents ≡ Some (product s.result.extents)
     pub dest-span : is_done (span_fits (spanned s.result.extents s.result.strides)) ≡ true
-    pub batches : total_of (batch_shape s) ≡ U.Fits (product (batch_shape s))
-    pub cells : total_of (window_shape s) ≡ U.Fits (product (window_shape s))
-    pub offsets-fit : (c : ℕ) → c < length s.spec.scatter-dims-to-operand-dims → offset_add (pos 0) (vector_stride s.indices s.spec.index-vector-dim) c ≡ C.Fits (vector_stride s.indices s.spec.index-vector-dim *ℤ pos c)
-    pub batch-done : (batch_walk s).answer ≡ A.Done
-    pub window-done : (window_walk s).answer ≡ A.Done
+    pub batches : total_of (batch_shape s) ≡ Some (product (batch_shape s))
+    pub cells : total_of (window_shape s) ≡ Some (product (window_shape s))
+    pub offsets-fit : (c : ℕ) → c < length s.spec.scatter-dims-to-operand-dims → offset_add (pos 0) (vector_stride s.indices s.spec.index-vector-dim) c ≡ Some (vector_stride s.indices s.spec.index-vector-dim *ℤ pos c)
+    pub batch-done : (batch_walk s).answer ≡ Ok tt
+    pub window-done : (window_walk s).answer ≡ Ok tt
 
   pub accepted : (four : Answer) → is_done (refusal_of four s) ≡ true → Accepted
   unfolding window_dims

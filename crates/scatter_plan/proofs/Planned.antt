@@ -1,4 +1,5 @@
 -- What the code makes of a scatter that is not refused is its plan. Assumes nothing.
+use Rattle.std.specs.Prelude.{Ok}
 use mathlib.Core.Path.{◌≡◌, sym, ap, ◌∙◌}
 use mathlib.Core.List.{List}
 use Prim.Native.Nat.{ℕ, min}
@@ -8,7 +9,6 @@ use Rattle.indexing.specs.Coordinates.{pick, spread, others, tabulate}
 use Rattle.indexing.specs.Scatter.{Scatter, scatter_dims, window_dims, batch_shape, window_shape, windows}
 use Rattle.indexing.specs.Axes.{length-pick}
 use Rattle.indexing.specs.Steps.{vector_stride}
-use Rattle.layout.specs.declared.Answer.TheVariants as A
 use Rattle.layout.specs.declared.MadeLayout.{MadeLayout}
 use Rattle.layout.specs.Layouts.{rank_limit, padded, layout_from}
 use Rattle.axis_lists.specs.Held.{held_numbers, held_steps, Numbers, Steps}
@@ -23,7 +23,7 @@ use Rattle.scatter_plan.proofs.Accepted.{Accepted, accepted, offsets_are, map_is
 
 module _ (s : Scatter) (batch window : CompiledReplay) (q : Found s batch window) where
   pub fits : Accepted s
-  fits = accepted s A.Done q.accepted
+  fits = accepted s (Ok tt) q.accepted
 
   pub plan-is : (x y z : MadeLayout) (sizes : Numbers) (offsets : Steps) (entries : List ℤ) (a b c : Numbers) (batches cells : ℕ)
       → x ≡ layout_from s.indices.extents s.indices.strides → y ≡ layout_from s.updates.extents s.updates.strides → z ≡ layout_from s.result.extents s.result.strides

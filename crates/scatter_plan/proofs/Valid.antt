@@ -1,4 +1,5 @@
 -- A scatter that is not refused is valid, as far as places depend on it. Assumes nothing.
+use Rattle.std.specs.Prelude.{Ok, Err}
 use mathlib.Core.Path.{◌≡◌, refl, sym, ap, ◌∙◌}
 use mathlib.Core.Bool.{Bool, true, false, cond, ◌&&◌}
 use mathlib.Core.List.{List, [], ◌∷◌}
@@ -11,9 +12,7 @@ use Rattle.indexing.specs.Coordinates.{rank, pick, others}
 use Rattle.indexing.specs.Start.{without, components}
 use Rattle.indexing.specs.Scatter.{Scatter, scatter_dims, window_dims, batch_shape, windows}
 use Rattle.indexing.specs.Valid.{ValidScatter}
-use Rattle.layout.specs.declared.Answer.{Answer}
-use Rattle.layout.specs.declared.Answer.TheVariants as A
-use Rattle.layout.specs.Answers.{is_done}
+use Rattle.layout.specs.Answers.{is_done, Answer}
 use Rattle.axis_lists.specs.Held.{same_list}
 use Rattle.checks.specs.Checks.{components_of, windows_from}
 use Rattle.checks.proofs.Made.{same_length}
@@ -23,6 +22,7 @@ use Rattle.checks.proofs.Lists.{unique-axes}
 use Rattle.checks.proofs.Fits.{same-count, vector-fits}
 use Rattle.scatter_checks.specs.Refusals.{batch_refusal, refusal_of}
 use Rattle.scatter_plan.proofs.Accepted.{passed}
+use Rattle.layout.specs.declared.Refusal.TheVariants as F
 
 -- the same entries one by one
 lists-same : (xs ys : List ℕ) → same_list xs ys ≡ same_by eqb xs ys
@@ -35,7 +35,7 @@ lists-same (a ∷ xs) (b ∷ ys) = ap (λ (t : Bool). eqb a b && t) (lists-same 
 batch-same : (ie ue window : List ℕ) (vector : ℕ) → is_done (batch_refusal ie ue window vector) ≡ true → pick 0 (others (length ue) window) ue ≡ without vector ie
 batch-same ie ue window vector e = go (same_list (pick 0 (others (length ue) window) ue) (without vector ie)) refl e
   where
-    go : (t : Bool) → same_list (pick 0 (others (length ue) window) ue) (without vector ie) ≡ t → is_done (cond t A.Done (A.ShapeMismatch (length ue) (length ue))) ≡ true → pick 0 (others (length ue) window) ue ≡ without vector ie
+    go : (t : Bool) → same_list (pick 0 (others (length ue) window) ue) (without vector ie) ≡ t → is_done (cond t (Ok tt) (Err (F.ShapeMismatch (length ue) (length ue)))) ≡ true → pick 0 (others (length ue) window) ue ≡ without vector ie
     go true f h = (lists-decide eqb numbers-decide (pick 0 (others (length ue) window) ue) (without vector ie)).yes (sym (lists-same (pick 0 (others (length ue) window) ue) (without vector ie)) ∙ f)
     go false f h = let z : ◌≡◌ {A = ℕ} 0 1 = cc in absurd (omega arith)
 
@@ -46,7 +46,7 @@ windows-low n i [] ws e a h = absurd (omega arith)
 windows-low n i (d ∷ ds) [] e a h = zero-le
 windows-low n i (d ∷ ds) (w ∷ ws) e a h = go (leb w d) refl e a h (windows-low n (suc i) ds ws)
   where
-    go : (t : Bool) → leb w d ≡ t → is_done (cond t (windows_from n (suc i) ds ws) (A.InvalidAxis i n)) ≡ true → (a : ℕ) → a < suc (length ds) → (is_done (windows_from n (suc i) ds ws) ≡ true → (b : ℕ) → b < length ds → get_or ws b 0 ≤ get_or ds b 0) → get_or (w ∷ ws) a 0 ≤ get_or (d ∷ ds) a 0
+    go : (t : Bool) → leb w d ≡ t → is_done (cond t (windows_from n (suc i) ds ws) (Err (F.InvalidAxis i n))) ≡ true → (a : ℕ) → a < suc (length ds) → (is_done (windows_from n (suc i) ds ws) ≡ true → (b : ℕ) → b < length ds → get_or ws b 0 ≤ get_or ds b 0) → get_or (w ∷ ws) a 0 ≤ get_or (d ∷ ds) a 0
     go true f g zero k ih = leb-true w d f
     go true f g (suc a) k ih = ih g a (omega arith)
     go false f g a k ih = let z : ◌≡◌ {A = ℕ} 0 1 = cc in absurd (omega arith)

@@ -1,11 +1,9 @@
 -- To be believed. The plan of a scatter by value, and what compile gives: document 01, "The updates added". Definitions only.
-use Rattle.std.specs.Prelude.{cond, length, pos, ◌*ℤ◌}
+use Rattle.std.specs.Prelude.{cond, length, pos, ◌*ℤ◌, Ok}
 use Rattle.indexing.specs.Coordinates.{product, pick, tabulate}
 use Rattle.indexing.specs.Scatter.{Scatter, batch_shape, window_shape, windows}
 use Rattle.indexing.specs.Steps.{vector_stride}
-use Rattle.layout.specs.declared.Answer.{Answer}
-use Rattle.layout.specs.declared.Answer.TheVariants as A
-use Rattle.layout.specs.Answers.{is_done}
+use Rattle.layout.specs.Answers.{is_done, Answer}
 use Rattle.layout.specs.Layouts.{layout_of, extents_of, strides_of}
 use Rattle.axis_lists.specs.Held.{numbers_of, held_numbers, held_steps}
 use Rattle.checks.specs.Nothing.{no_layout, no_numbers, no_steps}
@@ -78,7 +76,7 @@ compiled_scatter s = compiled_by (compile_refusal s) s
 
 -- "4 not tried again"
 abbrev pub compiled_again : Scatter → CompiledScatter
-compiled_again s = compiled_by (refusal_of A.Done s) s
+compiled_again s = compiled_by (refusal_of (Ok tt) s) s
 
 -- the scatter that the layouts and the spec in a plan describe
 abbrev pub held_scatter : ScatterPlan → Scatter

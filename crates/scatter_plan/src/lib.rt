@@ -12,8 +12,7 @@ ghost use Rattle.scatter_checks.specs.Examine.{Found};
 ghost use Rattle.scatter_plan.specs.Plan.{plan_of, refused_scatter, compiled_by, compiled_scatter, compiled_again};
 
 use axis_lists::{Numbers, Steps};
-use integer::CheckedU;
-use layout::{Answer, Layout, RAW_FUSED_RANK_LIMIT};
+use layout::{Refusal, Layout, RAW_FUSED_RANK_LIMIT};
 use replay::{CompiledReplay, WindowReplay, WindowReplayAxis};
 use scatter_checks::Examined;
 
@@ -39,13 +38,13 @@ pub struct ScatterPlan {
 // A plan, and the merged axes of its two walks, of which their rows are made; where the scatter is refused, the plan of no axes.
 #[derive(Clone, Copy)]
 pub struct CompiledScatter {
-    pub answer: Answer,
+    pub answer: Result<(), Refusal>,
     pub plan: ScatterPlan,
     pub batch_axes: [WindowReplayAxis; RAW_FUSED_RANK_LIMIT],
     pub window_axes: [WindowReplayAxis; RAW_FUSED_RANK_LIMIT],
 }
 
-fn refused(answer: Answer) -> CompiledScatter
+fn refused(answer: Result<(), Refusal>) -> CompiledScatter
     ensures { result ≡ refused_scatter answer }
 {
     let extents = [1u64; RAW_FUSED_RANK_LIMIT];
@@ -99,8 +98,8 @@ fn product_value(axes: &[u64], list: &[u64]) -> u64
     let n = axes.len();
     let total = spans::checked_total_len(&sizes[0..n]);
     match total {
-        CheckedU::Fits(m) => m,
-        CheckedU::Overflow => 0,
+        Some(m) => m,
+        None => 0,
     }
 }
 

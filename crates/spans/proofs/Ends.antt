@@ -1,4 +1,5 @@
 -- The reach of a view by the sums that the code makes. Assumes nothing.
+use Rattle.std.specs.Prelude.{Option, Some, None, option_and_then}
 use mathlib.Core.Path.{◌≡◌, refl, sym, ap, ap₂, ◌∙◌}
 use mathlib.Core.Bool.{Bool, true, false, cond, ◌&&◌}
 use mathlib.Core.List.{List, [], ◌∷◌}
@@ -12,13 +13,10 @@ use Rattle.integer.specs.Laws.{minus-above}
 use Rattle.integer.specs.Z.{up, zfacts, eq-by, v, minus, ◌⊕◌}
 use Rattle.integer.specs.Defs.{checked_u, is_neg}
 use Rattle.integer.specs.Machine.{checked_u-yes, checked_u-fits, checked_u-over}
-use Rattle.integer.specs.declared.CheckedU.{CheckedU}
-use Rattle.integer.specs.declared.CheckedU.TheVariants as U
 use Rattle.indexing.specs.Reach.{below_zero, above_zero, lowest, highest}
 use Rattle.indexing.proofs.Reach.{below-neg, above-neg}
 use Rattle.layout.specs.declared.Reach.{Reach}
 use Rattle.layout.specs.declared.Reach.TheVariants as R
-use Rattle.layout.specs.Spans.{and_then_u}
 use Rattle.layout.specs.Nested.{has_zero}
 use Rattle.layout.specs.Sums.{sum_axes, side_at, side_reach, high_by, low_by, cells_within}
 use Rattle.layout.specs.Reach.{view_reach}
@@ -57,20 +55,20 @@ abbrev spread : ℤ → ℕ → ℕ → Reach
 spread low high len = cond (le_z (pos 0) low && lt_z (pos high) (pos len)) (R.Cells (up low) high) R.Outside
 
 module _ (at down above len : ℕ) (n : len < 2 ^ 64) where
-  high-cells : down ≤ at → high_by (and_then_u (checked_u above) (λ e. checked_u (at + e))) (at - down) len ≡ spread (pos at +ℤ neg_ℤ (pos down)) (at + above) len
+  high-cells : down ≤ at → high_by (option_and_then (λ e. checked_u (at + e)) (checked_u above)) (at - down) len ≡ spread (pos at +ℤ neg_ℤ (pos down)) (at + above) len
   high-cells h = rw (sum-checked at above, minus-above at down h, le-leb 0 (at - down) (omega arith)) (go (checked_u (at + above)) refl)
     where
-      go : (x : CheckedU) → checked_u (at + above) ≡ x → high_by (checked_u (at + above)) (at - down) len ≡ cond (ltb (at + above) len) (R.Cells (at - down) (at + above)) R.Outside
-      go (U.Fits t) e = rw e (ap (λ (k : ℕ). cond (ltb k len) (R.Cells (at - down) k) R.Outside) (sym (checked_u-fits (at + above) t e)))
-      go U.Overflow e = rw (e, le-ltb (at + above) len (omega (arith, checked_u-over (at + above) e)))
+      go : (x : Option ℕ) → checked_u (at + above) ≡ x → high_by (checked_u (at + above)) (at - down) len ≡ cond (ltb (at + above) len) (R.Cells (at - down) (at + above)) R.Outside
+      go (Some t) e = rw e (ap (λ (k : ℕ). cond (ltb k len) (R.Cells (at - down) k) R.Outside) (sym (checked_u-fits (at + above) t e)))
+      go None e = rw (e, le-ltb (at + above) len (omega (arith, checked_u-over (at + above) e)))
 
   pub two-sums : at < 2 ^ 64 → cells_within at (checked_u down) (checked_u above) len ≡ spread (pos at +ℤ neg_ℤ (pos down)) (at + above) len
   unfolding cells_within
   two-sums m = go (ltb at down) refl
     where
-      low : (x : CheckedU) → checked_u down ≡ x → at < down → low_by (checked_u down) at (checked_u above) len ≡ R.Outside
-      low (U.Fits t) e h = rw (e, lt-ltb at t (omega (arith, checked_u-fits down t e)))
-      low U.Overflow e h = rw e
+      low : (x : Option ℕ) → checked_u down ≡ x → at < down → low_by (checked_u down) at (checked_u above) len ≡ R.Outside
+      low (Some t) e h = rw (e, lt-ltb at t (omega (arith, checked_u-fits down t e)))
+      low None e h = rw e
 
       go : (t : Bool) → ltb at down ≡ t → low_by (checked_u down) at (checked_u above) len ≡ spread (pos at +ℤ neg_ℤ (pos down)) (at + above) len
       go true e = low (checked_u down) refl (ltb-true at down e) ∙ rw (apart_low at down (ltb-true at down e))

@@ -10,89 +10,49 @@ ghost use Rattle.layout.specs.Nested.{has_zero, nested};
 ghost use Rattle.layout.specs.Sums.{others_weight, axis_exceeds, side_reach};
 ghost use Rattle.layout.specs.Reach.{view_reach};
 
-use integer::CheckedU;
-use layout::{OffsetSpan, RAW_FUSED_RANK_LIMIT, Reach, View};
+use layout::{RAW_FUSED_RANK_LIMIT, Reach, Span, View};
 
 // The product of the extents, left to right.
-pub fn checked_total_len(extents: &[u64]) -> CheckedU
+pub fn checked_total_len(extents: &[u64]) -> Option<u64>
     ensures { result ≡ total_of extents.now }
 {
-    let mut acc: u64 = 1;
-    let mut i: usize = 0;
-    while i < extents.len() {
-        let p = integer::checked_mul_u64(acc, extents[i]);
-        match p {
-            CheckedU::Fits(m) => {
-                acc = m;
-            }
-            CheckedU::Overflow => {
-                return CheckedU::Overflow;
-            }
-        }
-        i += 1;
+    let mut total: u64 = 1;
+    for &extent in extents {
+        total = integer::checked_mul_u64(total, extent)?;
     }
-    CheckedU::Fits(acc)
+    Some(total)
 }
 
 // The lowest and the highest sum of stride times coordinate.
-pub fn validate_layout_span(extents: &[u64], strides: &[i64]) -> OffsetSpan
+pub fn validate_layout_span(extents: &[u64], strides: &[i64]) -> Option<Span>
     requires { length strides.now ≡ length extents.now }
     ensures { result ≡ spanned extents.now strides.now }
 {
-    let mut low: i64 = 0;
-    let mut high: i64 = 0;
-    let mut i: usize = 0;
-    while i < extents.len() {
-        let s = layout::widen(low, high, extents[i], strides[i]);
-        match s {
-            OffsetSpan::Fits(l, h) => {
-                low = l;
-                high = h;
-            }
-            OffsetSpan::Overflow => {
-                return OffsetSpan::Overflow;
-            }
-        }
-        i += 1;
+    let mut span = Span { low: 0, high: 0 };
+    for (i, &extent) in extents.iter().enumerate() {
+        span = layout::widen(span, extent, strides[i])?;
     }
-    OffsetSpan::Fits(low, high)
+    Some(span)
 }
 
 // Whether some extent is 0.
 pub fn zero_in(extents: &[u64]) -> bool
     ensures { result ≡ has_zero extents.now }
 {
-    let mut i: usize = 0;
-    while i < extents.len() {
-        if extents[i] == 0 {
-            return true;
-        }
-        i += 1;
-    }
-    false
+    extents.contains(&0)
 }
 
 // The weights of the axes other than `axis` whose strides' magnitudes are at most `limit`.
-fn others_weight(extents: &[u64], strides: &[i64], axis: usize, limit: u64) -> CheckedU
+fn others_weight(extents: &[u64], strides: &[i64], axis: usize, limit: u64) -> Option<u64>
     requires { length strides.now ≡ length extents.now }
     ensures { result ≡ checked_u (others_weight limit axis extents.now strides.now) }
 {
     let mut sum: u64 = 0;
-    let mut i: usize = 0;
-    while i < extents.len() {
-        let w = layout::other_weight(extents[i], strides[i], limit, i == axis);
-        let s = layout::sum_with(sum, w);
-        match s {
-            CheckedU::Fits(t) => {
-                sum = t;
-            }
-            CheckedU::Overflow => {
-                return CheckedU::Overflow;
-            }
-        }
-        i += 1;
+    for (i, &extent) in extents.iter().enumerate() {
+        let weight = layout::other_weight(extent, strides[i], limit, i == axis)?;
+        sum = integer::checked_add_u64(sum, weight)?;
     }
-    CheckedU::Fits(sum)
+    Some(sum)
 }
 
 // Whether the axis has one coordinate, or its stride's magnitude exceeds the weights of the others up to it.
@@ -103,11 +63,10 @@ fn axis_exceeds(extents: &[u64], strides: &[i64], axis: usize) -> bool
     if extents[axis] == 1 {
         return true;
     }
-    let m = integer::magnitude_i64(strides[axis]);
-    let others = others_weight(extents, strides, axis, m);
-    match others {
-        CheckedU::Fits(w) => w < m,
-        CheckedU::Overflow => false,
+    let magnitude = strides[axis].unsigned_abs();
+    match others_weight(extents, strides, axis, magnitude) {
+        Some(others) => others < magnitude,
+        None => false,
     }
 }
 
@@ -119,37 +78,25 @@ pub fn nested_in(extents: &[u64], strides: &[i64]) -> bool
     if zero_in(extents) {
         return true;
     }
-    let mut i: usize = 0;
-    while i < extents.len() {
-        if !axis_exceeds(extents, strides, i) {
+    for axis in 0..extents.len() {
+        if !axis_exceeds(extents, strides, axis) {
             return false;
         }
-        i += 1;
     }
     true
 }
 
 // How far the cells reach from the offset, to one side.
-fn side_reach(extents: &[u64], strides: &[i64], below: bool) -> CheckedU
+fn side_reach(extents: &[u64], strides: &[i64], below: bool) -> Option<u64>
     requires { length strides.now ≡ length extents.now }
     ensures { result ≡ checked_u (side_reach below extents.now strides.now) }
 {
     let mut sum: u64 = 0;
-    let mut i: usize = 0;
-    while i < extents.len() {
-        let w = layout::side_weight(extents[i], strides[i], below);
-        let s = layout::sum_with(sum, w);
-        match s {
-            CheckedU::Fits(t) => {
-                sum = t;
-            }
-            CheckedU::Overflow => {
-                return CheckedU::Overflow;
-            }
-        }
-        i += 1;
+    for (i, &extent) in extents.iter().enumerate() {
+        let weight = layout::side_weight(extent, strides[i], below)?;
+        sum = integer::checked_add_u64(sum, weight)?;
     }
-    CheckedU::Fits(sum)
+    Some(sum)
 }
 
 // Where the cells of a view lie in a slice of `len` elements.
@@ -176,7 +123,7 @@ pub fn held_span(
     extents: [u64; RAW_FUSED_RANK_LIMIT],
     strides: [i64; RAW_FUSED_RANK_LIMIT],
     rank: usize,
-) -> OffsetSpan
+) -> Option<Span>
     ensures { result ≡ spanned (take rank extents) (take rank strides) }
 {
     let n = layout::axis_count(rank);

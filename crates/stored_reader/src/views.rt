@@ -1,6 +1,6 @@
 // The views of a stored call.
 use crate::packed::{Case, SIDES, Side};
-use layout::{Answer, MadeLayout, View};
+use layout::{MadeLayout, Refusal, View};
 
 // The layout of a view of the call.
 fn call_layout(case: &Case, side: Side) -> MadeLayout {
@@ -18,7 +18,7 @@ pub fn call_view(case: &Case, side: Side) -> View {
 }
 
 // The refusal of compile, if any, or 8 where a layout of the call has unequal lengths or too many axes, and so is no plan's.
-pub fn refusal(compiled: Answer, case: &Case) -> Answer {
+pub fn refusal(compiled: Result<(), Refusal>, case: &Case) -> Result<(), Refusal> {
     if !layout::is_done(compiled) {
         return compiled;
     }
@@ -26,8 +26,8 @@ pub fn refusal(compiled: Answer, case: &Case) -> Answer {
         .iter()
         .all(|side| layout::is_done(call_layout(case, *side).answer));
     if are_layouts {
-        Answer::Done
+        Ok(())
     } else {
-        Answer::PlanLayoutMismatch
+        Err(Refusal::PlanLayoutMismatch)
     }
 }

@@ -8,9 +8,8 @@ use Rattle.indexing.specs.Gather.{gathered}
 use Rattle.indexing.specs.Scatter.{scattered}
 use Rattle.indexing.specs.Operand.{operand_copied}
 use Rattle.indexing.specs.Slid.{slid_gather, slid_scatter}
-use Rattle.layout.specs.declared.Answer.{Answer}
 use Rattle.layout.specs.declared.CallAnswer.{CallAnswer}
-use Rattle.layout.specs.Answers.{is_done, or_else}
+use Rattle.layout.specs.Answers.{is_done, or_else, Answer}
 use Rattle.calls.specs.Calls.{GatherCall, ScatterCall, answer_with, Does, Gathers, Scatters, as_is}
 use Rattle.calls.proofs.Does.{by_answer, said}
 use Rattle.gather_move.specs.Prepared as gathers

@@ -4,8 +4,7 @@ use mathlib.Core.Bool.{Bool, true, false, cond}
 use mathlib.Core.List.{List, ◌++◌}
 use Prim.Native.Nat.{ℕ}
 use lib.ListN.{length, drop}
-use Rattle.layout.specs.declared.Answer.{Answer}
-use Rattle.layout.specs.Answers.{is_done}
+use Rattle.layout.specs.Answers.{is_done, Answer}
 use Rattle.job.specs.declared.MadeJob.{MadeJob}
 use Rattle.job.specs.Format.{encoded}
 use Rattle.job_writer.specs.Written.{written_answer, written_left, Written}

@@ -1,8 +1,7 @@
 -- To be believed. An answer as it is exported. Definitions only.
 use Rattle.std.specs.Prelude.{List, [], ◌∷◌, ℕ}
-use Rattle.layout.specs.declared.Answer.{Answer}
 use Rattle.layout.specs.declared.CallAnswer.{CallAnswer}
-use Rattle.layout.specs.Answers.{number_of, a_of, b_of}
+use Rattle.layout.specs.Answers.{number_of, a_of, b_of, Answer}
 
 -- an answer as it is handed back: its number, a and b, and the number that the call reports
 abbrev pub words : CallAnswer → List ℕ

@@ -26,7 +26,7 @@ ghost use Rattle.strided.specs.Named.{rule_of, rule_f64_of, rules_i32, rules_f64
 ghost use Rattle.strided.specs.Stored.{element_listed, Stored, StoredAs};
 
 use job::{Element, MadeJob};
-use layout::{Answer, CallAnswer};
+use layout::{Refusal, CallAnswer};
 use rules::{Rule, RuleF64};
 
 // Of these exports, as strided.h has it: it grows with every change of them. It is in the name below too, so that a program made
@@ -52,7 +52,7 @@ fn words_of(told: CallAnswer) -> [u64; 4]
 }
 
 // The same of what moves nothing, which reports 0.
-fn bare_words(answer: Answer) -> [u64; 4]
+fn bare_words(answer: Result<(), Refusal>) -> [u64; 4]
     ensures { result ≡ words (bare answer) }
 {
     let told = layout::refused_call(answer);
@@ -65,16 +65,16 @@ pub const RULES_I32: u64 = 4;
 pub const RULES_F64: u64 = 5;
 
 // Whether a rule's number is listed.
-fn check_rule(most: u64, rule: u64) -> Answer
+fn check_rule(most: u64, rule: u64) -> Result<(), Refusal>
     ensures { result ≡ rule_refusal most rule }
 {
     if rule == 0 {
-        return Answer::UnlistedRule(rule);
+        return Err(Refusal::UnlistedRule(rule));
     }
     if most < rule {
-        return Answer::UnlistedRule(rule);
+        return Err(Refusal::UnlistedRule(rule));
     }
-    Answer::Done
+    Ok(())
 }
 
 // The rule by the number that stands for it. Numbers that are not listed are refused by `check_rule`.
@@ -657,13 +657,13 @@ fn listed(element: u64, made: MadeJob) -> MadeJob
     if element == 2 {
         return made;
     }
-    let answer = Answer::JobBytes(6);
+    let answer = Err(Refusal::JobBytes(6));
     let job = job::no_job();
     MadeJob { answer, job }
 }
 
 // The refusal by which a job was not made, or what the writer answers.
-fn store(made: MadeJob, out: &mut [u8]) -> Answer
+fn store(made: MadeJob, out: &mut [u8]) -> Result<(), Refusal>
     ensures { Stored made out.old out.new result }
 {
     let a = made.answer;

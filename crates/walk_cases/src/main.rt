@@ -3,21 +3,20 @@
 
 mod placed;
 
-use integer::{Checked, CheckedU};
-use layout::{Answer, OffsetSpan};
+use layout::Refusal;
 use placed::{Unplaced, Window};
 use replay::WindowReplayAxis;
 use std::io;
 
-fn put_refused(rt: &impl Print, answer: Answer) -> io::Result<()> {
-    println!(rt; " refused by {}", layout::number(answer))
+fn put_refused(rt: &impl Print, refusal: Refusal) -> io::Result<()> {
+    println!(rt; " refused by {}", layout::number(Err(refusal)))
 }
 
 fn reset(rt: &impl Print, extent: u64, stride: i64) -> io::Result<()> {
     print!(rt; "reset of extent {extent}, stride {stride}:")?;
     match layout::checked_replay_reset(extent, stride) {
-        Checked::Fits(r) => println!(rt; " {r}"),
-        Checked::Overflow => put_refused(rt, Answer::OffsetOverflow),
+        Some(r) => println!(rt; " {r}"),
+        None => put_refused(rt, Refusal::OffsetOverflow),
     }
 }
 
@@ -26,8 +25,8 @@ fn span(rt: &impl Print, extents: &[u64], strides: &[i64]) -> io::Result<()> {
     let e = layout::padded_extents(extents);
     let s = layout::padded_strides(strides);
     match spans::held_span(e, s, extents.len()) {
-        OffsetSpan::Fits(low, high) => println!(rt; " {low} to {high}"),
-        OffsetSpan::Overflow => put_refused(rt, Answer::OffsetOverflow),
+        Some(layout::Span { low, high }) => println!(rt; " {low} to {high}"),
+        None => put_refused(rt, Refusal::OffsetOverflow),
     }
 }
 
@@ -71,8 +70,8 @@ fn walk_window(
         dests,
     };
     print!(rt; "places over {window}:")?;
-    let CheckedU::Fits(total) = spans::checked_total_len(extents) else {
-        return put_refused(rt, Answer::OffsetOverflow);
+    let Some(total) = spans::checked_total_len(extents) else {
+        return put_refused(rt, Refusal::OffsetOverflow);
     };
     match window.place(source_base, dest_base) {
         Ok(walk) => {

@@ -2,7 +2,7 @@
 ghost use Rattle.std.specs.Prelude.{IfOk};
 ghost use Rattle.walk.specs.Walks.{Walk};
 
-use layout::{Answer, RAW_FUSED_RANK_LIMIT};
+use layout::{RAW_FUSED_RANK_LIMIT, Refusal};
 use replay::CompiledReplay;
 use std::{fmt, io};
 use walk::WalkState;
@@ -62,7 +62,7 @@ pub struct PlacedWalk {
 // Why a window has no walk from two bases.
 #[derive(Clone, Copy)]
 pub enum Unplaced {
-    Refused(Answer),
+    Refused(Refusal),
     NoCells,
     OutOfReach,
 }
@@ -83,8 +83,8 @@ impl PlacedWalk {
         ensures { IfOk result (λ w. Walk w.source_base w.dest_base w.shape w.rows w.rank) }
     {
         let made = replay::compile_window_replay(shape, sources, dests, rank);
-        if !layout::is_done(made.answer) {
-            return Err(Unplaced::Refused(made.answer));
+        if let Err(refusal) = made.answer {
+            return Err(Unplaced::Refused(refusal));
         }
         if spans::has_zero(shape, rank) {
             return Err(Unplaced::NoCells);

@@ -9,18 +9,18 @@ use Rattle.gather_checks.proofs.check_reset.Tie as tie
 enum_told : tie.Need-enum_told-1
 enum_told c = search rules
 
-enum-told-2 : tie.Need-enum_told-in-Overflow
+enum-told-2 : tie.Need-enum_told-in-None
 enum-told-2 c = search rules
 
-returns : tie.Need-returns-in-Fits
+returns : tie.Need-returns-in-Some
 returns c =
     let s = c in
-    ap number_fits (sym c.in-Fits.is ∙ c.checked_replay_reset-reset.ensures ∙ ap (reset_of s.args.extent) (back s.ranges.step))
+    ap number_fits (sym c.in-Some.is ∙ c.checked_replay_reset-reset.ensures ∙ ap (reset_of s.args.extent) (back s.ranges.step))
 
-returns-2 : tie.Need-returns-in-Overflow
+returns-2 : tie.Need-returns-in-None
 returns-2 c =
     let s = c in
-    ap number_fits (sym c.in-Overflow.is ∙ c.checked_replay_reset-reset.ensures ∙ ap (reset_of s.args.extent) (back s.ranges.step))
+    ap number_fits (sym c.in-None.is ∙ c.checked_replay_reset-reset.ensures ∙ ap (reset_of s.args.extent) (back s.ranges.step))
 
 pub check_reset_spec : {M : Type 1} → statement M
 check_reset_spec =

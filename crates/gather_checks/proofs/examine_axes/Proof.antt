@@ -7,8 +7,7 @@ use lib.ListN.{length}
 use lib.IntN.{ℤ, pos}
 use Rattle.indexing.specs.Coordinates.{pick}
 use Rattle.indexing.specs.Axes.{length-spread}
-use Rattle.layout.specs.declared.Answer.{Answer}
-use Rattle.layout.specs.Answers.{or_else}
+use Rattle.layout.specs.Answers.{or_else, Answer}
 use Rattle.layout.specs.Layouts.{rank_limit, padded}
 use Rattle.spans.proofs.Parts.{part_length}
 use Rattle.gather_checks.specs.Refusals.{resets_refusal}

@@ -14,16 +14,16 @@ enum-known-reset c = search rules
 enum_told : tie.Need-enum_told-1
 enum_told c = search rules
 
-returns : tie.Need-returns-in-Fits
+returns : tie.Need-returns-in-Some
 returns c =
     let s = c in
-    let z : SFits w64 c.in-Fits.z = sfits_of c.in-Fits.known_told-1-own.given.0.1 in
-    back z ∙ ap value_of (sym c.in-Fits.is ∙ c.checked_replay_reset-reset.ensures ∙ ap (reset_of s.args.extent) (back s.ranges.step))
+    let z : SFits w64 c.in-Some.z = sfits_of c.in-Some.known_told-1-own.given.0.1 in
+    back z ∙ ap value_of (sym c.in-Some.is ∙ c.checked_replay_reset-reset.ensures ∙ ap (reset_of s.args.extent) (back s.ranges.step))
 
-returns-2 : tie.Need-returns-in-Overflow
+returns-2 : tie.Need-returns-in-None
 returns-2 c =
     let s = c in
-    ap value_of (sym c.in-Overflow.is ∙ c.checked_replay_reset-reset.ensures ∙ ap (reset_of s.args.extent) (back s.ranges.step))
+    ap value_of (sym c.in-None.is ∙ c.checked_replay_reset-reset.ensures ∙ ap (reset_of s.args.extent) (back s.ranges.step))
 
 pub reset_value_spec : {M : Type 1} → statement M
 reset_value_spec =

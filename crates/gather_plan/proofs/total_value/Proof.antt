@@ -10,11 +10,11 @@ enum-known-total c = search rules
 enum_told : tie.Need-enum_told-1
 enum_told c = search rules
 
-returns : tie.Need-returns-in-Fits
-returns c = ap value_of_u (sym c.in-Fits.is ∙ c.checked_total_len-total.ensures)
+returns : tie.Need-returns-in-Some
+returns c = ap value_of_u (sym c.in-Some.is ∙ c.checked_total_len-total.ensures)
 
-returns-2 : tie.Need-returns-in-Overflow
-returns-2 c = ap value_of_u (sym c.in-Overflow.is ∙ c.checked_total_len-total.ensures)
+returns-2 : tie.Need-returns-in-None
+returns-2 c = ap value_of_u (sym c.in-None.is ∙ c.checked_total_len-total.ensures)
 
 pub total_value_spec : {M : Type 1} → statement M
 total_value_spec =

@@ -1,6 +1,5 @@
 use mathlib.Core.Path.{ap, ◌∙◌}
-use Rattle.layout.specs.declared.Answer.{Answer}
-use Rattle.layout.specs.Answers.{or_else}
+use Rattle.layout.specs.Answers.{or_else, Answer}
 use Rattle.layout.specs.Spans.{total_of}
 use Rattle.checks.specs.Checks.{total_fits}
 use Rattle.operand_checks.proofs.Sizes.{or_assoc}

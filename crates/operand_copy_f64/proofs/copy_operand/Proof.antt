@@ -11,8 +11,8 @@ use Rattle.operand_copy_f64.proofs.copy_operand.Tie as tie
 
 -- the count, where it fits
 module _ (k : tie.In-Fits) where
-  counted : product (take k.args.rank k.args.extents) ≡ k.in-Fits.n
-  counted = total-told _ k.total_len-total.result _ k.total_len-total.ensures k.in-Fits.is
+  counted : product (take k.args.rank k.args.extents) ≡ k.in-Some.n
+  counted = total-told _ k.total_len-total.result _ k.total_len-total.ensures k.in-Some.is
 
 enum-known-total : tie.Need-enum_known-total
 enum-known-total c = search rules
@@ -41,9 +41,9 @@ over-axes-requires c κs =
 enum_told : tie.Need-enum_told-1
 enum_told c = search rules
 
-over-axes-requires-2 : tie.Need-over_axes-requires-in-Overflow
+over-axes-requires-2 : tie.Need-over_axes-requires-in-None
 over-axes-requires-2 c κs =
-    let m = total-many (take c.args.rank c.args.extents) c.total_len-total.result c.total_len-total.ensures c.in-Overflow.is in
+    let m = total-many (take c.args.rank c.args.extents) c.total_len-total.result c.total_len-total.ensures c.in-None.is in
     cells-by _ _ _ _ _ _ c.ranges.s c.ranges.d _ _ _ refl refl refl _ _
     (given-cells _ _ _ _ _ _ _ _ c.requires (many-axes c.args.rank c.args.extents (omega arith)) (omega arith))
 
@@ -54,12 +54,12 @@ returns-3 : tie.Need-returns-else-pays
 returns-3 c =
     given-end _ c.args.s c.args.d c.args.extents c.args.ss c.args.ds c.args.rank c.args.src.now c.args.dst.now c.ranges.s c.ranges.d _ c.over_axes.ensures
 
-same-length-3 : tie.Need-shape_of-dst-in-Overflow
+same-length-3 : tie.Need-shape_of-dst-in-None
 same-length-3 c = search rules
 
-returns-4 : tie.Need-returns-in-Overflow
+returns-4 : tie.Need-returns-in-None
 returns-4 c =
-    given-end _ c.args.s c.args.d c.args.extents c.args.ss c.args.ds c.args.rank c.args.src.now c.args.dst.now c.ranges.s c.ranges.d _ c.over_axes-in-Overflow.ensures
+    given-end _ c.args.s c.args.d c.args.extents c.args.ss c.args.ds c.args.rank c.args.src.now c.args.dst.now c.ranges.s c.ranges.d _ c.over_axes-in-None.ensures
 
 pub copy_operand_spec : {M : Type 1} → statement M
 copy_operand_spec =

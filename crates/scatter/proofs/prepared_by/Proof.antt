@@ -1,3 +1,4 @@
+use Rattle.std.specs.Prelude.{Ok}
 use mathlib.Core.Path.{◌≡◌, ap, ap₂, ◌∙◌}
 use Prim.Native.Nat.{ℕ}
 use lib.IntN.{ℤ, pos}
@@ -9,7 +10,6 @@ use Rattle.components.specs.Components.{unless_none}
 use Rattle.scatter_move.specs.Prepared.{scatter_numbers}
 use Rattle.scatter_move.specs.declared.ScatterNumbers.{ScatterNumbers}
 use Rattle.scatter_move.specs.declared.PreparedScatter.{PreparedScatter}
-use Rattle.layout.specs.declared.Answer.TheVariants as A
 use Rattle.scatter.proofs.prepared_by.Statement.{statement}
 use Rattle.scatter.proofs.prepared_by.Tie as tie
 
@@ -30,7 +30,7 @@ returns c =
     let fb : SFits w64 b.start_base-base.result = search rules in
     let e = n.numbers_of-numbers.ensures in
     let i = back fb ∙ b.start_base-base.ensures ∙ ap₂ (λ (m : ℕ) (z : ℤ). unless_none m (pos 0) z) (ap (λ (w : ScatterNumbers). w.count) e) (back f) in
-    λ j. record { answer = A.Done; reach = s.args.reach; numbers = e j; batch_axes = x.axes_from-batch_axes.ensures j; index = i j; updates = back fu j; dest = back fd j }
+    λ j. record { answer = Ok tt; reach = s.args.reach; numbers = e j; batch_axes = x.axes_from-batch_axes.ensures j; index = i j; updates = back fu j; dest = back fd j }
 
 pub prepared_by_spec : {M : Type 1} → statement M
 prepared_by_spec = tie.close (tie.spec numbers-of-requires (λ c κs. tt) (λ c κs. tt) returns)

@@ -1,3 +1,4 @@
+use Rattle.std.specs.Prelude.{Ok, Err}
 use mathlib.Core.Path.{◌≡◌, ap, ap₂, ◌∙◌}
 use mathlib.Core.Bool.{cond}
 use mathlib.Core.List.{List, []}
@@ -5,7 +6,6 @@ use Prim.Native.Nat.{ℕ, ◌-◌}
 use lib.ListN.{length}
 use Rattle.indexing.specs.Coordinates.{pick}
 use Rattle.indexing.specs.Scatter.{Scatter, scatter_dims, window_dims}
-use Rattle.layout.specs.declared.Answer.TheVariants as A
 use Rattle.layout.specs.Answers.{or_else}
 use Rattle.layout.specs.Lists.{unique_axes}
 use Rattle.axis_lists.specs.Held.{same_list}
@@ -15,6 +15,7 @@ use Rattle.scatter_checks.proofs.Rest.{start-extents, start-count}
 use borrow.Author.Rules.{rules}
 use Rattle.scatter_checks.proofs.check_axes.Statement.{statement}
 use Rattle.scatter_checks.proofs.check_axes.Tie as tie
+use Rattle.layout.specs.declared.Refusal.TheVariants as F
 
 -- the scatter of the arguments
 abbrev asked : tie.Start → Scatter
@@ -35,7 +36,7 @@ batches c =
     let s : tie.Start = search in
     let n : ℕ = length s.args.updates_extents.now in
     c.check_batch-c.ensures
-    ∙ ap₂ (λ (xs ys : List ℕ). cond (same_list (pick 0 xs s.args.updates_extents.now) ys) A.Done (A.ShapeMismatch n n)) s.requires.batches (start-extents (asked s) _ _ _ s.requires)
+    ∙ ap₂ (λ (xs ys : List ℕ). cond (same_list (pick 0 xs s.args.updates_extents.now) ys) (Ok tt) (Err (F.ShapeMismatch n n))) s.requires.batches (start-extents (asked s) _ _ _ s.requires)
 
 check-counts-requires : tie.Need-check_counts-b-requires
 check-counts-requires c κs = search rules

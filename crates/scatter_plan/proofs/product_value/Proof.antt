@@ -35,11 +35,11 @@ enum-known-total c = search rules
 enum_told : tie.Need-enum_told-1
 enum_told c = search rules
 
-returns : tie.Need-returns-in-Fits
-returns c = ap value_of_u (sym c.in-Fits.is ∙ total search)
+returns : tie.Need-returns-in-Some
+returns c = ap value_of_u (sym c.in-Some.is ∙ total search)
 
-returns-2 : tie.Need-returns-in-Overflow
-returns-2 c = ap value_of_u (sym c.in-Overflow.is ∙ total search)
+returns-2 : tie.Need-returns-in-None
+returns-2 c = ap value_of_u (sym c.in-None.is ∙ total search)
 
 pub product_value_spec : {M : Type 1} → statement M
 product_value_spec =

@@ -2,8 +2,7 @@ use mathlib.Core.Path.{◌≡◌, refl, sym, ap, ◌∙◌}
 use lib.ListN.{length}
 use lib.IntN.{ℤ, pos}
 use borrow.Author.Tests.{not-true, not-false}
-use Rattle.layout.specs.declared.Answer.{Answer}
-use Rattle.layout.specs.Answers.{is_done}
+use Rattle.layout.specs.Answers.{is_done, Answer}
 use Rattle.rules.specs.Rules.{rule_i32}
 use Rattle.checks.specs.Checks.{view_from}
 use Rattle.calls.specs.Calls.{view_with, ScatterCall}
