@@ -61,12 +61,9 @@ pub fn batch_extents(
     ensures { result ≡ tabulate rank_limit (λ a. cond (has offset_dims.now a) 1 (get_or extents a 0)) }
 {
     let mut out = [1u64; RAW_FUSED_RANK_LIMIT];
-    let mut a: usize = 0;
-    while a < RAW_FUSED_RANK_LIMIT {
+    for a in 0..RAW_FUSED_RANK_LIMIT {
         let shown = offset_dims.contains(&(a as u64));
-        let extent = batch_extent(shown, extents[a]);
-        out[a] = extent;
-        a += 1;
+        out[a] = batch_extent(shown, extents[a]);
     }
     out
 }
