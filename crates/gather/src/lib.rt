@@ -120,21 +120,10 @@ fn numbers_of(plan: GatherPlan) -> GatherNumbers
 fn plan_fits(plan: GatherPlan, operand: View, index: View, dest: View) -> bool
     ensures { result ≡ plan_fits plan (gather_of plan operand index dest) }
 {
-    let a = operand.layout;
-    let b = index.layout;
-    let c = dest.layout;
-    let x = plan.operand;
-    let y = plan.index;
-    let z = plan.dest;
-    let first = calls::same_layout(a, x);
-    let second = calls::same_layout(b, y);
-    let third = calls::same_layout(c, z);
-    let views = equality::both(first, equality::both(second, third));
-    if views {
-        gather_same::is_compiled(plan)
-    } else {
-        false
-    }
+    calls::same_layout(operand.layout, plan.operand)
+        && calls::same_layout(index.layout, plan.index)
+        && calls::same_layout(dest.layout, plan.dest)
+        && gather_same::is_compiled(plan)
 }
 
 // What a call decides before it touches an element, given the lengths of the three slices.

@@ -54,7 +54,7 @@ fn same_views(
         dest_extents,
         dest_strides,
     );
-    equality::both(first, equality::both(second, equality::both(third, fourth)))
+    first & (second & (third & fourth))
 }
 
 // A call on any four views: compile's refusal, then 8 where a view has another layout than was compiled for, then 9.

@@ -32,24 +32,11 @@ fn plan_fits(
     ensures { result ≡ plan_fits plan batch_rows window_rows (view_of operand) (scatter_of plan.scatter index updates dest) }
 {
     let inner = plan.scatter;
-    let o = operand.layout;
-    let a = index.layout;
-    let b = updates.layout;
-    let c = dest.layout;
-    let w = plan.operand;
-    let x = inner.index;
-    let y = inner.updates;
-    let z = inner.dest;
-    let first = calls::same_layout(o, w);
-    let second = calls::same_layout(a, x);
-    let third = calls::same_layout(b, y);
-    let fourth = calls::same_layout(c, z);
-    let views = equality::both(first, equality::both(second, equality::both(third, fourth)));
-    if views {
-        operand_plan::is_compiled(plan, batch_rows, window_rows)
-    } else {
-        false
-    }
+    calls::same_layout(operand.layout, plan.operand)
+        && calls::same_layout(index.layout, inner.index)
+        && calls::same_layout(updates.layout, inner.updates)
+        && calls::same_layout(dest.layout, inner.dest)
+        && operand_plan::is_compiled(plan, batch_rows, window_rows)
 }
 
 // What a call decides before it touches an element, given the lengths of the four slices.

@@ -72,21 +72,10 @@ fn plan_fits(
 ) -> bool
     ensures { result ≡ plan_fits plan batch_rows window_rows (scatter_of plan index updates dest) }
 {
-    let a = index.layout;
-    let b = updates.layout;
-    let c = dest.layout;
-    let x = plan.index;
-    let y = plan.updates;
-    let z = plan.dest;
-    let first = calls::same_layout(a, x);
-    let second = calls::same_layout(b, y);
-    let third = calls::same_layout(c, z);
-    let views = equality::both(first, equality::both(second, third));
-    if views {
-        scatter_same::is_compiled(plan, batch_rows, window_rows)
-    } else {
-        false
-    }
+    calls::same_layout(index.layout, plan.index)
+        && calls::same_layout(updates.layout, plan.updates)
+        && calls::same_layout(dest.layout, plan.dest)
+        && scatter_same::is_compiled(plan, batch_rows, window_rows)
 }
 
 // What is ready to be moved, by a plan that is what compile gives, where the views pass the test of 9.

@@ -260,7 +260,7 @@ pub fn prepare_views(
         dest_extents,
         dest_strides,
     );
-    let same = equality::both(first, equality::both(second, third));
+    let same = first & (second & third);
     if same {
         return prepare(
             index_extents,
