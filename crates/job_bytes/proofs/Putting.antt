@@ -35,11 +35,6 @@ pub record PuttingWords (l₀ : List ℕ) (at : ℕ) (ws : List ℕ) (l : List �
   pub same : length l ≡ length l₀
   pub left : sets l (at + 8 * i) (words_of (drop i ws)) ≡ sets l₀ at (words_of ws)
 
-pub no-word-put : (l : List ℕ) (at : ℕ) (ws : List ℕ) → PuttingWords l at ws l 0
-no-word-put l at ws =
-    let f : at + 8 * 0 ≡ at = omega arith in
-    record { here = omega arith; same = refl; left = rw f }
-
 pub word-put : (l₀ : List ℕ) (at : ℕ) (ws : List ℕ) (l m : List ℕ) (i : ℕ) → i < length ws → m ≡ sets l (at + 8 * i) (bytes_of 8 (get_or ws i 0)) → PuttingWords l₀ at ws l i → PuttingWords l₀ at ws m (i + 1)
 unfolding words_of
 word-put l₀ at ws l m i h e p =

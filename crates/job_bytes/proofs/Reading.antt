@@ -47,10 +47,6 @@ abbrev pub ahead : List ℕ → Field (List ℕ) → Field (List ℕ)
 ahead xs (read ys k) = read (xs ++ ys) k
 ahead xs (fault k) = fault k
 
-ahead_none : (f : Field (List ℕ)) → ahead [] f ≡ f
-ahead_none (read ys k) = refl
-ahead_none (fault k) = refl
-
 ahead-one : (xs : List ℕ) (x : ℕ) (f : Field (List ℕ)) → ahead xs (and_then f (λ ys k. read (x ∷ ys) k)) ≡ ahead (xs ++ (x ∷ [])) f
 ahead-one xs x (read ys k) = ap (λ (l : List ℕ). read l k) (sym (append_assoc xs (x ∷ []) ys))
 ahead-one xs x (fault k) = refl
@@ -61,11 +57,6 @@ pub record Reading (n : ℕ) (bs : List ℕ) (at : ℕ) (out : List ℕ) (place 
   pub size : length out ≡ list_limit
   pub rest : drop i out ≡ replicate (list_limit - i) 0
   pub left : ahead (take i out) (words_at (n - i) bs place) ≡ words_at n bs at
-
-pub no_word : (n : ℕ) (bs : List ℕ) (at : ℕ) → Reading n bs at (replicate list_limit 0) at 0
-no_word n bs at =
-    let e : n - 0 ≡ n = omega arith in
-    record { here = omega arith; size = refl; rest = refl; left = rw e (ahead_none (words_at n bs at)) }
 
 -- one zero less
 zeros-behind : (out : List ℕ) (i : ℕ) → i < length out → i < list_limit → drop i out ≡ replicate (list_limit - i) 0 → drop (suc i) out ≡ replicate (list_limit - suc i) 0
@@ -125,13 +116,14 @@ module _ (low high : ℕ) (bs : List ℕ) (at : ℕ) where
   unfolding byte_at
   byte-fault k e = rw e
 
-  pub byte_low : (b k : ℕ) → number_at 1 bs at ≡ read b k → b < low → byte_at low high bs at ≡ fault at
+  pub byte-out : (b k : ℕ) → number_at 1 bs at ≡ read b k → (low ≤ b → b ≤ high → ⊥) → byte_at low high bs at ≡ fault at
   unfolding byte_at
-  byte_low b k e h = rw (e, lt-leb low b h)
-
-  pub byte_high : (b k : ℕ) → number_at 1 bs at ≡ read b k → low ≤ b → high < b → byte_at low high bs at ≡ fault at
-  unfolding byte_at
-  byte_high b k e h l = rw (e, le-leb low b h, lt-leb b high l)
+  byte-out b k e h = rw e (go (leb low b) (leb b high) refl refl)
+    where
+      go : (s t : Bool) → leb low b ≡ s → leb b high ≡ t → cond (s && t) (read b k) (fault at) ≡ fault at
+      go true true p q = absurd (h (leb-true low b p) (leb-true b high q))
+      go true false p q = refl
+      go false t p q = refl
 
   pub byte-here : (b k : ℕ) → number_at 1 bs at ≡ read b k → low ≤ b → b ≤ high → byte_at low high bs at ≡ read b k
   unfolding byte_at

@@ -55,7 +55,7 @@ pub fn read_byte(bytes: &[u8], at: usize, low: u64, high: u64) -> Result<Read<u6
     ensures { result ≡ held (byte_at low high bytes.now at) }
 {
     let byte = read_number(bytes, at, 1)?;
-    if byte.value < low || high < byte.value {
+    if !(low..=high).contains(&byte.value) {
         return Err(Fault { at });
     }
     Ok(byte)

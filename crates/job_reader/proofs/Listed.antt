@@ -1,9 +1,8 @@
 -- A byte that stands for a kind or an element, and one that stands for none. Assumes nothing.
 use Rattle.std.proofs.Common.{◌≡◌, ℕ, ◌≤◌, Bool, true, false, cond, eqb, Result, Ok, Err, List, refl, arith}
-use borrow.Author.Tests.{eqb-true, eqb-false, leb-true, leb-false}
-use lib.Dec.{leb}
+use borrow.Author.Tests.{eqb-true, eqb-false}
 use Rattle.job_bytes.specs.Fields.{read, fault, number_at, byte_at}
-use Rattle.job_bytes.proofs.Reading.{byte_low, byte_high, byte-here}
+use Rattle.job_bytes.proofs.Reading.{byte-out, byte-here}
 use Rattle.job.specs.declared.Unlisted.{Unlisted}
 
 -- x at 1, y at 2
@@ -27,13 +26,9 @@ listed {T} x y t bs at b k n e = one (eqb b 1) refl e
 pub unlisted : {T : Type 0} (x y : T) (u : Unlisted) (bs : List ℕ) (at b k : ℕ) → number_at 1 bs at ≡ read b k → Err u ≡ one_or_two x y b → byte_at 1 2 bs at ≡ fault at
 unlisted {T} x y u bs at b k n e = one (eqb b 1) refl e
   where
-    low : (q : Bool) → leb 1 b ≡ q → (b ≡ 1 → ⊥) → (b ≡ 2 → ⊥) → byte_at 1 2 bs at ≡ fault at
-    low true p f g = let l = leb-true 1 b p in byte_high 1 2 bs at b k n l (omega arith)
-    low false p f g = byte_low 1 2 bs at b k n (leb-false 1 b p)
-
     two : (q : Bool) → eqb b 2 ≡ q → (b ≡ 1 → ⊥) → ◌≡◌ {A = Result T Unlisted} (Err u) (cond q (Ok y) (Err (record {}))) → byte_at 1 2 bs at ≡ fault at
     two true p f e = absurd cc
-    two false p f e = low (leb 1 b) refl f (eqb-false b 2 p)
+    two false p f e = let g = eqb-false b 2 p in byte-out 1 2 bs at b k n (λ l h. omega arith)
 
     one : (q : Bool) → eqb b 1 ≡ q → ◌≡◌ {A = Result T Unlisted} (Err u) (cond q (Ok x) (cond (eqb b 2) (Ok y) (Err (record {})))) → byte_at 1 2 bs at ≡ fault at
     one true p e = absurd cc

@@ -1,8 +1,8 @@
 -- Parts of a job as bytes: how many they are, and one stored behind another. Assumes nothing.
 use Rattle.std.specs.Prelude.{Ok, Err}
 use mathlib.Core.Path.{◌≡◌, refl, sym, ap, ap₂, subst, ◌∙◌}
-use mathlib.Core.Bool.{Bool, true, false, cond}
-use mathlib.Core.List.{List, [], ◌++◌, map}
+use mathlib.Core.Bool.{true, false}
+use mathlib.Core.List.{List, ◌++◌, map}
 use Prim.Native.Nat.{ℕ, ◌+◌, ◌*◌, ◌≤◌, ◌<◌, min}
 use native.Mathlib.Omega.{arith}
 use native.Mathlib.Nat.{zero-add}
@@ -22,7 +22,7 @@ use Rattle.job.specs.declared.List16.{List16}
 use Rattle.job.specs.declared.Views.{Views}
 use Rattle.job.specs.declared.Spec.{Spec}
 use Rattle.job.specs.declared.Job.{Job}
-use Rattle.job.specs.Jobs.{entries_of, job_refusal}
+use Rattle.job.specs.Jobs.{entries_of}
 use Rattle.job.specs.Format.{stored_extents, stored_strides, view_bytes, list_bytes, sizes_bytes, spec_bytes, views_bytes, body_bytes, encoded, view_most, list_most, views_most, spec_most, kind_byte, element_byte}
 use Rattle.job_bytes.specs.Version.{version, stored_rank_limit, stored-held}
 use Rattle.job_writer.specs.Written.{Put, PutJob, Written, Sized, room_refusal}
@@ -133,9 +133,6 @@ length_spec kind s =
     let e : List ℕ = sizes_bytes kind s.slice_sizes in
     omega (arith, length-append a (b ++ (c ++ (d ++ e))), length-append b (c ++ (d ++ e)), length-append c (d ++ e), length-append d e, length-bytes 8 s.index_vector_dim)
 
-pub put-none : (l : List ℕ) (at : ℕ) → Put l l at [] at
-put-none l at = record { cells = refl; place = omega arith }
-
 -- ---- the whole job
 pub length-body : (j : Job) → length (body_bytes j) ≡ 3 + (length (views_bytes j.views) + length (spec_bytes j.kind j.spec))
 unfolding body_bytes
@@ -172,15 +169,3 @@ module _ (j : Job) (size : ℕ) (is : size ≡ length (body_bytes j)) (before : 
       let t : leb (length (encoded j)) (length before) ≡ true = le-leb (length (encoded j)) (length before) (omega arith) in
       let w : after ≡ encoded j ++ drop (length (encoded j)) before = whole.cells ∙ sets-eq (encoded j) before 0 (omega arith) ∙ ap (λ (i : ℕ). encoded j ++ drop i before) (zero-add (length (encoded j))) in
       record { answers = rw t; leaves = w }
-
--- ---- after the refusals of the job
-module _ (j : Job) (before : List ℕ) where
-  pub refused-whole : (x : Answer) → x ≡ job_refusal j → is_done x ≡ false → Written j before x before
-  refused-whole x e h =
-      let f : is_done (job_refusal j) ≡ false = ap is_done (sym e) ∙ h in
-      record { answers = e ∙ sym (ap (λ (t : Bool). cond t (room_refusal j (length before)) (job_refusal j)) f); leaves = rw h }
-
-  pub put_whole : (x : Answer) → x ≡ job_refusal j → is_done x ≡ true → (answer : Answer) (after : List ℕ) → PutJob j before answer after → Written j before answer after
-  put_whole x e h answer after p =
-      let f : is_done (job_refusal j) ≡ true = ap is_done (sym e) ∙ h in
-      record { answers = p.answers ∙ sym (ap (λ (t : Bool). cond t (room_refusal j (length before)) (job_refusal j)) f); leaves = p.leaves }
