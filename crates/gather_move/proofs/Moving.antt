@@ -2,7 +2,7 @@
 use mathlib.Core.Path.{◌≡◌, refl, sym, ap, ap₂, subst, ◌∙◌}
 use mathlib.Core.Bool.{Bool, true, false, cond}
 use mathlib.Core.List.{List}
-use Prim.Native.Nat.{ℕ, zero, suc, ◌+◌, ◌-◌, ◌<◌, ◌≤◌, ◌^◌}
+use Prim.Native.Nat.{ℕ, zero, suc, ◌-◌, ◌<◌, ◌≤◌, ◌^◌}
 use native.Mathlib.Omega.{arith}
 use lib.Dec.{eqb}
 use lib.ListN.{length, get_or, take, replicate, length-replicate}
@@ -163,7 +163,7 @@ module _ (g : Gather) (done : is_done (refusal_of A.Done g) ≡ true) where
 
     -- THE MOVE leaves what the gather leaves
     pub move-is : {A : Type 0} (z : A) (rule : A → A → A) (src into : List A) → ((x u : A) → rule x u ≡ u)
-        → gathered_by z rule src starts w.offsets w.strides w.limits w.count a (start_base g) c w.extents w.window_steps w.batch_steps w.dest_steps w.rank into ≡ gathered z g starts src into
+        → gathered_by z rule src starts w.components.offsets w.components.strides w.components.limits w.components.count a (start_base g) c w.extents w.window_steps w.batch_steps w.dest_steps w.rank into ≡ gathered z g starts src into
     unfolding gather_numbers cells
     move-is {A} z rule src into copies =
         ap (λ (e : List ℕ). in_order (cell_at z rule src (moved_at starts offsets strides limits n source start_place) (place_at c extents dests r)) (product e) into) (extents-are g done)
@@ -224,7 +224,7 @@ module _ (g : Gather) (done : is_done (refusal_of A.Done g) ≡ true) where
       few-extents : (i : ℕ) → i < r → get_or extents i 0 ≤ 2 ^ 63
       few-extents i h = subst (λ (m : ℕ). m ≤ 2 ^ 63) (sym (entry-below r extents i 0 h ∙ ap (λ (e : List ℕ). get_or e i 0) (extents-are g done))) ((small A.Done g done).result i h)
 
-      pub gathering : Gathering starts w.offsets w.strides w.limits w.count a (start_base g) c w.extents w.window_steps w.batch_steps w.dest_steps w.rank on dn
+      pub gathering : Gathering starts w.components.offsets w.components.strides w.components.limits w.components.count a (start_base g) c w.extents w.window_steps w.batch_steps w.dest_steps w.rank on dn
       unfolding gather_numbers
       gathering =
           record {

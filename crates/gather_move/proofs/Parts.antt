@@ -81,11 +81,11 @@ module _ (p : PreparedGather) (low high on : ℕ) (starts : List ℤ) (dn : ℕ)
   part-batched = subst (λ (v : GatherNumbers). Batched v.extents v.batch_extents v.batch_steps v.rank) (sym ready.numbers) (batched g ready.accepted)
 
   pub part-slid : (r : ℕ)
-      → r ≡ slid_of (product (take p.numbers.rank p.numbers.extents)) (starts_moved starts p.numbers.offsets p.numbers.limits p.numbers.count (product (take p.numbers.rank p.numbers.batch_extents)) (place_at p.index p.numbers.batch_extents p.numbers.batch_steps p.numbers.rank))
+      → r ≡ slid_of (product (take p.numbers.rank p.numbers.extents)) (starts_moved starts p.numbers.components.offsets p.numbers.components.limits p.numbers.components.count (product (take p.numbers.rank p.numbers.batch_extents)) (place_at p.index p.numbers.batch_extents p.numbers.batch_steps p.numbers.rank))
       → r ≡ slid_gather g starts
   part-slid r h =
       h
-      ∙ ap₂ (λ (v : GatherNumbers) (z : ℤ). slid_of (product (take v.rank v.extents)) (starts_moved starts v.offsets v.limits v.count (product (take v.rank v.batch_extents)) (place_at z v.batch_extents v.batch_steps v.rank))) ready.numbers ready.index
+      ∙ ap₂ (λ (v : GatherNumbers) (z : ℤ). slid_of (product (take v.rank v.extents)) (starts_moved starts v.components.offsets v.components.limits v.components.count (product (take v.rank v.batch_extents)) (place_at z v.batch_extents v.batch_steps v.rank))) ready.numbers ready.index
       ∙ slid-is g ready.accepted starts
 
   pub high-in : high < dn
@@ -131,26 +131,26 @@ module _ (p : PreparedGather) (low high on : ℕ) (starts : List ℤ) (dn : ℕ)
     abbrev part : Gather
     part = on_part g (c -ℤ pos low)
 
-    pub part-asks : length starts < 2 ^ 63 → Gathering starts p.numbers.offsets p.numbers.strides p.numbers.limits p.numbers.count p.operand p.index at p.numbers.extents p.numbers.window_steps p.numbers.batch_steps p.numbers.dest_steps p.numbers.rank on n
+    pub part-asks : length starts < 2 ^ 63 → Gathering starts p.numbers.components.offsets p.numbers.components.strides p.numbers.components.limits p.numbers.components.count p.operand p.index at p.numbers.extents p.numbers.window_steps p.numbers.batch_steps p.numbers.dest_steps p.numbers.rank on n
     part-asks room =
         let t = or-done (buffer_bounds 1 (reach_in g.operand on)) _ ready.bounds in
         let u = or-done (buffer_bounds 2 (reach_in g.indices (length starts))) _ t.1 in
-        subst (λ (v : GatherNumbers). Gathering starts v.offsets v.strides v.limits v.count p.operand p.index at v.extents v.window_steps v.batch_steps v.dest_steps v.rank on n) (sym (ready.numbers ∙ numbers-part g (c -ℤ pos low)))
-        (subst (λ (z : ℤ). Gathering starts (gather_numbers part).offsets (gather_numbers part).strides (gather_numbers part).limits (gather_numbers part).count z p.index at (gather_numbers part).extents (gather_numbers part).window_steps (gather_numbers part).batch_steps (gather_numbers part).dest_steps (gather_numbers part).rank on n) (sym ready.operand)
-        (subst (λ (z : ℤ). Gathering starts (gather_numbers part).offsets (gather_numbers part).strides (gather_numbers part).limits (gather_numbers part).count g.operand.offset z at (gather_numbers part).extents (gather_numbers part).window_steps (gather_numbers part).batch_steps (gather_numbers part).dest_steps (gather_numbers part).rank on n) (sym ready.index)
-        (subst (λ (z : ℤ). Gathering starts (gather_numbers part).offsets (gather_numbers part).strides (gather_numbers part).limits (gather_numbers part).count g.operand.offset (start_base g) z (gather_numbers part).extents (gather_numbers part).window_steps (gather_numbers part).batch_steps (gather_numbers part).dest_steps (gather_numbers part).rank on n) (sym ea)
+        subst (λ (v : GatherNumbers). Gathering starts v.components.offsets v.components.strides v.components.limits v.components.count p.operand p.index at v.extents v.window_steps v.batch_steps v.dest_steps v.rank on n) (sym (ready.numbers ∙ numbers-part g (c -ℤ pos low)))
+        (subst (λ (z : ℤ). Gathering starts (gather_numbers part).components.offsets (gather_numbers part).components.strides (gather_numbers part).components.limits (gather_numbers part).components.count z p.index at (gather_numbers part).extents (gather_numbers part).window_steps (gather_numbers part).batch_steps (gather_numbers part).dest_steps (gather_numbers part).rank on n) (sym ready.operand)
+        (subst (λ (z : ℤ). Gathering starts (gather_numbers part).components.offsets (gather_numbers part).components.strides (gather_numbers part).components.limits (gather_numbers part).components.count g.operand.offset z at (gather_numbers part).extents (gather_numbers part).window_steps (gather_numbers part).batch_steps (gather_numbers part).dest_steps (gather_numbers part).rank on n) (sym ready.index)
+        (subst (λ (z : ℤ). Gathering starts (gather_numbers part).components.offsets (gather_numbers part).components.strides (gather_numbers part).components.limits (gather_numbers part).components.count g.operand.offset (start_base g) z (gather_numbers part).extents (gather_numbers part).window_steps (gather_numbers part).batch_steps (gather_numbers part).dest_steps (gather_numbers part).rank on n) (sym ea)
         (gathering part (done-part g (c -ℤ pos low) ready.accepted) starts on n t.0 u.0 covered-here room))))
 
     module _ {A : Type 0} (z : A) (rule : A → A → A) (copies : (x u : A) → rule x u ≡ u) (src xs : List A) (m : length xs ≡ dn) where
-      part-is : (ys : List A) → gathered_by z rule src starts p.numbers.offsets p.numbers.strides p.numbers.limits p.numbers.count p.operand p.index at p.numbers.extents p.numbers.window_steps p.numbers.batch_steps p.numbers.dest_steps p.numbers.rank ys ≡ gathered z part starts src ys
+      part-is : (ys : List A) → gathered_by z rule src starts p.numbers.components.offsets p.numbers.components.strides p.numbers.components.limits p.numbers.components.count p.operand p.index at p.numbers.extents p.numbers.window_steps p.numbers.batch_steps p.numbers.dest_steps p.numbers.rank ys ≡ gathered z part starts src ys
       part-is ys =
-          ap (λ (v : GatherNumbers). gathered_by z rule src starts v.offsets v.strides v.limits v.count p.operand p.index at v.extents v.window_steps v.batch_steps v.dest_steps v.rank ys) (ready.numbers ∙ numbers-part g (c -ℤ pos low))
-          ∙ ap (λ (x : ℤ). gathered_by z rule src starts (gather_numbers part).offsets (gather_numbers part).strides (gather_numbers part).limits (gather_numbers part).count x p.index at (gather_numbers part).extents (gather_numbers part).window_steps (gather_numbers part).batch_steps (gather_numbers part).dest_steps (gather_numbers part).rank ys) ready.operand
-          ∙ ap₂ (λ (x y : ℤ). gathered_by z rule src starts (gather_numbers part).offsets (gather_numbers part).strides (gather_numbers part).limits (gather_numbers part).count g.operand.offset x y (gather_numbers part).extents (gather_numbers part).window_steps (gather_numbers part).batch_steps (gather_numbers part).dest_steps (gather_numbers part).rank ys) ready.index ea
+          ap (λ (v : GatherNumbers). gathered_by z rule src starts v.components.offsets v.components.strides v.components.limits v.components.count p.operand p.index at v.extents v.window_steps v.batch_steps v.dest_steps v.rank ys) (ready.numbers ∙ numbers-part g (c -ℤ pos low))
+          ∙ ap (λ (x : ℤ). gathered_by z rule src starts (gather_numbers part).components.offsets (gather_numbers part).components.strides (gather_numbers part).components.limits (gather_numbers part).components.count x p.index at (gather_numbers part).extents (gather_numbers part).window_steps (gather_numbers part).batch_steps (gather_numbers part).dest_steps (gather_numbers part).rank ys) ready.operand
+          ∙ ap₂ (λ (x y : ℤ). gathered_by z rule src starts (gather_numbers part).components.offsets (gather_numbers part).components.strides (gather_numbers part).components.limits (gather_numbers part).components.count g.operand.offset x y (gather_numbers part).extents (gather_numbers part).window_steps (gather_numbers part).batch_steps (gather_numbers part).dest_steps (gather_numbers part).rank ys) ready.index ea
           ∙ move-is part (done-part g (c -ℤ pos low) ready.accepted) starts z rule src ys copies
 
       -- the rest stays
-      pub part-leaves : (ys : List A) → ys ≡ gathered_by z rule src starts p.numbers.offsets p.numbers.strides p.numbers.limits p.numbers.count p.operand p.index at p.numbers.extents p.numbers.window_steps p.numbers.batch_steps p.numbers.dest_steps p.numbers.rank (take n (drop low xs))
+      pub part-leaves : (ys : List A) → ys ≡ gathered_by z rule src starts p.numbers.components.offsets p.numbers.components.strides p.numbers.components.limits p.numbers.components.count p.operand p.index at p.numbers.extents p.numbers.window_steps p.numbers.batch_steps p.numbers.dest_steps p.numbers.rank (take n (drop low xs))
           → take low xs ++ (ys ++ drop n (drop low xs)) ≡ gathered z g starts src xs
       part-leaves ys h =
           let lb : length (take low xs) ≡ low = length-take-le low xs (omega (arith, low-high, high-in)) in

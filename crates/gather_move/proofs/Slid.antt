@@ -3,7 +3,7 @@ use mathlib.Core.Path.{◌≡◌, refl, sym, ap, ap₂, subst, ◌∙◌}
 use mathlib.Core.Logic.{inl, inr}
 use mathlib.Core.Bool.{Bool, true, false, cond}
 use mathlib.Core.List.{List, [], ◌∷◌}
-use Prim.Native.Nat.{ℕ, zero, suc, ◌+◌, ◌*◌, ◌-◌, ◌<◌, ◌≤◌, ◌^◌}
+use Prim.Native.Nat.{ℕ, zero, suc, ◌*◌, ◌<◌, ◌≤◌, ◌^◌}
 use native.Mathlib.Nat.{mul-le-mul_left, mul_comm}
 use native.Mathlib.Omega.{arith}
 use borrow.Author.Tests.{ltb-true}
@@ -190,7 +190,7 @@ module _ (g : Gather) (done : is_done (refusal_of A.Done g) ≡ true) where
     slides-is b = one_same n _ _ (λ j h. moved-is b j h)
 
     -- THE COUNT of the move is the gather's number
-    pub slid-is : slid_of (product (take w.rank w.extents)) (starts_moved starts w.offsets w.limits w.count (product (take w.rank w.batch_extents)) (place_at (start_base g) w.batch_extents w.batch_steps w.rank)) ≡ slid_gather g starts
+    pub slid-is : slid_of (product (take w.rank w.extents)) (starts_moved starts w.components.offsets w.components.limits w.components.count (product (take w.rank w.batch_extents)) (place_at (start_base g) w.batch_extents w.batch_steps w.rank)) ≡ slid_gather g starts
     unfolding gather_numbers slid_gather cells
     slid-is =
         ap₂ slid_of (ap product (extents-are g done))

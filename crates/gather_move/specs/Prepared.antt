@@ -24,10 +24,12 @@ gather_numbers g =
       window_steps = padded rank_limit (pos 0) (window_steps g);
       batch_steps = unless_none (length g.spec.start-index-map) (replicate rank_limit (pos 0)) (padded rank_limit (pos 0) (batch_steps g));
       dest_steps = padded rank_limit (pos 0) g.result.strides;
-      count = length g.spec.start-index-map;
-      offsets = padded rank_limit (pos 0) (tabulate (length g.spec.start-index-map) (λ c. vector_stride g.indices g.spec.index-vector-dim *ℤ pos c));
-      strides = padded rank_limit (pos 0) (pick (pos 0) g.spec.start-index-map g.operand.strides);
-      limits = tabulate rank_limit (limit_at g.operand.extents g.spec.slice-sizes g.spec.start-index-map);
+      components = record {
+        count = length g.spec.start-index-map;
+        offsets = padded rank_limit (pos 0) (tabulate (length g.spec.start-index-map) (λ c. vector_stride g.indices g.spec.index-vector-dim *ℤ pos c));
+        strides = padded rank_limit (pos 0) (pick (pos 0) g.spec.start-index-map g.operand.strides);
+        limits = tabulate rank_limit (limit_at g.operand.extents g.spec.slice-sizes g.spec.start-index-map);
+      };
     }
 
 -- where the starts are read from

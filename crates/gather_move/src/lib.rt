@@ -1,22 +1,20 @@
-// Gather: what a call has decided before it touches an element, and the move of elements by it, for i32 and for f64.
+// Gather: what a call has decided before it touches an element, and the move of elements by it, over any element.
 #![tactic(auto)]
 
 ghost use Rattle.std.specs.Prelude.{◌≡◌, cond, pos, length, get_or, take};
-ghost use Rattle.std.specs.Float.{nan};
 ghost use Rattle.indexing.specs.Coordinates.{product, tabulate, has};
 ghost use Rattle.indexing.specs.Gather.{gathered};
 ghost use Rattle.indexing.specs.Slid.{slid_of, slid_gather};
 ghost use Rattle.layout.specs.Layouts.{rank_limit};
-ghost use Rattle.indexed_runs.specs.IndexedRuns.{starts_moved};
+ghost use Rattle.indexed_runs.specs.IndexedRuns.{replaced, starts_moved};
 ghost use Rattle.windows.specs.Windows.{place_at};
-ghost use Rattle.rules.specs.Rules.{rule_i32, rule_f64};
-ghost use Rattle.rules.specs.declared.Rule.TheVariants as R;
-ghost use Rattle.rules.specs.declared.RuleF64.TheVariants as F;
 ghost use Rattle.gather_windows.specs.Gathering.{gathered_by, Gathering, Batched};
 ghost use Rattle.calls.specs.Calls.{Does, as_is};
 ghost use Rattle.gather_move.specs.Prepared.{Cells, Movable};
 
+use indexed_runs::Components;
 use layout::{Answer, CallAnswer, RAW_FUSED_RANK_LIMIT, Reach};
+use rules::Element;
 
 // The numbers that the cells of a gather are moved with: the destination's axes, with the batch coordinates of each and its steps in
 // the operand, the index view and the destination, and the components of a start.
@@ -28,10 +26,7 @@ pub struct GatherNumbers {
     pub window_steps: [i64; RAW_FUSED_RANK_LIMIT],
     pub batch_steps: [i64; RAW_FUSED_RANK_LIMIT],
     pub dest_steps: [i64; RAW_FUSED_RANK_LIMIT],
-    pub count: usize,
-    pub offsets: [i64; RAW_FUSED_RANK_LIMIT],
-    pub strides: [i64; RAW_FUSED_RANK_LIMIT],
-    pub limits: [u64; RAW_FUSED_RANK_LIMIT],
+    pub components: Components,
 }
 
 // What a call of a gather has decided: its answer; where that is Done, also where the destination's cells lie, the numbers, and
@@ -61,12 +56,9 @@ pub fn batch_extents(
     ensures { result ≡ tabulate rank_limit (λ a. cond (has offset_dims.now a) 1 (get_or extents a 0)) }
 {
     let mut out = [1u64; RAW_FUSED_RANK_LIMIT];
-    let mut a: usize = 0;
-    while a < RAW_FUSED_RANK_LIMIT {
+    for a in 0..RAW_FUSED_RANK_LIMIT {
         let shown = axis_lists::contains(offset_dims, a as u64);
-        let extent = batch_extent(shown, extents[a]);
-        out[a] = extent;
-        a += 1;
+        out[a] = batch_extent(shown, extents[a]);
     }
     out
 }
@@ -77,6 +69,12 @@ pub fn refused(answer: Answer) -> PreparedGather
 {
     let ones = [1u64; RAW_FUSED_RANK_LIMIT];
     let zeros = [0i64; RAW_FUSED_RANK_LIMIT];
+    let components = Components {
+        count: 0,
+        offsets: zeros,
+        strides: zeros,
+        limits: ones,
+    };
     let numbers = GatherNumbers {
         rank: 0,
         extents: ones,
@@ -84,10 +82,7 @@ pub fn refused(answer: Answer) -> PreparedGather
         window_steps: zeros,
         batch_steps: zeros,
         dest_steps: zeros,
-        count: 0,
-        offsets: zeros,
-        strides: zeros,
-        limits: ones,
+        components,
     };
     PreparedGather {
         answer,
@@ -100,32 +95,21 @@ pub fn refused(answer: Answer) -> PreparedGather
 }
 
 // The cells of a gather from the operand's base, the start's base and the place `at` in the part of the destination that is lent on.
-fn run_i32(p: PreparedGather, source: &[i32], starts: &[i64], into: &mut [i32], at: i64) -> u64
-    requires { Gathering starts.now p.numbers.offsets p.numbers.strides p.numbers.limits p.numbers.count p.operand p.index at p.numbers.extents p.numbers.window_steps p.numbers.batch_steps p.numbers.dest_steps p.numbers.rank (length source.now) (length into.old) × Batched p.numbers.extents p.numbers.batch_extents p.numbers.batch_steps p.numbers.rank }
-    ensures { (into.new ≡ gathered_by (pos 0) (rule_i32 R.Replace) source.now starts.now p.numbers.offsets p.numbers.strides p.numbers.limits p.numbers.count p.operand p.index at p.numbers.extents p.numbers.window_steps p.numbers.batch_steps p.numbers.dest_steps p.numbers.rank into.old) × (result ≡ slid_of (product (take p.numbers.rank p.numbers.extents)) (starts_moved starts.now p.numbers.offsets p.numbers.limits p.numbers.count (product (take p.numbers.rank p.numbers.batch_extents)) (place_at p.index p.numbers.batch_extents p.numbers.batch_steps p.numbers.rank))) }
+fn run<E: Element>(p: PreparedGather, source: &[E], starts: &[i64], into: &mut [E], at: i64) -> u64
+    requires { Gathering starts.now p.numbers.components.offsets p.numbers.components.strides p.numbers.components.limits p.numbers.components.count p.operand p.index at p.numbers.extents p.numbers.window_steps p.numbers.batch_steps p.numbers.dest_steps p.numbers.rank (length source.now) (length into.old) × Batched p.numbers.extents p.numbers.batch_extents p.numbers.batch_steps p.numbers.rank }
+    ensures { (into.new ≡ gathered_by E.absent replaced source.now starts.now p.numbers.components.offsets p.numbers.components.strides p.numbers.components.limits p.numbers.components.count p.operand p.index at p.numbers.extents p.numbers.window_steps p.numbers.batch_steps p.numbers.dest_steps p.numbers.rank into.old) × (result ≡ slid_of (product (take p.numbers.rank p.numbers.extents)) (starts_moved starts.now p.numbers.components.offsets p.numbers.components.limits p.numbers.components.count (product (take p.numbers.rank p.numbers.batch_extents)) (place_at p.index p.numbers.batch_extents p.numbers.batch_steps p.numbers.rank))) }
 {
     let numbers = p.numbers;
-    let extents = numbers.extents;
-    let batches = numbers.batch_extents;
-    let window = numbers.window_steps;
-    let batch = numbers.batch_steps;
-    let dest = numbers.dest_steps;
-    let offsets = numbers.offsets;
-    let strides = numbers.strides;
-    let limits = numbers.limits;
     gather_windows::gather_window(
         source,
         starts,
         into,
-        &extents,
-        &batches,
-        &window,
-        &batch,
-        &dest,
-        numbers.count,
-        &offsets,
-        &strides,
-        &limits,
+        &numbers.extents,
+        &numbers.batch_extents,
+        &numbers.window_steps,
+        &numbers.batch_steps,
+        &numbers.dest_steps,
+        &numbers.components,
         numbers.rank,
         p.operand,
         p.index,
@@ -134,27 +118,33 @@ fn run_i32(p: PreparedGather, source: &[i32], starts: &[i64], into: &mut [i32], 
 }
 
 // The gather where the destination has cells, from the index low to the index high: it is lent on as that part.
-fn cells_i32(
+fn cells<E: Element>(
     p: PreparedGather,
-    source: &[i32],
+    source: &[E],
     starts: &[i64],
-    into: &mut [i32],
+    into: &mut [E],
     low: usize,
     high: usize,
 ) -> u64
     requires { Cells p low high (length source.now) (length starts.now) (length into.old) }
-    ensures { (k : Cells p low high (length source.now) (length starts.now) (length into.old)) → (into.new ≡ gathered (pos 0) k.gather starts.now source.now into.old) × (result ≡ slid_gather k.gather starts.now) }
+    ensures { (k : Cells p low high (length source.now) (length starts.now) (length into.old)) → (into.new ≡ gathered E.absent k.gather starts.now source.now into.old) × (result ≡ slid_gather k.gather starts.now) }
 {
+    E::short(into);
     let end = high + 1;
     let from = low as i64;
     let at = p.dest - from;
-    run_i32(p, source, starts, &mut into[low..end], at)
+    run(p, source, starts, &mut into[low..end], at)
 }
 
-// A gather of i32 that is prepared: where it is refused nothing is done.
-pub fn move_i32(p: PreparedGather, source: &[i32], starts: &[i64], into: &mut [i32]) -> CallAnswer
+// A gather that is prepared: where it is refused nothing is done.
+pub fn move_elements<E: Element>(
+    p: PreparedGather,
+    source: &[E],
+    starts: &[i64],
+    into: &mut [E],
+) -> CallAnswer
     requires { Movable p (length source.now) (length starts.now) (length into.old) }
-    ensures { (k : Movable p (length source.now) (length starts.now) (length into.old)) → Does as_is p.answer (slid_gather k.gather starts.now) (gathered (pos 0) k.gather starts.now source.now into.old) into.old into.new result }
+    ensures { (k : Movable p (length source.now) (length starts.now) (length into.old)) → Does as_is p.answer (slid_gather k.gather starts.now) (gathered E.absent k.gather starts.now source.now into.old) into.old into.new result }
 {
     let answer = p.answer;
     if !layout::is_done(answer) {
@@ -163,85 +153,7 @@ pub fn move_i32(p: PreparedGather, source: &[i32], starts: &[i64], into: &mut [i
     let reach = p.reach;
     match reach {
         Reach::Cells(low, high) => {
-            let reported = cells_i32(p, source, starts, into, low, high);
-            CallAnswer { answer, reported }
-        }
-        Reach::NoCells => CallAnswer {
-            answer,
-            reported: 0,
-        },
-        Reach::Outside => CallAnswer {
-            answer,
-            reported: 0,
-        },
-    }
-}
-
-// The cells of a gather from the operand's base, the start's base and the place `at` in the part of the destination that is lent on.
-fn run_f64(p: PreparedGather, source: &[f64], starts: &[i64], into: &mut [f64], at: i64) -> u64
-    requires { Gathering starts.now p.numbers.offsets p.numbers.strides p.numbers.limits p.numbers.count p.operand p.index at p.numbers.extents p.numbers.window_steps p.numbers.batch_steps p.numbers.dest_steps p.numbers.rank (length source.now) (length into.old) × Batched p.numbers.extents p.numbers.batch_extents p.numbers.batch_steps p.numbers.rank }
-    ensures { (into.new ≡ gathered_by nan (rule_f64 F.Replace) source.now starts.now p.numbers.offsets p.numbers.strides p.numbers.limits p.numbers.count p.operand p.index at p.numbers.extents p.numbers.window_steps p.numbers.batch_steps p.numbers.dest_steps p.numbers.rank into.old) × (result ≡ slid_of (product (take p.numbers.rank p.numbers.extents)) (starts_moved starts.now p.numbers.offsets p.numbers.limits p.numbers.count (product (take p.numbers.rank p.numbers.batch_extents)) (place_at p.index p.numbers.batch_extents p.numbers.batch_steps p.numbers.rank))) }
-{
-    let numbers = p.numbers;
-    let extents = numbers.extents;
-    let batches = numbers.batch_extents;
-    let window = numbers.window_steps;
-    let batch = numbers.batch_steps;
-    let dest = numbers.dest_steps;
-    let offsets = numbers.offsets;
-    let strides = numbers.strides;
-    let limits = numbers.limits;
-    gather_windows_f64::gather_window(
-        source,
-        starts,
-        into,
-        &extents,
-        &batches,
-        &window,
-        &batch,
-        &dest,
-        numbers.count,
-        &offsets,
-        &strides,
-        &limits,
-        numbers.rank,
-        p.operand,
-        p.index,
-        at,
-    )
-}
-
-// The gather where the destination has cells, from the index low to the index high: it is lent on as that part.
-fn cells_f64(
-    p: PreparedGather,
-    source: &[f64],
-    starts: &[i64],
-    into: &mut [f64],
-    low: usize,
-    high: usize,
-) -> u64
-    requires { Cells p low high (length source.now) (length starts.now) (length into.old) }
-    ensures { (k : Cells p low high (length source.now) (length starts.now) (length into.old)) → (into.new ≡ gathered nan k.gather starts.now source.now into.old) × (result ≡ slid_gather k.gather starts.now) }
-{
-    let end = high + 1;
-    let from = low as i64;
-    let at = p.dest - from;
-    run_f64(p, source, starts, &mut into[low..end], at)
-}
-
-// A gather of f64 that is prepared: where it is refused nothing is done.
-pub fn move_f64(p: PreparedGather, source: &[f64], starts: &[i64], into: &mut [f64]) -> CallAnswer
-    requires { Movable p (length source.now) (length starts.now) (length into.old) }
-    ensures { (k : Movable p (length source.now) (length starts.now) (length into.old)) → Does as_is p.answer (slid_gather k.gather starts.now) (gathered nan k.gather starts.now source.now into.old) into.old into.new result }
-{
-    let answer = p.answer;
-    if !layout::is_done(answer) {
-        return layout::refused_call(answer);
-    }
-    let reach = p.reach;
-    match reach {
-        Reach::Cells(low, high) => {
-            let reported = cells_f64(p, source, starts, into, low, high);
+            let reported = cells(p, source, starts, into, low, high);
             CallAnswer { answer, reported }
         }
         Reach::NoCells => CallAnswer {
