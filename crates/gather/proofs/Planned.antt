@@ -89,10 +89,7 @@ module _ (p : GatherPlan) (ok : is_compiled p ≡ true) where
         window_steps = moves.window;
         batch_steps = stepped;
         dest_steps = p.dest.strides;
-        count = p.start_index_map.count;
-        offsets = p.index_component_offsets.entries;
-        strides = p.index_operand_strides.entries;
-        limits = limits;
+        components = record { count = p.start_index_map.count; offsets = p.index_component_offsets.entries; strides = p.index_operand_strides.entries; limits = limits };
       })
       (gather_numbers g)
   unfolding gather_numbers
@@ -105,10 +102,7 @@ module _ (p : GatherPlan) (ok : is_compiled p ≡ true) where
         window_steps = (ap (λ (m : Moves). m.window) em ∙ window-is) i;
         batch_steps = (es ∙ ap₂ (λ (m : ℕ) (l : List ℤ). unless_none m (replicate rank_limit (pos 0)) l) n (ap (λ (m : Moves). m.batch) em ∙ batch-is)) i;
         dest_steps = (is i).dest.strides;
-        count = n i;
-        offsets = (is i).index_component_offsets.entries;
-        strides = (is i).index_operand_strides.entries;
-        limits = el i;
+        components = record { count = n i; offsets = (is i).index_component_offsets.entries; strides = (is i).index_operand_strides.entries; limits = el i };
       }
 
 -- ---- the answer of a call

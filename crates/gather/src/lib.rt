@@ -16,6 +16,7 @@ ghost use Rattle.gather.specs.Calls.{gather_of, plan_fits, call_answer, by_plan,
 use axis_lists::Numbers;
 use gather_move::{GatherNumbers, PreparedGather};
 use gather_plan::{GatherPlan, GatherReplayAxis, Role};
+use indexed_runs::Components;
 use layout::{CallAnswer, RAW_FUSED_RANK_LIMIT, View};
 
 // What an axis adds to the place in the operand, and to the one in the index view.
@@ -102,6 +103,12 @@ fn numbers_of(plan: GatherPlan) -> GatherNumbers
     let dest_steps = dest.strides;
     let offsets = index_component_offsets.entries;
     let strides = index_operand_strides.entries;
+    let components = Components {
+        count: map.count,
+        offsets,
+        strides,
+        limits,
+    };
     GatherNumbers {
         rank: dest.rank,
         extents,
@@ -109,10 +116,7 @@ fn numbers_of(plan: GatherPlan) -> GatherNumbers
         window_steps: window,
         batch_steps: stepped,
         dest_steps,
-        count: map.count,
-        offsets,
-        strides,
-        limits,
+        components,
     }
 }
 
@@ -149,7 +153,7 @@ fn prepare(
         return gather_move::refused(answer);
     }
     let numbers = numbers_of(plan);
-    let base = components::start_base(numbers.count, index.offset);
+    let base = components::start_base(numbers.components.count, index.offset);
     PreparedGather {
         answer,
         reach: z,
@@ -181,7 +185,7 @@ pub fn gather_i32(
         starts.len(),
         into.len(),
     );
-    gather_move::move_i32(p, source, starts, into)
+    gather_move::move_elements(p, source, starts, into)
 }
 
 // The same for f64.
@@ -205,5 +209,5 @@ pub fn gather_f64(
         starts.len(),
         into.len(),
     );
-    gather_move::move_f64(p, source, starts, into)
+    gather_move::move_elements(p, source, starts, into)
 }

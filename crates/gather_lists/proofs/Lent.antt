@@ -44,7 +44,7 @@ module _ (g : Gather) (window batch : List ℤ) (q : Found g window batch) where
       → stepped ≡ unless_none (length map) (replicate rank_limit (pos 0)) batch
       → extents ≡ padded rank_limit 1 g.result.extents → batches ≡ tabulate rank_limit (λ a. cond (has g.spec.offset-dims a) 1 (get_or extents a 0)) → dests ≡ padded rank_limit (pos 0) g.result.strides
       → ◌≡◌ {A = GatherNumbers}
-      (record { rank = rank g.result; extents = extents; batch_extents = batches; window_steps = window; batch_steps = stepped; dest_steps = dests; count = length map; offsets = offsets.entries; strides = strides; limits = limits })
+      (record { rank = rank g.result; extents = extents; batch_extents = batches; window_steps = window; batch_steps = stepped; dest_steps = dests; components = record { count = length map; offsets = offsets.entries; strides = strides; limits = limits } })
       (gather_numbers g)
   unfolding gather_numbers
   numbers-are offsets strides stepped dests extents batches limits eo es el ep ee eb ed =
@@ -55,10 +55,12 @@ module _ (g : Gather) (window batch : List ℤ) (q : Found g window batch) where
         window_steps = q.window-is i;
         batch_steps = (ep ∙ ap (unless_none (length map) (replicate rank_limit (pos 0))) q.batch-is) i;
         dest_steps = ed i;
-        count = length map;
-        offsets = ap (λ (l : Steps). l.entries) (eo ∙ ap held_steps (offsets_are g fits)) i;
-        strides = (es ∙ ap (λ (l : List ℕ). padded rank_limit (pos 0) (pick (pos 0) l g.operand.strides)) (map_is g fits)) i;
-        limits = el i;
+        components = record {
+          count = length map;
+          offsets = ap (λ (l : Steps). l.entries) (eo ∙ ap held_steps (offsets_are g fits)) i;
+          strides = (es ∙ ap (λ (l : List ℕ). padded rank_limit (pos 0) (pick (pos 0) l g.operand.strides)) (map_is g fits)) i;
+          limits = el i;
+        };
       }
 
 -- ---- views that have the layouts compiled for

@@ -9,6 +9,7 @@ ghost use Rattle.gather_move.specs.Prepared.{gather_numbers};
 ghost use Rattle.gather_lists.specs.Lists.{ListedOn, ListedAt};
 
 use gather_move::{GatherNumbers, PreparedGather};
+use indexed_runs::Components;
 use layout::{Refusal, RAW_FUSED_RANK_LIMIT};
 
 // The numbers that the cells of a gather are moved with, given the steps that compile's checks found.
@@ -42,6 +43,12 @@ fn numbers_on(
     let extents = layout::padded_extents(dest_extents);
     let batch_extents = gather_move::batch_extents(extents, offset_dims);
     let dest_steps = layout::padded_strides(dest_strides);
+    let components = Components {
+        count: start_index_map.len(),
+        offsets,
+        strides,
+        limits,
+    };
     GatherNumbers {
         rank: dest_extents.len(),
         extents,
@@ -49,10 +56,7 @@ fn numbers_on(
         window_steps: window,
         batch_steps: stepped,
         dest_steps,
-        count: start_index_map.len(),
-        offsets,
-        strides,
-        limits,
+        components,
     }
 }
 

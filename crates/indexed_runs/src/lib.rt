@@ -142,39 +142,15 @@ pub fn take_cells<E: Element>(
     }
 }
 
-// x, or 0 where it is below.
-fn not_below_zero(x: i64) -> i64
-    ensures { result ≡ pos (up x) }
-{
-    if x < 0 { 0 } else { x }
-}
-
-// The lesser of two.
-fn at_most(x: i64, limit: i64) -> i64
-    ensures { result ≡ min_ℤ x limit }
-{
-    if limit < x { limit } else { x }
-}
-
-// Whether x lies outside 0 .. limit.
-fn is_outside(x: i64, limit: i64) -> bool
-    requires { pos 0 ≤ℤ limit }
-    ensures { result ≡ moved x (nat_abs limit) 0 }
-{
-    if x < 0 {
-        return true;
-    }
-    if limit < x { true } else { false }
-}
-
 // x moved inside 0 .. limit, and whether that is another.
 pub fn clamped(x: i64, limit: i64) -> StartPlace
     requires { pos 0 ≤ℤ limit }
     ensures { (result.at ≡ clamp x (nat_abs limit) 0) × (result.moved ≡ moved x (nat_abs limit) 0) }
 {
-    let moved = is_outside(x, limit);
-    let at = not_below_zero(at_most(x, limit));
-    StartPlace { at, moved }
+    StartPlace {
+        at: x.min(limit).max(0),
+        moved: x < 0 || limit < x,
+    }
 }
 
 // n cells: the source's place by the start read at t by ts, clamped, times the stride; the destination's from d by ds.

@@ -14,13 +14,9 @@ use Rattle.indexing.proofs.Inside.{inside-within}
 use Rattle.indexing.proofs.Bounds.{land-inside}
 use Rattle.indexing.specs.Valid.{ValidScatter}
 use Rattle.layout.specs.declared.Reach.TheVariants as R
-use Rattle.layout.specs.Answers.{is_done}
 use Rattle.layout.specs.Nested.{has_zero}
-use Rattle.layout.specs.Reach.{buffer_bounds}
-use Rattle.checks.proofs.Made.{or-done}
-use Rattle.calls.specs.Calls.{reach_in}
 use Rattle.calls.proofs.Covers.{no_zero}
-use Rattle.calls.proofs.Does.{not-outside, zero_of}
+use Rattle.calls.proofs.Does.{zero_of}
 use Rattle.scatter_move.specs.Prepared.{Ready}
 use Rattle.scatter_move.specs.declared.PreparedScatter.{PreparedScatter}
 use Rattle.driven.proofs.Counted.{slid-none}
@@ -57,12 +53,6 @@ unfolding slid_scatter
 no_number s starts v e = slid-none (product s.updates.extents) _ (no-updates s v (no-window s v e))
 
 module _ (p : PreparedScatter) (s : Scatter) (sn un dn : ℕ) (r : Ready p s sn un dn) where
-  dest-done : is_done (buffer_bounds 3 (reach_in s.result dn)) ≡ true
-  dest-done = (or-done (buffer_bounds 2 (reach_in s.updates un)) _ (or-done (buffer_bounds 1 (reach_in s.indices sn)) _ r.bounds).1).1
-
-  pub never : {P : Type 0} → p.reach ≡ R.Outside → P
-  never e = absurd (not-outside 3 (reach_in s.result dn) dest-done (sym r.reach ∙ e))
-
   dest-zero : p.reach ≡ R.NoCells → has_zero s.result.extents ≡ true
   dest-zero e = zero_of s.result.extents s.result.strides s.result.offset dn (sym r.reach ∙ e)
 

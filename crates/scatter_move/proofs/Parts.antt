@@ -35,14 +35,6 @@ use Rattle.scatter_move.specs.declared.PreparedScatter.{PreparedScatter}
 use Rattle.scatter_move.proofs.Moving.{at-valid, scattering, move-is}
 use Rattle.scatter_move.proofs.Rowed.{rowed}
 
--- numbers that were read back
-pub back_end : {A : Type 0} (z : A) (rule : A → A → A) (src : List A) (starts offsets strides : List ℤ) (limits : List ℕ) (count : ℕ) (t u d : ℤ) (bs : List ℕ) (ts us : List ℤ) (br : ℕ) (ws : List ℕ) (ss ds : List ℤ) (wr : ℕ) (x y : List A) → SFits w64 t → SFits w64 u → SFits w64 d
-    → y ≡ scattered_by z rule src starts offsets strides limits count (read t) (read u) (read d) bs ts us br ws ss ds wr x
-    → y ≡ scattered_by z rule src starts offsets strides limits count t u d bs ts us br ws ss ds wr x
-back_end z rule src starts offsets strides limits count t u d bs ts us br ws ss ds wr x y ft fu fd h =
-    h ∙ ap₂ (λ (v w : ℤ). scattered_by z rule src starts offsets strides limits count v w (read d) bs ts us br ws ss ds wr x) (back ft) (back fu)
-    ∙ ap (λ (v : ℤ). scattered_by z rule src starts offsets strides limits count t u v bs ts us br ws ss ds wr x) (back fd)
-
 -- the scatter whose destination begins at another place
 abbrev on_part : Scatter → ℤ → Scatter
 on_part s at = record { spec = s.spec; indices = s.indices; updates = s.updates; result = record { extents = s.result.extents; strides = s.result.strides; offset = at } }

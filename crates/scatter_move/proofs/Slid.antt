@@ -3,13 +3,10 @@ use Rattle.std.specs.Prelude.{Ok}
 use mathlib.Core.Path.{◌≡◌, refl, sym, ap, ap₂, ◌∙◌}
 use mathlib.Core.Bool.{Bool, true}
 use mathlib.Core.List.{List}
-use Prim.Native.Nat.{ℕ, zero, suc, ◌-◌, ◌<◌}
+use Prim.Native.Nat.{ℕ, zero, suc, ◌<◌}
 use native.Mathlib.Omega.{arith}
 use lib.ListN.{length, get_or, take}
 use lib.IntN.{ℤ, pos}
-use mir.Syntax.{w64}
-use mir.Val.{SFits}
-use Rattle.integer.specs.Z.{back}
 use Rattle.indexing.specs.Coordinates.{product, unravel, element_at}
 use Rattle.indexing.specs.Start.{start_index}
 use Rattle.indexing.specs.Scatter.{Scatter, batch_shape, window_shape, windows}
@@ -21,7 +18,6 @@ use Rattle.indexing.proofs.Once.{update-taken, update-within}
 use Rattle.indexing.specs.Valid.{ValidScatter}
 use Rattle.layout.specs.Answers.{is_done}
 use Rattle.layout.specs.Laws.{some-cells}
-use Rattle.runs.proofs.Place.{read}
 use Rattle.windows.specs.Windows.{place_at}
 use Rattle.indexed_runs.specs.IndexedRuns.{component_moved, start_moved, starts_moved}
 use Rattle.calls.proofs.Covers.{no_zero}
@@ -101,13 +97,3 @@ module _ (s : Scatter) (done : is_done (refusal_of (Ok tt) s) ≡ true) (starts 
       r.numbers r.index
       ∙ ap₂ (λ (m n : ℕ). slid_of m n) cells_are count-is
       ∙ by-updates s (at-valid s done) flag
-
--- the place of the first start read back
-pub number-back : (p : PreparedScatter) (starts : List ℤ) (c : ℕ) → SFits w64 p.index
-    → c ≡ slid_of (product (take p.numbers.window_rank p.numbers.window_extents))
-    (starts_moved starts p.numbers.offsets p.numbers.limits p.numbers.count (product (take p.numbers.batch_rank p.numbers.batch_extents)) (place_at (read p.index) p.numbers.batch_extents p.numbers.index_steps p.numbers.batch_rank))
-    → c ≡ batches_moved p starts
-number-back p starts c f h =
-    h
-    ∙ ap (λ (i : ℤ). slid_of (product (take p.numbers.window_rank p.numbers.window_extents))
-    (starts_moved starts p.numbers.offsets p.numbers.limits p.numbers.count (product (take p.numbers.batch_rank p.numbers.batch_extents)) (place_at i p.numbers.batch_extents p.numbers.index_steps p.numbers.batch_rank))) (back f)

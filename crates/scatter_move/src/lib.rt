@@ -10,9 +10,10 @@ ghost use Rattle.calls.specs.Calls.{Does, as_is};
 ghost use Rattle.scatter_move.specs.Batches.{BatchesFrom, after_batches, batches_moved};
 ghost use Rattle.scatter_move.specs.Prepared.{steps_at, Cells, Movable};
 
+use indexed_runs::Components;
 use layout::{Refusal, CallAnswer, RAW_FUSED_RANK_LIMIT, Reach};
 use replay::WindowReplayAxis;
-use rules::{Rule, RuleF64};
+use rules::{Add, Ceiling, Combine, Element, Highest, Lowest, Replace, Rule, RuleF64};
 
 // The numbers that the batches and the windows of a scatter are moved with: the merged axes of both walks, with the steps of each on
 // both sides, and the components of a start.
@@ -86,12 +87,8 @@ fn steps_at(rows: [[i64; 4]; RAW_FUSED_RANK_LIMIT], side: usize) -> [i64; RAW_FU
     ensures { result ≡ steps_at side rows }
 {
     let mut out = [0i64; RAW_FUSED_RANK_LIMIT];
-    let mut i: usize = 0;
-    while i < RAW_FUSED_RANK_LIMIT {
-        let row = rows[i];
-        let step = row[side];
-        out[i] = step;
-        i += 1;
+    for i in 0..RAW_FUSED_RANK_LIMIT {
+        out[i] = rows[i][side];
     }
     out
 }
@@ -110,46 +107,40 @@ pub fn dest_steps(rows: [[i64; 4]; RAW_FUSED_RANK_LIMIT]) -> [i64; RAW_FUSED_RAN
 }
 
 // The batches of a scatter from the start's base, the updates' base and the place `at` in the part of the destination that is lent on.
-fn run_i32(
-    rule: Rule,
+fn run<E: Element, R: Combine<E>>(
+    rule: R,
     p: PreparedScatter,
     rows: [[i64; 4]; RAW_FUSED_RANK_LIMIT],
     starts: &[i64],
-    source: &[i32],
-    into: &mut [i32],
+    source: &[E],
+    into: &mut [E],
     at: i64,
 ) -> u64
     requires { BatchesFrom p rows starts.now at (length source.now) (length into.old) }
-    ensures { (into.new ≡ after_batches (pos 0) (rule_i32 rule) p source.now starts.now at into.old) × (result ≡ batches_moved p starts.now) }
+    ensures { (into.new ≡ after_batches E.absent (R.combined rule) p source.now starts.now at into.old) × (result ≡ batches_moved p starts.now) }
 {
     let numbers = p.numbers;
-    let batch_extents = numbers.batch_extents;
-    let index_steps = numbers.index_steps;
-    let update_steps = numbers.update_steps;
-    let window_extents = numbers.window_extents;
-    let window_steps = numbers.window_steps;
-    let dest_steps = numbers.dest_steps;
-    let offsets = numbers.offsets;
-    let strides = numbers.strides;
-    let limits = numbers.limits;
+    let components = Components {
+        count: numbers.count,
+        offsets: numbers.offsets,
+        strides: numbers.strides,
+        limits: numbers.limits,
+    };
     driven::scatter_rows(
         rule,
         source,
         starts,
         into,
-        &batch_extents,
-        &index_steps,
-        &update_steps,
+        &numbers.batch_extents,
+        &numbers.index_steps,
+        &numbers.update_steps,
         rows,
         numbers.batch_rank,
         numbers.batches,
-        numbers.count,
-        &offsets,
-        &strides,
-        &limits,
-        &window_extents,
-        &window_steps,
-        &dest_steps,
+        &components,
+        &numbers.window_extents,
+        &numbers.window_steps,
+        &numbers.dest_steps,
         numbers.window_rank,
         p.index,
         p.updates,
@@ -158,27 +149,60 @@ fn run_i32(
 }
 
 // The scatter where the destination has cells, from the index low to the index high: it is lent on as that part.
-fn cells_i32(
-    rule: Rule,
+fn cells<E: Element, R: Combine<E>>(
+    rule: R,
     p: PreparedScatter,
     starts: &[i64],
-    source: &[i32],
-    into: &mut [i32],
+    source: &[E],
+    into: &mut [E],
     low: usize,
     high: usize,
 ) -> u64
     requires { Cells p low high (length starts.now) (length source.now) (length into.old) }
-    ensures { (k : Cells p low high (length starts.now) (length source.now) (length into.old)) → (into.new ≡ scattered (rule_i32 rule) (pos 0) k.scatter starts.now source.now into.old) × (result ≡ slid_scatter k.scatter starts.now) }
+    ensures { (k : Cells p low high (length starts.now) (length source.now) (length into.old)) → (into.new ≡ scattered (R.combined rule) E.absent k.scatter starts.now source.now into.old) × (result ≡ slid_scatter k.scatter starts.now) }
 {
+    E::short(source);
+    E::short(into);
     let end = high + 1;
     let from = low as i64;
     let at = p.dest - from;
-    let axes = p.batch_axes;
-    let rows = replay::rows_of(axes);
-    run_i32(rule, p, rows, starts, source, &mut into[low..end], at)
+    let rows = replay::rows_of(p.batch_axes);
+    run(rule, p, rows, starts, source, &mut into[low..end], at)
 }
 
-// A scatter of i32 that is prepared: where it is refused nothing is done.
+// A scatter that is prepared, by a rule as a type: where it is refused nothing is done.
+pub fn move_by<E: Element, R: Combine<E>>(
+    rule: R,
+    p: PreparedScatter,
+    starts: &[i64],
+    source: &[E],
+    into: &mut [E],
+) -> CallAnswer
+    requires { Movable p (length starts.now) (length source.now) (length into.old) }
+    ensures { (k : Movable p (length starts.now) (length source.now) (length into.old)) → Does as_is p.answer (slid_scatter k.scatter starts.now) (scattered (R.combined rule) E.absent k.scatter starts.now source.now into.old) into.old into.new result }
+{
+    let answer = p.answer;
+    if !layout::is_done(answer) {
+        return layout::refused_call(answer);
+    }
+    let reach = p.reach;
+    match reach {
+        Reach::Cells(low, high) => {
+            let reported = cells(rule, p, starts, source, into, low, high);
+            CallAnswer { answer, reported }
+        }
+        Reach::NoCells => CallAnswer {
+            answer,
+            reported: 0,
+        },
+        Reach::Outside => CallAnswer {
+            answer,
+            reported: 0,
+        },
+    }
+}
+
+// A scatter of i32 that is prepared. The rule is asked here, once a call.
 pub fn move_i32(
     rule: Rule,
     p: PreparedScatter,
@@ -189,97 +213,15 @@ pub fn move_i32(
     requires { Movable p (length starts.now) (length source.now) (length into.old) }
     ensures { (k : Movable p (length starts.now) (length source.now) (length into.old)) → Does as_is p.answer (slid_scatter k.scatter starts.now) (scattered (rule_i32 rule) (pos 0) k.scatter starts.now source.now into.old) into.old into.new result }
 {
-    let answer = p.answer;
-    if !layout::is_done(answer) {
-        return layout::refused_call(answer);
-    }
-    let reach = p.reach;
-    match reach {
-        Reach::Cells(low, high) => {
-            let reported = cells_i32(rule, p, starts, source, into, low, high);
-            CallAnswer { answer, reported }
-        }
-        Reach::NoCells => CallAnswer {
-            answer,
-            reported: 0,
-        },
-        Reach::Outside => CallAnswer {
-            answer,
-            reported: 0,
-        },
+    match rule {
+        Rule::Add => move_by(Add, p, starts, source, into),
+        Rule::Lowest => move_by(Lowest, p, starts, source, into),
+        Rule::Highest => move_by(Highest, p, starts, source, into),
+        Rule::Replace => move_by(Replace, p, starts, source, into),
     }
 }
 
-// The batches of a scatter from the start's base, the updates' base and the place `at` in the part of the destination that is lent on.
-fn run_f64(
-    rule: RuleF64,
-    p: PreparedScatter,
-    rows: [[i64; 4]; RAW_FUSED_RANK_LIMIT],
-    starts: &[i64],
-    source: &[f64],
-    into: &mut [f64],
-    at: i64,
-) -> u64
-    requires { BatchesFrom p rows starts.now at (length source.now) (length into.old) }
-    ensures { (into.new ≡ after_batches nan (rule_f64 rule) p source.now starts.now at into.old) × (result ≡ batches_moved p starts.now) }
-{
-    let numbers = p.numbers;
-    let batch_extents = numbers.batch_extents;
-    let index_steps = numbers.index_steps;
-    let update_steps = numbers.update_steps;
-    let window_extents = numbers.window_extents;
-    let window_steps = numbers.window_steps;
-    let dest_steps = numbers.dest_steps;
-    let offsets = numbers.offsets;
-    let strides = numbers.strides;
-    let limits = numbers.limits;
-    driven_f64::scatter_rows(
-        rule,
-        source,
-        starts,
-        into,
-        &batch_extents,
-        &index_steps,
-        &update_steps,
-        rows,
-        numbers.batch_rank,
-        numbers.batches,
-        numbers.count,
-        &offsets,
-        &strides,
-        &limits,
-        &window_extents,
-        &window_steps,
-        &dest_steps,
-        numbers.window_rank,
-        p.index,
-        p.updates,
-        at,
-    )
-}
-
-// The scatter where the destination has cells, from the index low to the index high: it is lent on as that part.
-fn cells_f64(
-    rule: RuleF64,
-    p: PreparedScatter,
-    starts: &[i64],
-    source: &[f64],
-    into: &mut [f64],
-    low: usize,
-    high: usize,
-) -> u64
-    requires { Cells p low high (length starts.now) (length source.now) (length into.old) }
-    ensures { (k : Cells p low high (length starts.now) (length source.now) (length into.old)) → (into.new ≡ scattered (rule_f64 rule) nan k.scatter starts.now source.now into.old) × (result ≡ slid_scatter k.scatter starts.now) }
-{
-    let end = high + 1;
-    let from = low as i64;
-    let at = p.dest - from;
-    let axes = p.batch_axes;
-    let rows = replay::rows_of(axes);
-    run_f64(rule, p, rows, starts, source, &mut into[low..end], at)
-}
-
-// A scatter of f64 that is prepared: where it is refused nothing is done.
+// The same of f64.
 pub fn move_f64(
     rule: RuleF64,
     p: PreparedScatter,
@@ -290,23 +232,11 @@ pub fn move_f64(
     requires { Movable p (length starts.now) (length source.now) (length into.old) }
     ensures { (k : Movable p (length starts.now) (length source.now) (length into.old)) → Does as_is p.answer (slid_scatter k.scatter starts.now) (scattered (rule_f64 rule) nan k.scatter starts.now source.now into.old) into.old into.new result }
 {
-    let answer = p.answer;
-    if !layout::is_done(answer) {
-        return layout::refused_call(answer);
-    }
-    let reach = p.reach;
-    match reach {
-        Reach::Cells(low, high) => {
-            let reported = cells_f64(rule, p, starts, source, into, low, high);
-            CallAnswer { answer, reported }
-        }
-        Reach::NoCells => CallAnswer {
-            answer,
-            reported: 0,
-        },
-        Reach::Outside => CallAnswer {
-            answer,
-            reported: 0,
-        },
+    match rule {
+        RuleF64::Add => move_by(Add, p, starts, source, into),
+        RuleF64::Lowest => move_by(Lowest, p, starts, source, into),
+        RuleF64::Highest => move_by(Highest, p, starts, source, into),
+        RuleF64::Replace => move_by(Replace, p, starts, source, into),
+        RuleF64::Ceiling(limit) => move_by(Ceiling(limit), p, starts, source, into),
     }
 }

@@ -21,7 +21,7 @@ use Rattle.runs.proofs.Place.{read, line-zero}
 use Rattle.windows.specs.Windows.{place_at, windowed, Region, Units}
 use Rattle.windows.proofs.Last.{place-first, units-product, only_zero}
 use Rattle.indexed_runs.specs.IndexedRuns.{start_at, Starting, moved_at, Putting}
-use Rattle.scatter_windows.specs.Scattering.{scattered_by, put_by, Batches, Scattering, BatchPlaces, Landing, PutLevel}
+use Rattle.scatter_windows.specs.Scattering.{scattered_by, put_by, Batches, Scattering, BatchPlaces, Landing}
 use Rattle.scatter_windows.proofs.Batches.{over_none, first-batch, over-back, places-back}
 use Rattle.scatter_windows.proofs.Levels.{put, land}
 
@@ -55,13 +55,6 @@ module _ (starts offsets strides : List ℤ) (limits : List ℕ) (count : ℕ) (
         ∙ ap (λ (a : ℤ). put z rule src starts offsets strides limits count a t u x) (back fd)
         ∙ over_none (put z rule src starts offsets strides limits count d) shape ts us t u x
         ∙ ap (λ (k : ℕ). put_by z rule src starts offsets strides limits count t u d shape ts us k x) (sym e)
-
-  pub put-level : (low : ℕ) → low < rank → Units low shape → PutLevel starts offsets strides limits count (read t) (read u) (read d) shape ts us low rank sn dn
-  put-level low h g = record { below = h; units = g; places = places-back (λ d x y. Starting starts offsets strides limits d x count dn) t u d shape ts us rank sn ft fu fd w }
-
-  pub put-end : {A : Type 0} (z : A) (rule : A → A → A) (src x y : List A) → y ≡ put_by z rule src starts offsets strides limits count (read t) (read u) (read d) shape ts us rank x
-      → y ≡ put_by z rule src starts offsets strides limits count t u d shape ts us rank x
-  put-end z rule src x y h = over-back (put z rule src starts offsets strides limits count) t u d shape ts us rank ft fu fd x y h
 
 -- ---- what a test of the window tells
 pub not_none : (shape : List ℕ) (rank : ℕ) → (Units rank shape → ⊥) → 0 < rank

@@ -230,7 +230,7 @@ pub fn strided_raw_gather_i32(
         starts.len(),
         dest.len(),
     );
-    let r = gather_move::move_i32(p, operand, starts, dest);
+    let r = gather_move::move_elements(p, operand, starts, dest);
     *answer = words_of(r);
 }
 
@@ -289,7 +289,7 @@ pub fn strided_raw_gather_f64(
         starts.len(),
         dest.len(),
     );
-    let r = gather_move::move_f64(p, operand, starts, dest);
+    let r = gather_move::move_elements(p, operand, starts, dest);
     *answer = words_of(r);
 }
 
@@ -775,7 +775,7 @@ pub fn strided_gather_i32(
     ensures { Gathers (pos 0) words (gather_by_job E.I32 job.now starts.now) operand.now dest.old dest.new answer.new }
 {
     let p = job_calls::prepare_gather(job, Element::I32, operand.len(), starts.len(), dest.len());
-    let r = gather_move::move_i32(p, operand, starts, dest);
+    let r = gather_move::move_elements(p, operand, starts, dest);
     *answer = words_of(r);
 }
 
@@ -791,7 +791,7 @@ pub fn strided_gather_f64(
     ensures { Gathers nan words (gather_by_job E.F64 job.now starts.now) operand.now dest.old dest.new answer.new }
 {
     let p = job_calls::prepare_gather(job, Element::F64, operand.len(), starts.len(), dest.len());
-    let r = gather_move::move_f64(p, operand, starts, dest);
+    let r = gather_move::move_elements(p, operand, starts, dest);
     *answer = words_of(r);
 }
 

@@ -2,7 +2,6 @@ use mathlib.Core.Path.{sym, ap, ap₂, ◌∙◌}
 use Prim.Native.Nat.{ℕ}
 use lib.IntN.{ℤ, pos}
 use borrow.Author.Rules.{rules}
-use borrow.Author.Tests.{not-true, not-false}
 use mir.Syntax.{w64}
 use mir.Val.{SFits}
 use Rattle.integer.specs.Z.{back}
@@ -39,7 +38,7 @@ returns-2 c =
     let fo : SFits w64 s.args.operand.offset = search rules in
     let fd : SFits w64 s.args.dest.offset = search rules in
     let fb : SFits w64 c.start_base-base.result = search rules in
-    let b = c.start_base-base.ensures ∙ ap₂ (λ (n : ℕ) (z : ℤ). unless_none n (pos 0) z) (ap (λ (w : GatherNumbers). w.count) c.numbers_of-numbers.ensures) (back f) in
+    let b = c.start_base-base.ensures ∙ ap₂ (λ (n : ℕ) (z : ℤ). unless_none n (pos 0) z) (ap (λ (w : GatherNumbers). w.components.count) c.numbers_of-numbers.ensures) (back f) in
     record { answered = a; ready = λ t. ready s.args.plan s.args.operand s.args.index s.args.dest s.args.operand_len s.args.starts_len s.args.dest_len d _ c.view_reach-z.ensures c.numbers_of-numbers.ensures (back fo) (back fb ∙ b) (back fd) }
 
 pub prepare_spec : {M : Type 1} → statement M

@@ -1,22 +1,64 @@
-use Rattle.std.proofs.Common.{◌≡◌, sym, ap, ap₂, subst, ◌∙◌, min, ℤ, pos, nat_abs, ◌≤ℤ◌, FitsSigned, w64, arith}
-use Rattle.integer.specs.Z.{up, dn, only, known, back, zfacts}
-use Rattle.integer.specs.Defs.{min_ℤ}
-use Rattle.integer.specs.Laws.{min_ℤ-by}
+use Rattle.std.proofs.Common.{rules, ◌≡◌, ◌≢◌, refl, sym, ap, ap₂, ◌∙◌, true, false, true≢false, Bool, cond, ℕ, ◌-◌, min, ℤ, pos, nat_abs, ◌≤ℤ◌, FitsSigned, w64, arith}
+use Rattle.std.specs.Int.{int_min, int_max}
+use Rattle.std.specs.Int.Signed.{lt_z}
+use Rattle.integer.specs.Z.{up, dn, only, back, zfacts, abs_is, ≡-from, lt_z-true, lt_z-false}
 use Rattle.indexing.specs.Start.{clamp}
 use Rattle.indexing.specs.Slid.{moved}
+use Rattle.indexing.proofs.Inside.{clamp-is}
+use Rattle.indexing.specs.Moved.{moved-by}
 use Rattle.indexed_runs.proofs.Ones.{clamped-by}
 use Rattle.indexed_runs.proofs.clamped.Goals as goal
 
-up-min : (x limit : ℤ) → pos 0 ≤ℤ limit → up (min_ℤ x limit) ≡ min (up x) (up limit)
-up-min x limit h = min_ℤ-by x limit (λ m. up m ≡ min (up x) (up limit)) (λ l. omega (arith, zfacts, only x, only limit, l, h)) (λ l. omega (arith, zfacts, only x, only limit, l, h))
+-- the lesser of both, and that or 0
+lesser : (x limit : ℤ) → pos 0 ≤ℤ limit → up (int_min x limit) ≡ min (up x) (up limit)
+lesser x limit h = go (lt_z limit x) refl
+  where
+    go : (b : Bool) → lt_z limit x ≡ b → up (cond b limit x) ≡ min (up x) (up limit)
+    go true e = omega (arith, zfacts, only x, only limit, h, lt_z-true limit x e)
+    go false e = omega (arith, zfacts, only x, only limit, h, lt_z-false limit x e)
 
-pub returns : goal.returns
-returns c =
-    let x = c.args.x in
-    let limit = c.args.limit in
-    let e : c.at_most.result ≡ min_ℤ x limit = c.at_most.ensures ∙ ap₂ min_ℤ (back c.ranges.x) (back c.ranges.limit) in
-    let fy : FitsSigned w64 c.at_most.result = subst (FitsSigned w64) (sym e) (min_ℤ-by x limit (λ z. FitsSigned w64 z) (λ _. c.ranges.x) (λ _. c.ranges.limit)) in
-    let z : c.not_below_zero-at.result ≡ pos (min (up x) (up limit)) = c.not_below_zero-at.ensures ∙ ap (λ (v : ℤ). pos (up v)) (back fy ∙ e) ∙ ap pos (up-min x limit c.requires) in
-    let is : c.not_below_zero-at.result ≡ clamp x (nat_abs limit) 0 = clamped-by _ x limit c.requires (ap up z) (ap dn z) in
-    let fr : FitsSigned w64 c.not_below_zero-at.result = subst (FitsSigned w64) (sym z) (record { sfits = omega (arith, zfacts, known c.ranges.x, known c.ranges.limit, only x) }) in
-    (back fr ∙ is, c.is_outside-moved.ensures ∙ ap₂ (λ (u v : ℤ). moved u (nat_abs v) 0) (back c.ranges.x) (back c.ranges.limit))
+not-below : (m : ℤ) → int_max m (pos 0) ≡ pos (up m)
+not-below m = go (lt_z (pos 0) m) refl
+  where
+    go : (b : Bool) → lt_z (pos 0) m ≡ b → cond b m (pos 0) ≡ pos (up m)
+    go true e = ≡-from m (pos (up m)) (omega (arith, only m, lt_z-true (pos 0) m e))
+    go false e = ≡-from (pos 0) (pos (up m)) (omega (arith, only m, lt_z-false (pos 0) m e))
+
+-- where m is the lesser and r that or 0, as the machine has them
+cut : (x limit m r : ℤ) → pos 0 ≤ℤ limit → m ≡ int_min x limit → r ≡ int_max m (pos 0) → r ≡ clamp x (nat_abs limit) 0
+cut x limit m r h em er =
+    let z : r ≡ pos (min (up x) (up limit)) = er ∙ not-below m ∙ ap pos (ap up em ∙ lesser x limit h) in
+    clamped-by r x limit h (ap up z) (ap dn z)
+
+-- whether x lies outside
+outside : (x : ℤ) (limit : ℕ) → pos (min (up x) (limit - 0)) ≢ x → true ≡ moved x limit 0
+outside x limit n = moved-by x limit 0 (pos (min (up x) (limit - 0))) true (sym (clamp-is x limit 0)) (λ _. n) (λ h. absurd (true≢false h))
+
+inside : (x : ℤ) (limit : ℕ) → pos (min (up x) (limit - 0)) ≡ x → false ≡ moved x limit 0
+inside x limit e = moved-by x limit 0 (pos (min (up x) (limit - 0))) false (sym (clamp-is x limit 0)) (λ h. absurd (true≢false (sym h))) (λ _. e)
+
+below : (x limit : ℤ) → lt_z x (pos 0) ≡ true → true ≡ moved x (nat_abs limit) 0
+below x limit e = outside x (nat_abs limit) (λ q. let u = ap up q in let d = ap dn q in omega (arith, only x, lt_z-true x (pos 0) e))
+
+above : (x limit : ℤ) → pos 0 ≤ℤ limit → lt_z x (pos 0) ≡ false → lt_z limit x ≡ moved x (nat_abs limit) 0
+above x limit h n = go (lt_z limit x) refl
+  where
+    go : (b : Bool) → lt_z limit x ≡ b → b ≡ moved x (nat_abs limit) 0
+    go true e = outside x (nat_abs limit) (λ q. let u = ap up q in let d = ap dn q in omega (arith, zfacts, h, only x, only limit, abs_is limit, lt_z-true limit x e))
+    go false e = inside x (nat_abs limit) (≡-from (pos (min (up x) (nat_abs limit - 0))) x (omega (arith, zfacts, h, only x, only limit, abs_is limit, lt_z-false limit x e, lt_z-false x (pos 0) n)))
+
+pub returns-then-x-lt0 : goal.returns-then-x-lt0
+returns-then-x-lt0 c =
+    let fm : FitsSigned w64 c.min.result = search rules in
+    let fr : FitsSigned w64 c.max.result = search rules in (
+      back fr ∙ cut c.args.x c.args.limit c.min.result c.max.result c.requires (c.min.ensures.value ∙ ap₂ int_min (back c.ranges.x) (back c.ranges.limit)) (c.max.ensures.value ∙ ap (λ (m : ℤ). int_max m (pos 0)) (back fm)),
+      c.if-x-lt0.true ∙ below c.args.x c.args.limit (ap (λ (x : ℤ). lt_z x (pos 0)) (sym (back c.ranges.x)) ∙ c.if-x-lt0.true),
+    )
+
+pub returns-else-x-lt0 : goal.returns-else-x-lt0
+returns-else-x-lt0 c =
+    let fm : FitsSigned w64 c.min.result = search rules in
+    let fr : FitsSigned w64 c.max.result = search rules in (
+      back fr ∙ cut c.args.x c.args.limit c.min.result c.max.result c.requires (c.min.ensures.value ∙ ap₂ int_min (back c.ranges.x) (back c.ranges.limit)) (c.max.ensures.value ∙ ap (λ (m : ℤ). int_max m (pos 0)) (back fm)),
+      ap₂ lt_z (back c.ranges.limit) (back c.ranges.x) ∙ above c.args.x c.args.limit c.requires (ap (λ (x : ℤ). lt_z x (pos 0)) (sym (back c.ranges.x)) ∙ c.if-x-lt0.false),
+    )
