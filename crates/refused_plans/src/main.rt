@@ -8,10 +8,12 @@ use changed_plans::trials::{
 };
 use changed_plans::{Change, Changed};
 use gather_plan::{CompiledGather, GatherPlan, GatherReplayAxis};
-use layout::{CallAnswer, RAW_FUSED_RANK_LIMIT, View};
+use layout::{CallAnswer, RAW_FUSED_RANK_LIMIT};
 use std::io;
 
-// What the destination holds before each call.
+// What the operand holds, and the destination before each call.
+const OPERAND: [i32; 5] = [10, 20, 30, 40, 50];
+
 const BEFORE: [i32; 4] = [1, 2, 3, 4];
 
 fn compile(window: u64) -> CompiledGather {
@@ -30,37 +32,18 @@ fn compile(window: u64) -> CompiledGather {
     )
 }
 
-// The call on these views, with starts 4 and -1.
-fn call_on(
-    plan: GatherPlan,
-    operand: View,
-    index: View,
-    dest: View,
-    into: &mut [i32],
-) -> CallAnswer {
-    gather::gather_i32(
-        plan,
-        operand,
-        index,
-        dest,
-        &[10, 20, 30, 40, 50],
-        &[4, -1],
-        into,
-    )
-}
-
-// The call on the views of the gather.
+// The call on the views of the gather, with starts 4 and -1.
 fn call(plan: GatherPlan, into: &mut [i32]) -> CallAnswer {
     let operand = view(&[5], &[1]);
     let index = view(&[2], &[1]);
     let dest = view(&[2, 2], &[1, 2]);
-    call_on(plan, operand, index, dest, into)
+    gather::gather_i32(plan, operand, index, dest, &OPERAND, &[4, -1], into)
 }
 
 // The call on views of no axes, as the plan has them that stands where compile refused.
 fn call_on_scalars(plan: GatherPlan, into: &mut [i32]) -> CallAnswer {
     let scalar = view(&[], &[]);
-    call_on(plan, scalar, scalar, scalar, into)
+    gather::gather_i32(plan, scalar, scalar, scalar, &OPERAND, &[4, -1], into)
 }
 
 // ---- one number changed

@@ -15,7 +15,7 @@ use stored_reader::packed::{CASE_BYTES, Case, HEAD_BYTES, Head, words_of};
 
 // Answers the case of this index, and counts its outcome.
 fn take_case(rt: &impl Print, index: u64, case: &Case, counts: &mut Counts) -> io::Result<()> {
-    let outcome = outcomes::outcome(case);
+    let outcome = Outcome::of(case);
     if matches!(&outcome, Outcome::Different) {
         println!(rt; "different: case {index}")?;
     }

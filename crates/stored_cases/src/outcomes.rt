@@ -56,9 +56,11 @@ fn outcome_in<E: Element + Gathered + Scattered>(
     }
 }
 
-pub fn outcome(case: &Case) -> Outcome {
-    match case.element_type {
-        ElementType::I32 => outcome_in(case, &mut [0i32; ELEMENTS], &mut [0i32; ELEMENTS]),
-        ElementType::F64 => outcome_in(case, &mut [0.0f64; ELEMENTS], &mut [0.0f64; ELEMENTS]),
+impl Outcome {
+    pub fn of(case: &Case) -> Outcome {
+        match case.element_type {
+            ElementType::I32 => outcome_in(case, &mut [0i32; ELEMENTS], &mut [0i32; ELEMENTS]),
+            ElementType::F64 => outcome_in(case, &mut [0.0f64; ELEMENTS], &mut [0.0f64; ELEMENTS]),
+        }
     }
 }

@@ -25,9 +25,9 @@ impl Element for i32 {
 fn is_nan(word: u64) -> bool
     ensures { result ≡ nan_bits binary64 word }
 {
-    let exponent = word % 9223372036854775808 / 4503599627370496;
-    let digits = word % 4503599627370496;
-    exponent == 2047 && digits != 0
+    let exponent = word % (1 << 63) / (1 << 52);
+    let digits = word % (1 << 52);
+    exponent == 0x7ff && digits != 0
 }
 
 // The f64 of these bits. Of a NaN it keeps that it is one: which bits a NaN has cannot be told.
