@@ -1,5 +1,5 @@
 use Rattle.std.specs.Prelude.{ℤ, ◌*◌, refl}
-use Rattle.std.proofs.Common.{eqb-true, true≢false, sym, ap, ap₂, ◌∙◌, rules, SFits}
+use Rattle.std.proofs.Common.{eqb-true, sym, ap, ap₂, ◌∙◌, rules, SFits}
 use Rattle.std.proofs.lemmas.Bool.{eqb-false}
 use Rattle.std.specs.Int.{w64}
 use Rattle.integer.specs.Z.{back}
@@ -30,13 +30,13 @@ returns-then-goes_on c =
     let f : SFits w64 p.source_step = search rules in
     let g : SFits w64 p.dest_step = search rules in
     elim c.if-source-next_source.branch [
-      then-source-next_source w ↦
-      c.merge.ensures ∙ ap₂ (λ (x y : ℤ). as_merged (checked_axis (axis_of (p.extent * c.args.extent) x y))) (back f) (back g)
-      ∙ join-merge p c.args.extent c.args.source c.args.dest _ _ (c.past_last.ensures ∙ ap (past p.extent) (back f)) (c.past_last-2.ensures ∙ ap (past p.extent) (back g))
-      c.in_ok-next_source.next_source c.in_ok-next_dest.next_dest c.in_ok-next_source.was c.in_ok-next_dest.was
-      (steps-same c.args.source c.in_ok-next_source.next_source c.ranges.source (search rules) w.if-source-next_source.true)
-      (steps-same c.args.dest c.in_ok-next_dest.next_dest c.ranges.dest (search rules) (eqb-true _ _ (sym w.goes_on-is ∙ c.if-goes_on.true)))
-    | else-source-next_source w ↦ absurd (true≢false (sym c.if-goes_on.true ∙ w.goes_on-is))
+      | then-source-next_source w ↦
+          c.merge.ensures ∙ ap₂ (λ (x y : ℤ). as_merged (checked_axis (axis_of (p.extent * c.args.extent) x y))) (back f) (back g)
+          ∙ join-merge p c.args.extent c.args.source c.args.dest _ _ (c.past_last.ensures ∙ ap (past p.extent) (back f)) (c.past_last-2.ensures ∙ ap (past p.extent) (back g))
+          c.in_ok-next_source.next_source c.in_ok-next_dest.next_dest c.in_ok-next_source.was c.in_ok-next_dest.was
+          (steps-same c.args.source c.in_ok-next_source.next_source c.ranges.source (search rules) w.if-source-next_source.true)
+          (steps-same c.args.dest c.in_ok-next_dest.next_dest c.ranges.dest (search rules) (eqb-true _ _ (sym w.goes_on-is ∙ c.if-goes_on.true)))
+      | else-source-next_source w ↦ absurd (w.if-source-next_source.false (eqb-true _ _ (sym w.goes_on-is ∙ c.if-goes_on.true)))
     ]
 
 pub returns-else-goes_on : goal.returns-else-goes_on
@@ -46,13 +46,13 @@ returns-else-goes_on c =
     let g : SFits w64 p.dest_step = search rules in
     c.apart.ensures ∙ ap₂ (λ (x y : ℤ). as_apart (checked_axis (axis_of c.args.extent x y))) (back c.ranges.source) (back c.ranges.dest)
     ∙ elim c.if-source-next_source.branch [
-      then-source-next_source w ↦
-      join-apart2 p c.args.extent c.args.source c.args.dest _ _ (c.past_last.ensures ∙ ap (past p.extent) (back f)) (c.past_last-2.ensures ∙ ap (past p.extent) (back g))
-      c.in_ok-next_source.next_source c.in_ok-next_dest.next_dest c.in_ok-next_source.was c.in_ok-next_dest.was
-      (steps-same c.args.source c.in_ok-next_source.next_source c.ranges.source (search rules) w.if-source-next_source.true)
-      (steps-differ c.args.dest c.in_ok-next_dest.next_dest (eqb-false _ _ (sym w.goes_on-is ∙ c.if-goes_on.false)))
-    | else-source-next_source w ↦
-      join_apart p c.args.extent c.args.source c.args.dest _ _ (c.past_last.ensures ∙ ap (past p.extent) (back f)) (c.past_last-2.ensures ∙ ap (past p.extent) (back g))
-      c.in_ok-next_source.next_source c.in_ok-next_dest.next_dest c.in_ok-next_source.was c.in_ok-next_dest.was
-      (steps-differ c.args.source c.in_ok-next_source.next_source w.if-source-next_source.false)
+      | then-source-next_source w ↦
+          join-apart2 p c.args.extent c.args.source c.args.dest _ _ (c.past_last.ensures ∙ ap (past p.extent) (back f)) (c.past_last-2.ensures ∙ ap (past p.extent) (back g))
+          c.in_ok-next_source.next_source c.in_ok-next_dest.next_dest c.in_ok-next_source.was c.in_ok-next_dest.was
+          (steps-same c.args.source c.in_ok-next_source.next_source c.ranges.source (search rules) w.if-source-next_source.true)
+          (steps-differ c.args.dest c.in_ok-next_dest.next_dest (eqb-false _ _ (sym w.goes_on-is ∙ c.if-goes_on.false)))
+      | else-source-next_source w ↦
+          join_apart p c.args.extent c.args.source c.args.dest _ _ (c.past_last.ensures ∙ ap (past p.extent) (back f)) (c.past_last-2.ensures ∙ ap (past p.extent) (back g))
+          c.in_ok-next_source.next_source c.in_ok-next_dest.next_dest c.in_ok-next_source.was c.in_ok-next_dest.was
+          (steps-differ c.args.source c.in_ok-next_source.next_source w.if-source-next_source.false)
     ]
