@@ -68,14 +68,14 @@ fn no_axis() -> WindowReplayAxis
 fn make_axis(extent: u64, source: i64, dest: i64) -> Option<WindowReplayAxis>
     ensures { result ≡ checked_axis (axis_of extent source dest) }
 {
-    let source_reset = layout::checked_replay_reset(extent, source)?;
-    let dest_reset = layout::checked_replay_reset(extent, dest)?;
+    let back = layout::checked_replay_reset(extent, source)?;
+    let home = layout::checked_replay_reset(extent, dest)?;
     Some(WindowReplayAxis {
         extent,
         source_step: source,
-        source_reset,
+        source_reset: back,
         dest_step: dest,
-        dest_reset,
+        dest_reset: home,
     })
 }
 
@@ -110,13 +110,12 @@ fn join(before: WindowReplayAxis, extent: u64, source: i64, dest: i64) -> Option
 {
     let next_source = past_last(before.extent, before.source_step)?;
     let next_dest = past_last(before.extent, before.dest_step)?;
-    if source != next_source {
-        return apart(extent, source, dest);
+    let goes_on = source == next_source && dest == next_dest;
+    if goes_on {
+        merge(before.extent, extent, before.source_step, before.dest_step)
+    } else {
+        apart(extent, source, dest)
     }
-    if dest != next_dest {
-        return apart(extent, source, dest);
-    }
-    merge(before.extent, extent, before.source_step, before.dest_step)
 }
 
 pub fn refused_replay() -> CompiledReplay

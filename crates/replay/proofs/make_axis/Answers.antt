@@ -12,11 +12,11 @@ made d s s' t t' a a' b b' e f g h = cc
 
 pub returns : goal.returns
 returns c =
-    let a = c.in_ok-source_reset.source_reset in
-    let b = c.in_ok-dest_reset.dest_reset in
+    let a = c.in_ok-back.back in
+    let b = c.in_ok-home.home in
     let fa : SFits w64 a = search rules in
     let fb : SFits w64 b = search rules in
     made c.args.extent _ c.args.source _ c.args.dest _ a _ b (back c.ranges.source) (back fa) (back c.ranges.dest) (back fb)
     ∙ axis-fits c.args.extent c.args.source c.args.dest a b
-    (sym (c.checked_replay_reset.ensures ∙ ap (reset_of c.args.extent) (back c.ranges.source)) ∙ c.in_ok-source_reset.was)
-    (sym (c.checked_replay_reset-2.ensures ∙ ap (reset_of c.args.extent) (back c.ranges.dest)) ∙ c.in_ok-dest_reset.was)
+    (sym (c.checked_replay_reset.ensures ∙ ap (reset_of c.args.extent) (back c.ranges.source)) ∙ c.in_ok-back.was)
+    (sym (c.checked_replay_reset-2.ensures ∙ ap (reset_of c.args.extent) (back c.ranges.dest)) ∙ c.in_ok-home.was)
