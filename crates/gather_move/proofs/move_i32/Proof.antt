@@ -1,7 +1,6 @@
 use mathlib.Core.Path.{sym, ◌∙◌}
 use lib.IntN.{pos}
 use borrow.Author.Rules.{rules}
-use borrow.Author.Tests.{not-true, not-false}
 use Rattle.calls.proofs.Does.{refused, done}
 use Rattle.gather_move.proofs.Parts.{without-cells, none-slid, never}
 use Rattle.gather_move.proofs.move_i32.Statement.{statement}

@@ -1,4 +1,4 @@
-use Rattle.std.proofs.Common.{rules, ◌≡◌, ap, ap₂, ◌∙◌, w64, ℤ, ◌*◌}
+use Rattle.std.proofs.Common.{rules, ap, ap₂, ◌∙◌, w64, ℤ, ◌*◌}
 use mir.Val.{SFits}
 use Rattle.integer.specs.Z.{back}
 use Rattle.equality.proofs.Compare.{bits-equal, bits-differ}
