@@ -43,11 +43,7 @@ pub fn other_usize(n: usize, k: u64) -> usize {
 
 // The sum, and 0 where it does not fit.
 fn sum(a: i64, b: i64) -> i64 {
-    let checked = integer::checked_add_i64(a, b);
-    match checked {
-        Some(n) => n,
-        None => 0,
-    }
+    integer::checked_add_i64(a, b).unwrap_or(0)
 }
 
 // One more, one less, or every bit changed.

@@ -38,11 +38,11 @@ fn span(rt: &impl Print, extents: &[u64], strides: &[i64]) -> io::Result<()> {
     let e = layout::padded_extents(extents);
     let s = layout::padded_strides(strides);
     match spans::held_span(e, s, extents.len()) {
-        OffsetSpan::Fits(low, high) => {
+        Some(span) => {
             printing::put(rt, b" ")?;
-            printing::put_i64(rt, low)?;
+            printing::put_i64(rt, span.low)?;
             printing::put(rt, b" to ")?;
-            printing::put_i64(rt, high)?;
+            printing::put_i64(rt, span.high)?;
             printing::end_line(rt)
         }
         None => put_refused(rt, Err(layout::Refusal::OffsetOverflow)),

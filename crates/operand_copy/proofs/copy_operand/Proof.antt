@@ -9,7 +9,7 @@ use Rattle.operand_copy.proofs.copy_operand.Statement.{statement}
 use Rattle.operand_copy.proofs.copy_operand.Tie as tie
 
 -- the count, where it fits
-module _ (k : tie.In-Fits) where
+module _ (k : tie.In-Some) where
   counted : product (take k.args.rank k.args.extents) ≡ k.in-Some.n
   counted = total-told _ k.total_len-total.result _ k.total_len-total.ensures k.in-Some.is
 
