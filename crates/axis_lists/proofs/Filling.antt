@@ -7,8 +7,8 @@ use native.Mathlib.Numerals.{add-one}
 use native.Mathlib.Omega.{arith}
 use borrow.Author.Tests.{lt-ltb, le-ltb, ltb-true, ltb-false}
 use lib.Dec.{eqb, ltb}
-use lib.ListN.{length, take, drop, get_or, set, replicate, length-take, length-drop, length-append, drop_of_length-le, get_or-eq_default}
-use lib.Seq.{take_all, take-take, drop-nil, drop-cons, get_or-take, set-append_left, set_out}
+use lib.ListN.{length, take, drop, get_or, set, replicate, length-take, length-drop, length-append, drop_of_length-le}
+use lib.Seq.{take_all, drop-nil, drop-cons, get_or-take, set-append_left, set_out}
 use Rattle.indexing.specs.Coordinates.{has, pick, spread, others_from}
 use Rattle.indexing.specs.Start.{without}
 use Rattle.indexing.specs.Axes.{length-pick, get_or-pick, length-spread}
@@ -55,9 +55,6 @@ any-has (x ∷ xs) a = ap (λ (t : Bool). eqb x a || t) (any-has xs a)
 -- ---- an entry
 pub entry-below : {A : Type 0} (n : ℕ) (xs : List A) (i : ℕ) (d : A) → i < n → get_or xs i d ≡ get_or (take n xs) i d
 entry-below n xs i d h = sym (get_or-take n xs i d h)
-
-pub entry_past : {A : Type 0} (n : ℕ) (xs : List A) (i : ℕ) (d : A) → min n (length xs) ≤ i → d ≡ get_or (take n xs) i d
-entry_past n xs i d h = sym (get_or-eq_default (take n xs) d {n = i} (omega (arith, length-take n xs)))
 
 -- the entries of an array that count
 pub counted : {A : Type 0} (n k : ℕ) (xs : List A) → n ≡ min k rank_limit → length xs ≡ rank_limit → take n xs ≡ take k xs
@@ -217,22 +214,6 @@ spread-none-held z d n m axes l i h q k =
 
 pub spread-all : {A : Type 0} (z d : A) (n : ℕ) (axes : List ℕ) (l entries : List A) (i : ℕ) → n ≤ rank_limit → i ≡ 0 → entries ≡ spread_in z d n (drop i axes) (drop i l) → entries ≡ padded rank_limit z (spread d n axes l)
 spread-all z d n axes l entries i h k e = e ∙ ap (λ (j : ℕ). spread_in z d n (drop j axes) (drop j l)) k ∙ spread-padded z d n axes l h
-
--- entries past the shorter list are not spread
-spread-both : {A : Type 0} (d : A) (n : ℕ) (axes : List ℕ) (l : List A) (m : ℕ) → m ≡ min (length axes) (length l) → spread d n (take m axes) (take m l) ≡ spread d n axes l
-unfolding spread
-spread-both d n [] l zero e = refl
-spread-both d n [] l (suc m) e = absurd (omega arith)
-spread-both d n (a ∷ axes) [] zero e = refl
-spread-both d n (a ∷ axes) [] (suc m) e = absurd (omega arith)
-spread-both d n (a ∷ axes) (x ∷ l) zero e = absurd (omega arith)
-spread-both d n (a ∷ axes) (x ∷ l) (suc m) e = ap (λ (t : List _). set t a x) (spread-both d n axes l m (omega arith))
-
-pub spread-counted : {A : Type 0} (d : A) (n : ℕ) (axes : List ℕ) (l : List A) (a b m : ℕ) → length axes ≡ rank_limit → length l ≡ rank_limit → m ≡ min (min a rank_limit) (min b rank_limit)
-    → spread d n (take m axes) (take m l) ≡ spread d n (take a axes) (take b l)
-spread-counted d n axes l a b m p q e =
-    ap₂ (λ (xs : List ℕ) (ys : List _). spread d n xs ys) (sym (take-take m a axes (omega arith))) (sym (take-take m b l (omega arith)))
-    ∙ spread-both d n (take a axes) (take b l) m (omega (arith, length-take a axes, length-take b l))
 
 -- a list that is not too long, read again
 pub read_back : {A : Type 0} (d : A) (l : List A) → length l ≤ rank_limit → take (length l) (padded rank_limit d l) ≡ l

@@ -1,27 +1,13 @@
 -- Whether two views have the same layout, as a test and as equations. Assumes nothing.
-use mathlib.Core.Path.{◌≡◌, refl, sym}
-use mathlib.Core.Bool.{Bool, true, false, ◌&&◌, true≢false}
-use mathlib.Core.List.{List}
-use Prim.Native.Nat.{ℕ}
+use mathlib.Core.Path.{◌≡◌}
+use mathlib.Core.Bool.{true}
 use lib.Dec.{eqb}
-use lib.IntN.{ℤ}
 use Rattle.integer.specs.Defs.{eq_z}
-use Rattle.integer.specs.Tests.{and-true, and_both, both_ways}
+use Rattle.integer.specs.Tests.{and-true, and_both}
 use Rattle.indexing.specs.Coordinates.{View}
-use Rattle.axis_lists.specs.Held.{Decides}
 use Rattle.equality.specs.Same.{same_by}
 use Rattle.equality.proofs.Compare.{numbers-decide, ints-decide, lists-decide}
 use Rattle.calls.specs.Calls.{same_view}
-
--- two flags that decide the same are the same
-decide-same : {A : Type 0} {r s : Bool} {a b : A} → Decides r a b → Decides s a b → r ≡ s
-decide-same {r = r} {s = s} p q = both_ways r s (λ e. q.no (p.yes e)) (λ e. p.no (q.yes e))
-
-pub extents-same : {r : Bool} {xs ys : List ℕ} → Decides r xs ys → r ≡ same_by eqb xs ys
-extents-same {xs = xs} {ys = ys} p = decide-same p (lists-decide eqb numbers-decide xs ys)
-
-pub strides-same : {r : Bool} {xs ys : List ℤ} → Decides r xs ys → r ≡ same_by eq_z xs ys
-strides-same {xs = xs} {ys = ys} p = decide-same p (lists-decide eq_z ints-decide xs ys)
 
 -- what the test tells
 pub same-view-is : (v w : View) → same_view v w ≡ true → (v.extents ≡ w.extents) × (v.strides ≡ w.strides)

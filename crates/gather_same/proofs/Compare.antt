@@ -5,14 +5,11 @@ use Prim.Native.Nat.{ℕ}
 use native.Mathlib.Omega.{arith}
 use borrow.Author.Tests.{eqb-true, eq-eqb}
 use lib.Dec.{eqb}
-use Rattle.integer.specs.Defs.{eq_z}
-use Rattle.integer.specs.Laws.{eq_z-true}
-use Rattle.integer.specs.Tests.{and-true, and_both}
 use Rattle.layout.specs.declared.Layout.{Layout}
 use Rattle.axis_lists.specs.Held.{Numbers, Steps, Decides}
 use lib.IntN.{ℤ}
 use mathlib.Core.List.{List}
-use Rattle.equality.specs.Same.{same_by, same_layout, same_numbers, same_steps}
+use Rattle.equality.specs.Same.{same_by, same_numbers}
 use Rattle.equality.proofs.Compare.{int-eq, layout-eq, steps-eq, pairs_decide, whole-decides, numbers-decide, ints-decide, lists-decide, layouts-decide, held-decide, steps-decide}
 use Rattle.gather_plan.specs.declared.Role.{Role}
 use Rattle.gather_plan.specs.declared.Role.TheVariants.{Batch, Window}
@@ -59,21 +56,21 @@ axis-eq : (a b : GatherReplayAxis) → X.eq-value.it a b ≡ same_axis a b
 unfolding same_axis
 axis-eq a b =
     λ i. role-eq a.role b.role i
-      && (int-eq i a.dest_step b.dest_step && (int-eq i a.dest_reset b.dest_reset
-      && (int-eq i a.window_step b.window_step && (int-eq i a.window_reset b.window_reset
-      && (int-eq i a.index_batch_step b.index_batch_step && int-eq i a.index_batch_reset b.index_batch_reset)))))
+    && (int-eq i a.dest_step b.dest_step && (int-eq i a.dest_reset b.dest_reset
+    && (int-eq i a.window_step b.window_step && (int-eq i a.window_reset b.window_reset
+    && (int-eq i a.index_batch_step b.index_batch_step && int-eq i a.index_batch_reset b.index_batch_reset)))))
 
 pub plan-eq : (a b : GatherPlan) → P.eq-value.it a b ≡ same_plan a b
 unfolding same_plan
 plan-eq a b =
     λ i. layout-eq a.operand b.operand i && (layout-eq a.index b.index i && (layout-eq a.dest b.dest i
-      && (same_numbers a.offset_dims b.offset_dims
-      && (same_numbers a.collapsed_slice_dims b.collapsed_slice_dims
-      && (same_numbers a.start_index_map b.start_index_map
-      && (eqb a.index_vector_dim b.index_vector_dim && (same_numbers a.slice_sizes b.slice_sizes
-      && (same_by (λ x y. axis-eq x y i) a.axes b.axes
-      && (steps-eq a.index_component_offsets b.index_component_offsets i
-      && (steps-eq a.index_operand_strides b.index_operand_strides i && eqb a.total b.total))))))))))
+    && (same_numbers a.offset_dims b.offset_dims
+    && (same_numbers a.collapsed_slice_dims b.collapsed_slice_dims
+    && (same_numbers a.start_index_map b.start_index_map
+    && (eqb a.index_vector_dim b.index_vector_dim && (same_numbers a.slice_sizes b.slice_sizes
+    && (same_by (λ x y. axis-eq x y i) a.axes b.axes
+    && (steps-eq a.index_component_offsets b.index_component_offsets i
+    && (steps-eq a.index_operand_strides b.index_operand_strides i && eqb a.total b.total))))))))))
 
 abbrev Parts : Type 0
 Parts = Layout × (Layout × (Layout × (Numbers × (Numbers × (Numbers × (ℕ × (Numbers × (List GatherReplayAxis × (Steps × (Steps × ℕ))))))))))

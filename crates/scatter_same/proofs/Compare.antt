@@ -1,12 +1,11 @@
 -- Tests for the same walks, rows and plans, and that they decide. Assumes nothing.
-use mathlib.Core.Path.{◌≡◌, refl, sym, ap, ◌∙◌}
-use mathlib.Core.Bool.{Bool, ◌&&◌}
+use mathlib.Core.Path.{◌≡◌, refl}
+use mathlib.Core.Bool.{◌&&◌}
 use mathlib.Core.List.{List}
 use Prim.Native.Nat.{ℕ}
 use lib.Dec.{eqb}
 use lib.IntN.{ℤ}
 use Rattle.integer.specs.Defs.{eq_z}
-use Rattle.integer.specs.Tests.{and-true, and_both}
 use Rattle.layout.specs.declared.Layout.{Layout}
 use Rattle.axis_lists.specs.Held.{Numbers, Steps, Decides}
 use Rattle.equality.specs.Same.{same_by, same_numbers}
@@ -58,15 +57,15 @@ pub plan-eq : (a b : ScatterPlan) → P.eq-value.it a b ≡ same_plan a b
 unfolding same_plan
 plan-eq a b =
     λ i. layout-eq a.index b.index i && (layout-eq a.updates b.updates i && (layout-eq a.dest b.dest i
-      && (same_numbers a.update_window_dims b.update_window_dims
-      && (same_numbers a.inserted_window_dims b.inserted_window_dims
-      && (same_numbers a.scatter_dims_to_operand_dims b.scatter_dims_to_operand_dims
-      && (eqb a.index_vector_dim b.index_vector_dim
-      && (replay-eq a.batch b.batch i && (replay-eq a.window b.window i
-      && (same_numbers a.window_shape b.window_shape
-      && (steps-eq a.index_component_offsets b.index_component_offsets i
-      && (steps-eq a.index_operand_strides b.index_operand_strides i
-      && (eqb a.batch_elems b.batch_elems && eqb a.window_elems b.window_elems))))))))))))
+    && (same_numbers a.update_window_dims b.update_window_dims
+    && (same_numbers a.inserted_window_dims b.inserted_window_dims
+    && (same_numbers a.scatter_dims_to_operand_dims b.scatter_dims_to_operand_dims
+    && (eqb a.index_vector_dim b.index_vector_dim
+    && (replay-eq a.batch b.batch i && (replay-eq a.window b.window i
+    && (same_numbers a.window_shape b.window_shape
+    && (steps-eq a.index_component_offsets b.index_component_offsets i
+    && (steps-eq a.index_operand_strides b.index_operand_strides i
+    && (eqb a.batch_elems b.batch_elems && eqb a.window_elems b.window_elems))))))))))))
 
 pub rows-eq : (a b : List (List ℤ)) → same_by (same_by int_eq) a b ≡ same_rows a b
 rows-eq a b = λ i. same_by (same_by (int-eq i)) a b

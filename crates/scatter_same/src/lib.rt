@@ -51,7 +51,5 @@ pub fn is_compiled(
     ensures { result ≡ is_compiled plan batch_rows window_rows }
 {
     let again = compiled_again(plan);
-    layout::is_done(again.answer)
-        && plan == again.plan
-        && has_rows(again, batch_rows, window_rows)
+    layout::is_done(again.answer) && plan == again.plan && has_rows(again, batch_rows, window_rows)
 }

@@ -35,17 +35,37 @@ impl Window<'_> {
         )
     }
 
+    // The walk from two bases.
     pub fn place(&self, source_base: i64, dest_base: i64) -> Result<PlacedWalk, Unplaced>
         ensures { IfOk result (λ w. Walk w.source_base w.dest_base w.shape w.rows w.rank) }
     {
-        PlacedWalk::new(
-            layout::padded_extents(self.extents),
-            layout::padded_strides(self.sources),
-            layout::padded_strides(self.dests),
-            self.extents.len(),
+        let extents = layout::padded_extents(self.extents);
+        let sources = layout::padded_strides(self.sources);
+        let dests = layout::padded_strides(self.dests);
+        let rank = self.extents.len();
+        let made = replay::compile_window_replay(extents, sources, dests, rank);
+        if let Err(refusal) = made.answer {
+            return Err(Unplaced::Refused(refusal));
+        }
+        if spans::has_zero(extents, rank) {
+            return Err(Unplaced::NoCells);
+        }
+        let plan = made.replay;
+        let spans = plan.spans;
+        if !walk::covers(spans.source_low, spans.source_high, source_base)
+            || !walk::covers(spans.dest_low, spans.dest_high, dest_base)
+        {
+            return Err(Unplaced::OutOfReach);
+        }
+        let shape = plan.extents;
+        let rows = replay::rows_of(made.axes);
+        Ok(PlacedWalk {
+            shape,
+            rows,
+            rank: plan.rank,
             source_base,
             dest_base,
-        )
+        })
     }
 }
 
@@ -72,42 +92,6 @@ fn put_place(rt: &impl Print, state: &WalkState) -> io::Result<()> {
 }
 
 impl PlacedWalk {
-    fn new(
-        shape: [u64; RAW_FUSED_RANK_LIMIT],
-        sources: [i64; RAW_FUSED_RANK_LIMIT],
-        dests: [i64; RAW_FUSED_RANK_LIMIT],
-        rank: usize,
-        source_base: i64,
-        dest_base: i64,
-    ) -> Result<PlacedWalk, Unplaced>
-        ensures { IfOk result (λ w. Walk w.source_base w.dest_base w.shape w.rows w.rank) }
-    {
-        let made = replay::compile_window_replay(shape, sources, dests, rank);
-        if let Err(refusal) = made.answer {
-            return Err(Unplaced::Refused(refusal));
-        }
-        if spans::has_zero(shape, rank) {
-            return Err(Unplaced::NoCells);
-        }
-        let plan = made.replay;
-        let spans = plan.spans;
-        if !walk::covers(spans.source_low, spans.source_high, source_base) {
-            return Err(Unplaced::OutOfReach);
-        }
-        if !walk::covers(spans.dest_low, spans.dest_high, dest_base) {
-            return Err(Unplaced::OutOfReach);
-        }
-        let shape = plan.extents;
-        let rows = replay::rows_of(made.axes);
-        Ok(PlacedWalk {
-            shape,
-            rows,
-            rank: plan.rank,
-            source_base,
-            dest_base,
-        })
-    }
-
     // The places from the first on, a step from each to the next.
     pub fn put_places(&self, rt: &impl Print, total: u64) -> io::Result<()>
         requires { Walk self.now.source_base self.now.dest_base self.now.shape self.now.rows self.now.rank }

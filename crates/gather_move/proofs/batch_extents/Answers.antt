@@ -1,4 +1,4 @@
-use Rattle.std.proofs.Common.{arith, ◌≡◌, ℕ, Bool, cond, get_or, sym, ap, ◌∙◌}
+use Rattle.std.proofs.Common.{arith, ℕ, Bool, cond, get_or, sym, ap, ◌∙◌}
 use Rattle.indexing.specs.Coordinates.{tabulate, has}
 use Rattle.indexing.proofs.Updates.{length-tabulate, get_d_tabulate}
 use Rattle.layout.specs.Layouts.{rank_limit}

@@ -1,4 +1,4 @@
-use Rattle.std.proofs.Common.{rules, ◌≡◌, ◌∙◌}
+use Rattle.std.proofs.Common.{rules, ◌∙◌}
 use Rattle.axis_lists.proofs.Filling.{counted}
 use Rattle.gather_checks.specs.Refusals.{gather_from}
 use Rattle.gather_plan.specs.Plan.{compiled_again}

@@ -1,4 +1,4 @@
-use Rattle.std.proofs.Common.{◌≡◌, Bool, true, false, ◌&&◌, sym, ap, ◌∙◌}
+use Rattle.std.proofs.Common.{◌≡◌, ◌&&◌, sym, ap, ◌∙◌}
 use Rattle.std.proofs.Math.Bool.{and_assoc}
 use Rattle.layout.specs.declared.Layout.{Layout}
 use Rattle.layout.specs.declared.Answer.{Answer}
@@ -19,10 +19,10 @@ returns-then-eq c =
     let s = same_layout a.plan.operand l in
     let r = scatter-same.is_compiled a.plan.scatter a.batch_rows a.window_rows in
     let v : c.if-is_done.value ≡ (d && s) =
-        elim c.if-is_done.branch [
-          then-is_done w ↦ w.value-is ∙ first-yes d s w.eq.result (sym c.is_done.ensures ∙ w.if-is_done.true) (w.eq.ensures ∙ layout-eq a.plan.operand w.held_again.result ∙ ap (same_layout a.plan.operand) w.held_again.ensures)
-        | else-is_done w ↦ w.value-is ∙ w.if-is_done.false ∙ first-no d s (sym c.is_done.ensures ∙ w.if-is_done.false)
-        ] in
+    elim c.if-is_done.branch [
+      | then-is_done w ↦ w.value-is ∙ first-yes d s w.eq.result (sym c.is_done.ensures ∙ w.if-is_done.true) (w.eq.ensures ∙ layout-eq a.plan.operand w.held_again.result ∙ ap (same_layout a.plan.operand) w.held_again.ensures)
+      | else-is_done w ↦ w.value-is ∙ w.if-is_done.false ∙ first-no d s (sym c.is_done.ensures ∙ w.if-is_done.false)
+    ] in
     first-yes (d && s) r c.is_compiled.result (sym v ∙ c.if-eq.true) c.is_compiled.ensures
     ∙ and_assoc d s r
     ∙ ap (λ (x : Answer). is_done x && (s && r)) c.sizes_of-sizes.ensures
@@ -36,10 +36,10 @@ returns-else-eq c =
     let s = same_layout a.plan.operand l in
     let r = scatter-same.is_compiled a.plan.scatter a.batch_rows a.window_rows in
     let v : c.if-is_done.value ≡ (d && s) =
-        elim c.if-is_done.branch [
-          then-is_done w ↦ w.value-is ∙ first-yes d s w.eq.result (sym c.is_done.ensures ∙ w.if-is_done.true) (w.eq.ensures ∙ layout-eq a.plan.operand w.held_again.result ∙ ap (same_layout a.plan.operand) w.held_again.ensures)
-        | else-is_done w ↦ w.value-is ∙ w.if-is_done.false ∙ first-no d s (sym c.is_done.ensures ∙ w.if-is_done.false)
-        ] in
+    elim c.if-is_done.branch [
+      | then-is_done w ↦ w.value-is ∙ first-yes d s w.eq.result (sym c.is_done.ensures ∙ w.if-is_done.true) (w.eq.ensures ∙ layout-eq a.plan.operand w.held_again.result ∙ ap (same_layout a.plan.operand) w.held_again.ensures)
+      | else-is_done w ↦ w.value-is ∙ w.if-is_done.false ∙ first-no d s (sym c.is_done.ensures ∙ w.if-is_done.false)
+    ] in
     c.if-eq.false ∙ first-no (d && s) r (sym v ∙ c.if-eq.false)
     ∙ and_assoc d s r
     ∙ ap (λ (x : Answer). is_done x && (s && r)) c.sizes_of-sizes.ensures

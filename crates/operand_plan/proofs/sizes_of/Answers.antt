@@ -1,4 +1,4 @@
-use Rattle.std.proofs.Common.{rules, ◌≡◌, ◌∙◌}
+use Rattle.std.proofs.Common.{rules, ◌∙◌}
 use Rattle.axis_lists.proofs.Filling.{counted}
 use Rattle.operand_checks.specs.Refusals.{sizes_refusal}
 use Rattle.operand_plan.proofs.sizes_of.Goals as goal

@@ -1,4 +1,4 @@
-use Rattle.std.proofs.Common.{rules, ◌≡◌, length, min, ap, ◌∙◌, ℤ, w64}
+use Rattle.std.proofs.Common.{rules, length, min, ap, ◌∙◌, ℤ, w64}
 use mir.Val.{SFits}
 use Rattle.integer.specs.Z.{back}
 use Rattle.indexing.specs.Coordinates.{tabulate}

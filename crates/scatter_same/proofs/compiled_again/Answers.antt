@@ -1,4 +1,4 @@
-use Rattle.std.proofs.Common.{rules, ◌≡◌, ◌∙◌}
+use Rattle.std.proofs.Common.{rules, ◌∙◌}
 use Rattle.axis_lists.proofs.Filling.{counted}
 use Rattle.scatter_checks.specs.Refusals.{scatter_from}
 use Rattle.scatter_plan.specs.Plan.{compiled_again}

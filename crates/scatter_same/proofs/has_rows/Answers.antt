@@ -1,4 +1,4 @@
-use Rattle.std.proofs.Common.{◌≡◌, true, false, sym, ap, ◌∙◌}
+use Rattle.std.proofs.Common.{sym, ap, ◌∙◌}
 use Rattle.equality.proofs.Compare.{first-yes, first-no}
 use Rattle.scatter_same.specs.Same.{same_rows, has_rows}
 use Rattle.scatter_same.proofs.Compare.{rows-eq}

@@ -1,4 +1,4 @@
-use Rattle.std.proofs.Common.{◌≡◌, Bool, true, false, ◌&&◌, sym, ap, ◌∙◌}
+use Rattle.std.proofs.Common.{◌≡◌, ◌&&◌, sym, ap, ◌∙◌}
 use Rattle.layout.specs.Answers.{is_done}
 use Rattle.equality.proofs.Compare.{first-yes, first-no}
 use Rattle.std.proofs.Math.Bool.{and_assoc}
@@ -16,10 +16,10 @@ returns-then-eq c =
     let d = is_done r.answer in
     let s = same_plan a.plan r.plan in
     let v : c.if-is_done.value ≡ (d && s) =
-        elim c.if-is_done.branch [
-          then-is_done w ↦ w.value-is ∙ first-yes d s w.eq.result (sym c.is_done.ensures ∙ w.if-is_done.true) (w.eq.ensures ∙ plan-eq a.plan r.plan)
-        | else-is_done w ↦ w.value-is ∙ w.if-is_done.false ∙ first-no d s (sym c.is_done.ensures ∙ w.if-is_done.false)
-        ] in
+    elim c.if-is_done.branch [
+      | then-is_done w ↦ w.value-is ∙ first-yes d s w.eq.result (sym c.is_done.ensures ∙ w.if-is_done.true) (w.eq.ensures ∙ plan-eq a.plan r.plan)
+      | else-is_done w ↦ w.value-is ∙ w.if-is_done.false ∙ first-no d s (sym c.is_done.ensures ∙ w.if-is_done.false)
+    ] in
     first-yes (d && s) (has_rows r a.batch_rows a.window_rows) c.has_rows.result (sym v ∙ c.if-eq.true) c.has_rows.ensures
     ∙ and_assoc d s (has_rows r a.batch_rows a.window_rows)
     ∙ ap (λ (x : CompiledScatter). is_done x.answer && (same_plan a.plan x.plan && has_rows x a.batch_rows a.window_rows)) c.compiled_again-again.ensures
@@ -32,10 +32,10 @@ returns-else-eq c =
     let d = is_done r.answer in
     let s = same_plan a.plan r.plan in
     let v : c.if-is_done.value ≡ (d && s) =
-        elim c.if-is_done.branch [
-          then-is_done w ↦ w.value-is ∙ first-yes d s w.eq.result (sym c.is_done.ensures ∙ w.if-is_done.true) (w.eq.ensures ∙ plan-eq a.plan r.plan)
-        | else-is_done w ↦ w.value-is ∙ w.if-is_done.false ∙ first-no d s (sym c.is_done.ensures ∙ w.if-is_done.false)
-        ] in
+    elim c.if-is_done.branch [
+      | then-is_done w ↦ w.value-is ∙ first-yes d s w.eq.result (sym c.is_done.ensures ∙ w.if-is_done.true) (w.eq.ensures ∙ plan-eq a.plan r.plan)
+      | else-is_done w ↦ w.value-is ∙ w.if-is_done.false ∙ first-no d s (sym c.is_done.ensures ∙ w.if-is_done.false)
+    ] in
     c.if-eq.false ∙ first-no (d && s) (has_rows r a.batch_rows a.window_rows) (sym v ∙ c.if-eq.false)
     ∙ and_assoc d s (has_rows r a.batch_rows a.window_rows)
     ∙ ap (λ (x : CompiledScatter). is_done x.answer && (same_plan a.plan x.plan && has_rows x a.batch_rows a.window_rows)) c.compiled_again-again.ensures
