@@ -1,5 +1,6 @@
 -- What is found of a scatter is what is asked. Assumes nothing.
-use Rattle.std.specs.Prelude.{Ok}
+use Rattle.std.specs.Prelude.{Ok, Err}
+use Rattle.std.specs.Result.{result_and}
 use mathlib.Core.Path.{◌≡◌, refl, sym, ap, ◌∙◌}
 use mathlib.Core.Bool.{Bool, true, false, cond}
 use mathlib.Core.List.{List}
@@ -7,6 +8,7 @@ use Prim.Native.Nat.{ℕ}
 use lib.ListN.{length}
 use lib.IntN.{ℤ}
 use Rattle.indexing.specs.Scatter.{Scatter}
+use Rattle.layout.specs.declared.Refusal.{Refusal}
 use Rattle.layout.specs.Answers.{is_done, or_else, Answer}
 use Rattle.checks.specs.Checks.{layouts_refusal}
 use Rattle.checks.proofs.Made.{or-done}
@@ -34,9 +36,6 @@ done-again four s e =
     let t = or-done (sizes_of s) (or_else four (spec_refusal s)) e in
     ap (λ (b : Bool). is_done (cond b (spec_refusal s) (sizes_of s))) t.0 ∙ (or-done four (spec_refusal s) t.1).1
 
-pub examines-by : {r : Examined} {x y : Answer} {s : Scatter} → x ≡ y → Examines r x s → Examines r y s
-examines-by {r} {x} {y} {s} e h = record { answered = h.answered ∙ ap (λ (z : Answer). refusal_of z s) e; found = h.found }
-
 -- ---- what is found is what is asked
 or_assoc : (x y z : Answer) → or_else (or_else x y) z ≡ or_else x (or_else y z)
 or_assoc x y z = go (is_done x) refl
@@ -45,17 +44,22 @@ or_assoc x y z = go (is_done x) refl
     go true e = rw e
     go false e = rw (e, e)
 
+-- the first refusal of two, as the library takes it
+pub and-is : (x y : Answer) {r z : Answer} → r ≡ result_and x y → y ≡ z → r ≡ or_else x z
+and-is (Ok _) y e f = e ∙ f
+and-is (Err _) y e f = e
+
 module _ (four : Answer) (s : Scatter) (r : Examined) (sized : is_done (sizes_of s) ≡ true) where
   after-sizes : or_else (or_else four (axes_refusal s)) (walks_refusal s) ≡ refusal_of four s
   unfolding spec_refusal
   after-sizes = or_assoc four (axes_refusal s) (walks_refusal s) ∙ sym (ap (λ (t : Bool). cond t (or_else four (spec_refusal s)) (sizes_of s)) sized)
 
   -- refused by 4 or by what is asked of the axes
-  pub turned_down : is_done (or_else four (axes_refusal s)) ≡ false → r.answer ≡ or_else four (axes_refusal s) → Examines r four s
-  turned_down f e =
+  pub turned_down : (e : Refusal) → or_else four (axes_refusal s) ≡ Err e → r.answer ≡ Err e → Examines r four s
+  turned_down e f g =
       record {
-        answered = e ∙ sym (ap (λ (t : Bool). cond t (walks_refusal s) (or_else four (axes_refusal s))) f) ∙ after-sizes;
-        found = λ d. never (sym d ∙ ap is_done e ∙ f);
+        answered = g ∙ ap (λ (x : Answer). or_else x (walks_refusal s)) (sym f) ∙ after-sizes;
+        found = λ d. never (sym d ∙ ap is_done g);
       }
 
   pub found : is_done (or_else four (axes_refusal s)) ≡ true → r ≡ walks_of s → Examines r four s

@@ -29,6 +29,9 @@ module _ (n : ℕ) (axes : List ℕ) (k : Numbers) (h : n ≤ rank_limit) (e : k
   pub others-few : k.count ≤ length k.entries
   others-few = held_fits k (others n axes) (others-held k n axes e h) (few-others n axes h)
 
+  pub others-read : numbers_of k ≡ others n axes
+  others-read = held-read k (others n axes) (others-held k n axes e h) (few-others n axes h)
+
   pub others-part : take (k.count - 0) (drop 0 k.entries) ≡ others n axes
   others-part = held-part k (others n axes) (others-held k n axes e h) (few-others n axes h)
 

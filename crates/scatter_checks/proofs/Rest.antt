@@ -1,7 +1,9 @@
 -- What the checks of a scatter answered, taken together. Assumes nothing.
-use mathlib.Core.Path.{◌≡◌, sym, ap, ap₂, ◌∙◌}
+use Rattle.std.specs.Prelude.{Ok, Err}
+use mathlib.Core.Path.{◌≡◌, sym, ap, ◌∙◌}
+use mathlib.Core.Bool.{cond}
 use mathlib.Core.List.{List, [], ◌∷◌}
-use Prim.Native.Nat.{ℕ, ◌≤◌}
+use Prim.Native.Nat.{ℕ, ◌-◌, ◌≤◌}
 use native.Mathlib.Omega.{arith}
 use lib.ListN.{length}
 use lib.IntN.{pos}
@@ -12,15 +14,18 @@ use Rattle.indexing.specs.Steps.{vector_stride, update_batch_steps, update_windo
 use Rattle.indexing.specs.Axes.{length-pick}
 use Rattle.layout.specs.Answers.{or_else, Answer}
 use Rattle.layout.specs.Layouts.{rank_limit}
+use Rattle.layout.specs.Lists.{unique_axes}
 use Rattle.layout.specs.Spans.{total_of}
+use Rattle.axis_lists.specs.Held.{same_list}
 use Rattle.axis_lists.proofs.Filling.{length-others}
 use Rattle.axis_lists.proofs.Without.{pick-without}
-use Rattle.checks.specs.Checks.{first_of, total_fits, windows_fit, offset_fits}
+use Rattle.checks.specs.Checks.{first_of, same_count, total_fits, windows_fit, offset_fits}
 use Rattle.replay.specs.declared.CompiledReplay.{CompiledReplay}
 use Rattle.replay.specs.Replays.{compiled_replay}
-use Rattle.scatter_checks.specs.Refusals.{batch_walk, window_walk, walks_refusal}
+use Rattle.scatter_checks.specs.Refusals.{lists_refusal, count_at_most, axes_refusal, batch_walk, window_walk}
 use Rattle.scatter_checks.specs.Examine.{Fitting, Listed, Counted, walks_of}
 use Rattle.scatter_checks.proofs.Found.{fitting}
+use Rattle.layout.specs.declared.Refusal.TheVariants as F
 
 module _ (s : Scatter) (keep batch start : List ℕ) (l : Listed s keep batch start) where
   pub fits : Fitting s
@@ -56,14 +61,14 @@ module _ (s : Scatter) (keep batch start : List ℕ) (l : Listed s keep batch st
   unfolding window_dims
   window-few c = omega (arith, c.window, length-others 0 (rank s.result) s.spec.inserted-window-dims, fits.dest-few)
 
-  -- windows and shapes
-  pub windows-are : windows_fit 0 s.result.extents (spread 1 (rank s.result) keep (pick 0 s.spec.update-window-dims s.updates.extents)) ≡ windows_fit 0 s.result.extents (windows s)
-  unfolding windows window_shape
-  windows-are = rw l.kept
-
-  pub batch-total : total_fits (total_of (pick 0 batch s.updates.extents)) ≡ total_fits (total_of (batch_shape s))
-  unfolding batch_shape
-  batch-total = rw l.batches
+  -- what is asked of the axes, by those that the spec does not list
+  pub axes-are : or_else (lists_refusal s.indices.extents s.result.extents s.spec.inserted-window-dims s.spec.scatter-dims-to-operand-dims s.spec.index-vector-dim)
+      (or_else (or_else (same_count (length s.spec.update-window-dims) (length keep)) (or_else (count_at_most (length s.spec.update-window-dims) (length s.updates.extents))
+      (or_else (same_count (length s.updates.extents - length s.spec.update-window-dims) (length start)) (unique_axes (length s.updates.extents) [] s.spec.update-window-dims))))
+      (cond (same_list (pick 0 batch s.updates.extents) (pick 0 start s.indices.extents)) (Ok tt) (Err (F.ShapeMismatch (length s.updates.extents) (length s.updates.extents)))))
+      ≡ axes_refusal s
+  unfolding window_dims scatter_dims
+  axes-are = rw (l.kept, l.batches, start-count, start-extents)
 
   -- the two walks
   pub batch-walk : (c : CompiledReplay) → c ≡ compiled_replay (pick 0 batch s.updates.extents) (pick (pos 0) start s.indices.strides) (pick (pos 0) batch s.updates.strides) → c ≡ batch_walk s
@@ -74,14 +79,11 @@ module _ (s : Scatter) (keep batch start : List ℕ) (l : Listed s keep batch st
   unfolding window_walk window_shape update_window_steps land_steps
   window-walk c e = e ∙ rw l.kept
 
--- what the checks from the windows on answered, in order, with the two walks
-pub walks-are : (s : Scatter) (w p q o x y z v r : Answer) (c d : CompiledReplay)
-    → w ≡ windows_fit 0 s.result.extents (windows s) → p ≡ total_fits (total_of (batch_shape s)) → q ≡ total_fits (total_of (window_shape s)) → c ≡ batch_walk s → d ≡ window_walk s
-    → o ≡ first_of (offset_fits (vector_stride s.indices s.spec.index-vector-dim)) (length s.spec.scatter-dims-to-operand-dims) 0
-    → x ≡ or_else d.answer o → y ≡ or_else c.answer x → z ≡ or_else q y → v ≡ or_else p z → r ≡ or_else w v → record { answer = r; batch = c; window = d } ≡ walks_of s
-unfolding walks_of
-walks-are s w p q o x y z v r c d ew ep eq ec ed eo ex ey ez ev er =
-    let a : r ≡ walks_refusal s =
-    er ∙ ap₂ or_else ew (ev ∙ ap₂ or_else ep (ez ∙ ap₂ or_else eq
-    (ey ∙ ap₂ or_else (ap (λ (m : CompiledReplay). m.answer) ec) (ex ∙ ap₂ or_else (ap (λ (m : CompiledReplay). m.answer) ed) eo)))) in
-    λ i. record { answer = a i; batch = ec i; window = ed i }
+  -- what the checks from the windows on answered, with the two walks
+  pub walks-are : (r : Answer) (c d : CompiledReplay)
+      → r ≡ or_else (windows_fit 0 s.result.extents (spread 1 (rank s.result) keep (pick 0 s.spec.update-window-dims s.updates.extents)))
+      (or_else (total_fits (total_of (pick 0 batch s.updates.extents))) (or_else (total_fits (total_of (pick 0 s.spec.update-window-dims s.updates.extents)))
+      (or_else c.answer (or_else d.answer (first_of (offset_fits (vector_stride s.indices s.spec.index-vector-dim)) (length s.spec.scatter-dims-to-operand-dims) 0)))))
+      → c ≡ batch_walk s → d ≡ window_walk s → record { answer = r; batch = c; window = d } ≡ walks_of s
+  unfolding walks_of windows window_shape batch_shape
+  walks-are r c d e x y = rw (e, x, y, l.kept, l.batches)

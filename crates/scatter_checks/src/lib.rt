@@ -8,13 +8,13 @@ ghost use Rattle.layout.specs.Layouts.{rank_limit, padded};
 ghost use Rattle.layout.specs.Lists.{unique_axes};
 ghost use Rattle.layout.specs.Spans.{total_of};
 ghost use Rattle.axis_lists.specs.Held.{same_list};
-ghost use Rattle.checks.specs.Checks.{total_fits, nested_refusal, same_count, windows_fit};
+ghost use Rattle.checks.specs.Checks.{total_fits, nested_refusal, same_count, windows_fit, first_of, offset_fits};
 ghost use Rattle.replay.specs.Replays.{compiled_replay};
 ghost use Rattle.scatter_checks.specs.Refusals.{scatter_from, numbers_refusal, sizes_refusal, lists_refusal, count_at_most, axes_refusal, compile_refusal};
 ghost use Rattle.scatter_checks.specs.Examine.{Listed, Walkable, walks_of, Examines};
 ghost use Rattle.layout.specs.declared.Refusal.TheVariants as F;
 
-use layout::{Refusal, RAW_FUSED_RANK_LIMIT};
+use layout::{RAW_FUSED_RANK_LIMIT, Refusal};
 use replay::CompiledReplay;
 
 // What compile answers; where that is Done, the walks from batch to batch and from cell to cell of a window.
@@ -38,39 +38,52 @@ pub fn unexamined(answer: Result<(), Refusal>) -> Examined
 }
 
 // 3 for the products and the destination's span.
-fn check_numbers(index: &[u64], updates: &[u64], extents: &[u64], strides: &[i64]) -> Result<(), Refusal>
+fn check_numbers(
+    index: &[u64],
+    updates: &[u64],
+    extents: &[u64],
+    strides: &[i64],
+) -> Result<(), Refusal>
     requires { length strides.now ≡ length extents.now }
     ensures { result ≡ numbers_refusal index.now updates.now extents.now strides.now }
 {
-    let a = checks::check_total(extents);
-    let b = checks::check_total(index);
-    let c = checks::check_total(updates);
-    let d = checks::check_span(extents, strides);
-    checks::or_else(a, checks::or_else(b, checks::or_else(c, d)))
+    checks::check_total(extents)?;
+    checks::check_total(index)?;
+    checks::check_total(updates)?;
+    checks::check_span(extents, strides)
 }
 
 // 1 and 2, then 3 for products and span: what is asked before 4.
-fn check_sizes(ie: &[u64], is: &[i64], ue: &[u64], us: &[i64], de: &[u64], ds: &[i64]) -> Result<(), Refusal>
+#[tactic(auto, unfolding(crate::specs::Refusals::sizes_refusal))]
+fn check_sizes(
+    ie: &[u64],
+    is: &[i64],
+    ue: &[u64],
+    us: &[i64],
+    de: &[u64],
+    ds: &[i64],
+) -> Result<(), Refusal>
     ensures { result ≡ sizes_refusal ie.now is.now ue.now us.now de.now ds.now }
 {
-    let lengths = checks::check_layouts(ie.len(), is.len(), ue.len(), us.len(), de.len(), ds.len());
-    if !layout::is_done(lengths) {
-        return lengths;
-    }
+    checks::check_layouts(ie.len(), is.len(), ue.len(), us.len(), de.len(), ds.len())?;
     check_numbers(ie, ue, de, ds)
 }
 
 // 6 for the inserted axes, the scatter map and the vector axis, then 5 for the component count.
-fn check_lists(index: &[u64], dest: &[u64], inserted: &[u64], map: &[u64], vector: u64) -> Result<(), Refusal>
+fn check_lists(
+    index: &[u64],
+    dest: &[u64],
+    inserted: &[u64],
+    map: &[u64],
+    vector: u64,
+) -> Result<(), Refusal>
     ensures { result ≡ lists_refusal index.now dest.now inserted.now map.now vector }
 {
     let rank = dest.len() as u64;
-    let components = checks::component_count(index, vector);
-    let a = layout::validate_unique_axes(inserted, rank);
-    let b = layout::validate_unique_axes(map, rank);
-    let c = checks::check_vector_axis(vector, index.len());
-    let d = checks::check_same_count(components, map.len() as u64);
-    checks::or_else(a, checks::or_else(b, checks::or_else(c, d)))
+    layout::validate_unique_axes(inserted, rank)?;
+    layout::validate_unique_axes(map, rank)?;
+    checks::check_vector_axis(vector, index.len())?;
+    checks::check_same_count(checks::component_count(index, vector), map.len() as u64)
 }
 
 // 5 where a count is above another.
@@ -84,25 +97,16 @@ fn check_at_most(a: u64, b: u64) -> Result<(), Refusal>
     }
 }
 
-// a less b, at least 0.
-fn less(a: u64, b: u64) -> u64
-    ensures { result ≡ a - b }
-{
-    if b <= a { a - b } else { 0 }
-}
-
 // 5 for the counts of window axes, against kept axes, and of batch axes, then 6 for the window axes.
 fn check_counts(updates: &[u64], window: &[u64], kept: usize, batch: usize) -> Result<(), Refusal>
     ensures { result ≡ or_else (same_count (length window.now) kept) (or_else (count_at_most (length window.now) (length updates.now)) (or_else (same_count (length updates.now - length window.now) batch) (unique_axes (length updates.now) [] window.now))) }
 {
     let count = window.len() as u64;
     let rank = updates.len() as u64;
-    let others = less(rank, count);
-    let a = checks::check_same_count(count, kept as u64);
-    let b = check_at_most(count, rank);
-    let c = checks::check_same_count(others, batch as u64);
-    let d = layout::validate_unique_axes(window, rank);
-    checks::or_else(a, checks::or_else(b, checks::or_else(c, d)))
+    checks::check_same_count(count, kept as u64)?;
+    check_at_most(count, rank)?;
+    checks::check_same_count(rank - count, batch as u64)?;
+    layout::validate_unique_axes(window, rank)
 }
 
 // 7 where the batch extents of the updates are not those of the index view.
@@ -137,10 +141,9 @@ fn check_axes(
     requires { Listed (scatter_from index_extents.now index_strides.now updates_extents.now updates_strides.now dest_extents.now dest_strides.now window.now inserted.now map.now vector) kept.now batch.now starts.now }
     ensures { result ≡ axes_refusal (scatter_from index_extents.now index_strides.now updates_extents.now updates_strides.now dest_extents.now dest_strides.now window.now inserted.now map.now vector) }
 {
-    let a = check_lists(index_extents, dest_extents, inserted, map, vector);
-    let b = check_counts(updates_extents, window, kept.len(), starts.len());
-    let c = check_batch(updates_extents, batch, index_extents, starts);
-    checks::or_else(a, checks::or_else(b, c))
+    check_lists(index_extents, dest_extents, inserted, map, vector)?;
+    check_counts(updates_extents, window, kept.len(), starts.len())?;
+    check_batch(updates_extents, batch, index_extents, starts)
 }
 
 // The extents on the axes, in the axes' order.
@@ -148,13 +151,7 @@ pub fn picked_extents(axes: &[u64], list: &[u64]) -> [u64; RAW_FUSED_RANK_LIMIT]
     requires { length axes.now ≤ rank_limit }
     ensures { result ≡ padded rank_limit 0 (pick 0 axes.now list.now) }
 {
-    let mut out = [0u64; RAW_FUSED_RANK_LIMIT];
-    let mut i: usize = 0;
-    while i < axes.len() {
-        out[i] = axis_lists::entry_at(list, axes[i]);
-        i += 1;
-    }
-    out
+    axis_lists::pick(axes, list, 0).entries
 }
 
 // n windows (at most the rank limit): on each kept axis the extent of the update axis that stands with it, and 1 on every other.
@@ -169,14 +166,10 @@ pub fn spread_windows(
 {
     let m = layout::axis_count(n) as u64;
     let mut out = [1u64; RAW_FUSED_RANK_LIMIT];
-    let mut i = kept.len();
-    while i > 0 {
-        i -= 1;
+    for i in (0..kept.len()).rev() {
         let place = kept[i];
-        let size = axis_lists::entry_at(updates, window[i]);
         if place < m {
-            let k = place as usize;
-            out[k] = size;
+            out[place as usize] = axis_lists::entry_at(updates, window[i]);
         }
     }
     out
@@ -188,8 +181,7 @@ fn check_windows(dest: &[u64], kept: &[u64], window: &[u64], updates: &[u64]) ->
     ensures { result ≡ windows_fit 0 dest.now (spread 1 (length dest.now) kept.now (pick 0 window.now updates.now)) }
 {
     let sizes = spread_windows(dest.len(), kept, window, updates);
-    let n = dest.len();
-    checks::check_windows(&sizes[0..n], dest)
+    checks::check_windows(&sizes[..dest.len()], dest)
 }
 
 // 3 where the product of the extents on the axes does not fit.
@@ -197,9 +189,8 @@ fn check_product(axes: &[u64], list: &[u64]) -> Result<(), Refusal>
     requires { length axes.now ≤ rank_limit }
     ensures { result ≡ total_fits (total_of (pick 0 axes.now list.now)) }
 {
-    let sizes = picked_extents(axes, list);
-    let n = axes.len();
-    checks::check_total(&sizes[0..n])
+    let sizes = axis_lists::pick(axes, list, 0);
+    checks::check_total(sizes.as_slice())
 }
 
 // The walk over the extents on the axes: the source's strides on some axes of its own, the destination's on others.
@@ -218,6 +209,29 @@ fn walk_along(
     let source_steps = components::strides_on(from, source);
     let dest_steps = components::strides_on(to, dest);
     replay::compile_window_replay(shape, source_steps, dest_steps, axes.len())
+}
+
+// 6 for the windows, 3 for the products, what the two walks answered, and 3 for the component offsets.
+fn check_walks(
+    dest: &[u64],
+    updates: &[u64],
+    kept: &[u64],
+    window: &[u64],
+    batch: &[u64],
+    batches: Result<(), Refusal>,
+    cells: Result<(), Refusal>,
+    stride: i64,
+    components: u64,
+) -> Result<(), Refusal>
+    requires { (length window.now ≡ length kept.now) × (length dest.now ≤ rank_limit) × (length window.now ≤ rank_limit) × (length batch.now ≤ rank_limit) }
+    ensures { result ≡ or_else (windows_fit 0 dest.now (spread 1 (length dest.now) kept.now (pick 0 window.now updates.now))) (or_else (total_fits (total_of (pick 0 batch.now updates.now))) (or_else (total_fits (total_of (pick 0 window.now updates.now))) (or_else batches (or_else cells (first_of (offset_fits stride) components 0))))) }
+{
+    check_windows(dest, kept, window, updates)?;
+    check_product(batch, updates)?;
+    check_product(window, updates)?;
+    batches?;
+    cells?;
+    components::check_components(stride, components)
 }
 
 // Windows, products, both walks and the component offsets. From batch to batch the index view's starts are the source and the
@@ -240,9 +254,6 @@ fn examine_walks(
     requires { Walkable (scatter_from index_extents.now index_strides.now updates_extents.now updates_strides.now dest_extents.now dest_strides.now window.now inserted.now map.now vector) kept.now batch.now starts.now }
     ensures { result ≡ walks_of (scatter_from index_extents.now index_strides.now updates_extents.now updates_strides.now dest_extents.now dest_strides.now window.now inserted.now map.now vector) }
 {
-    let a = check_windows(dest_extents, kept, window, updates_extents);
-    let b = check_product(batch, updates_extents);
-    let c = check_product(window, updates_extents);
     let batches = walk_along(
         batch,
         updates_extents,
@@ -259,12 +270,17 @@ fn examine_walks(
         kept,
         dest_strides,
     );
-    let d = batches.answer;
-    let e = cells.answer;
-    let stride = axis_lists::stride_at(index_strides, vector);
-    let f = components::check_components(stride, map.len() as u64);
-    let walks = checks::or_else(d, checks::or_else(e, f));
-    let answer = checks::or_else(a, checks::or_else(b, checks::or_else(c, walks)));
+    let answer = check_walks(
+        dest_extents,
+        updates_extents,
+        kept,
+        window,
+        batch,
+        batches.answer,
+        cells.answer,
+        axis_lists::stride_at(index_strides, vector),
+        map.len() as u64,
+    );
     Examined {
         answer,
         batch: batches,
@@ -307,9 +323,8 @@ fn examine_axes(
         batch,
         starts,
     );
-    let answer = checks::or_else(four, axes);
-    if !layout::is_done(answer) {
-        return unexamined(answer);
+    if let Err(refusal) = four.and(axes) {
+        return unexamined(Err(refusal));
     }
     examine_walks(
         index_extents,
@@ -345,16 +360,9 @@ pub fn examine_from(
     requires { is_done (sizes_refusal index_extents.now index_strides.now updates_extents.now updates_strides.now dest_extents.now dest_strides.now) ≡ true }
     ensures { Examines result four (scatter_from index_extents.now index_strides.now updates_extents.now updates_strides.now dest_extents.now dest_strides.now update_window_dims.now inserted_window_dims.now scatter_dims_to_operand_dims.now index_vector_dim) }
 {
-    let one = [index_vector_dim];
-    let others = axis_lists::other_axes(dest_extents.len(), inserted_window_dims);
-    let apart = axis_lists::other_axes(updates_extents.len(), update_window_dims);
-    let rest = axis_lists::other_axes(index_extents.len(), &one);
-    let kept = others.entries;
-    let batch = apart.entries;
-    let starts = rest.entries;
-    let n = others.count;
-    let m = apart.count;
-    let k = rest.count;
+    let kept = axis_lists::other_axes(dest_extents.len(), inserted_window_dims);
+    let batch = axis_lists::other_axes(updates_extents.len(), update_window_dims);
+    let starts = axis_lists::other_axes(index_extents.len(), &[index_vector_dim]);
     examine_axes(
         index_extents,
         index_strides,
@@ -367,9 +375,9 @@ pub fn examine_from(
         scatter_dims_to_operand_dims,
         index_vector_dim,
         four,
-        &kept[0..n],
-        &batch[0..m],
-        &starts[0..k],
+        kept.as_slice(),
+        batch.as_slice(),
+        starts.as_slice(),
     )
 }
 
@@ -396,8 +404,8 @@ pub fn examine(
         dest_extents,
         dest_strides,
     );
-    if !layout::is_done(sizes) {
-        return unexamined(sizes);
+    if let Err(refusal) = sizes {
+        return unexamined(Err(refusal));
     }
     let four = checks::check_nested(dest_extents, dest_strides);
     examine_from(
@@ -438,8 +446,8 @@ pub fn examine_again(
         dest_extents,
         dest_strides,
     );
-    if !layout::is_done(sizes) {
-        return unexamined(sizes);
+    if let Err(refusal) = sizes {
+        return unexamined(Err(refusal));
     }
     examine_from(
         index_extents,
