@@ -9,7 +9,7 @@ ghost use Rattle.job.specs.Format.{kind_byte, element_byte, listed_kind, listed_
 ghost use Rattle.job.specs.Jobs.{held_list, view_of, entries_of, no_job, rank_stored, list_at_most, views_refusal, lists_refusal, stored_sizes, job_refusal, made_job, job_from};
 
 use job_bytes::{LIST_LIMIT, STORED_RANK_LIMIT};
-use layout::{Refusal, Layout, RAW_FUSED_RANK_LIMIT, View};
+use layout::{Layout, RAW_FUSED_RANK_LIMIT, Refusal, View};
 
 #[derive(Clone, Copy, Debug, PartialEq, Eq)]
 pub enum Kind {
@@ -211,14 +211,12 @@ fn check_views(
     let first = views.first.layout.rank;
     let second = views.second.layout.rank;
     let third = views.third.layout.rank;
-    let a = layout::check_stride_length(first, first_strides);
-    let b = layout::check_stride_length(second, second_strides);
-    let c = layout::check_stride_length(third, third_strides);
-    let d = check_rank(first);
-    let e = check_rank(second);
-    let f = check_rank(third);
-    let ranks = checks::or_else(d, checks::or_else(e, f));
-    checks::or_else(a, checks::or_else(b, checks::or_else(c, ranks)))
+    layout::check_stride_length(first, first_strides)?;
+    layout::check_stride_length(second, second_strides)?;
+    layout::check_stride_length(third, third_strides)?;
+    check_rank(first)?;
+    check_rank(second)?;
+    check_rank(third)
 }
 
 // 5 for a list that is too long.
@@ -247,11 +245,10 @@ fn stored_sizes(kind: Kind, sizes: List16) -> List16
 fn check_lists(kind: Kind, spec: Spec) -> Result<(), Refusal>
     ensures { result ≡ lists_refusal spec.window_dims.count spec.unit_dims.count spec.start_map.count (stored_sizes kind spec.slice_sizes).count }
 {
-    let a = check_list(spec.window_dims.count);
-    let b = check_list(spec.unit_dims.count);
-    let c = check_list(spec.start_map.count);
-    let d = check_list(stored_sizes(kind, spec.slice_sizes).count);
-    checks::or_else(a, checks::or_else(b, checks::or_else(c, d)))
+    check_list(spec.window_dims.count)?;
+    check_list(spec.unit_dims.count)?;
+    check_list(spec.start_map.count)?;
+    check_list(stored_sizes(kind, spec.slice_sizes).count)
 }
 
 // 2 and 5 of a job by value, whoever made it.
@@ -262,20 +259,21 @@ pub fn job_refusal(job: Job) -> Result<(), Refusal>
     let first = views.first.layout.rank;
     let second = views.second.layout.rank;
     let third = views.third.layout.rank;
-    let a = check_views(views, first, second, third);
-    let b = check_lists(job.kind, job.spec);
-    checks::or_else(a, b)
+    check_views(views, first, second, third)?;
+    check_lists(job.kind, job.spec)
 }
 
 // The job, if the answer is that it is done.
 fn made_job(answer: Result<(), Refusal>, job: Job) -> MadeJob
     ensures { result ≡ made_job answer job }
 {
-    if layout::is_done(answer) {
+    if answer.is_ok() {
         MadeJob { answer, job }
     } else {
-        let none = no_job();
-        MadeJob { answer, job: none }
+        MadeJob {
+            answer,
+            job: no_job(),
+        }
     }
 }
 
@@ -288,9 +286,9 @@ fn checked_job(
 ) -> MadeJob
     ensures { result ≡ made_job (or_else (views_refusal job.views.first.layout.rank first_strides job.views.second.layout.rank second_strides job.views.third.layout.rank third_strides) (lists_refusal job.spec.window_dims.count job.spec.unit_dims.count job.spec.start_map.count (stored_sizes job.kind job.spec.slice_sizes).count)) job }
 {
-    let a = check_views(job.views, first_strides, second_strides, third_strides);
-    let b = check_lists(job.kind, job.spec);
-    made_job(checks::or_else(a, b), job)
+    let views = check_views(job.views, first_strides, second_strides, third_strides);
+    let lists = check_lists(job.kind, job.spec);
+    made_job(views.and(lists), job)
 }
 
 // A gather from its parts.
