@@ -55,15 +55,6 @@ pub record Sized (oe : List ℕ) (os : List ℤ) (ie : List ℕ) (is : List ℤ)
   pub scatter : is_done (scatters.sizes_refusal ie is ue us de ds) ≡ true
 
 module _ (oe : List ℕ) (os : List ℤ) (ie : List ℕ) (is : List ℤ) (ue : List ℕ) (us : List ℤ) (de : List ℕ) (ds : List ℤ) where
-  -- what 1 tells of the operand and of the destination
-  pub lengths-pass : is_done (layouts_refusal (length oe) (length os) (length ie) (length is) (length ue) (length us) (length de) (length ds)) ≡ true → (length os ≡ length oe) × (length ds ≡ length de)
-  lengths-pass e =
-      let a = or-done (stride_length (length oe) (length os)) _ e in
-      let b = or-done (stride_length (length ie) (length is)) _ a.1 in
-      let c = or-done (stride_length (length ue) (length us)) _ b.1 in
-      let d = or-done (stride_length (length de) (length ds)) _ c.1 in
-      (same_length (length oe) (length os) a.0, same_length (length de) (length ds) d.0)
-
   -- the checks of the scatter without its operand, from the last on
   abbrev ranks-2 : Answer
   ranks-2 = or_else (rank_at_most (length ue)) (rank_at_most (length de))

@@ -26,19 +26,14 @@ fn check_layouts(
 ) -> Result<(), Refusal>
     ensures { result ≡ layouts_refusal oe os ie is ue us de ds }
 {
-    let a = layout::check_stride_length(oe, os);
-    let b = layout::check_stride_length(ie, is);
-    let c = layout::check_stride_length(ue, us);
-    let d = layout::check_stride_length(de, ds);
-    let e = layout::check_rank(oe);
-    let f = layout::check_rank(ie);
-    let g = layout::check_rank(ue);
-    let h = layout::check_rank(de);
-    let ranks = checks::or_else(e, checks::or_else(f, checks::or_else(g, h)));
-    checks::or_else(
-        a,
-        checks::or_else(b, checks::or_else(c, checks::or_else(d, ranks))),
-    )
+    layout::check_stride_length(oe, os)?;
+    layout::check_stride_length(ie, is)?;
+    layout::check_stride_length(ue, us)?;
+    layout::check_stride_length(de, ds)?;
+    layout::check_rank(oe)?;
+    layout::check_rank(ie)?;
+    layout::check_rank(ue)?;
+    layout::check_rank(de)
 }
 
 // 7 where the destination's extents are not the operand's.
@@ -52,43 +47,7 @@ fn check_extents(dest: &[u64], operand: &[u64]) -> Result<(), Refusal>
     }
 }
 
-// 3 for the products.
-fn check_products(operand: &[u64], index: &[u64], updates: &[u64]) -> Result<(), Refusal>
-    ensures { result ≡ or_else (total_fits (total_of operand.now)) (or_else (total_fits (total_of index.now)) (total_fits (total_of updates.now))) }
-{
-    let a = checks::check_total(operand);
-    if !layout::is_done(a) {
-        return a;
-    }
-    let b = checks::check_total(index);
-    if !layout::is_done(b) {
-        return b;
-    }
-    checks::check_total(updates)
-}
-
-// 7, then 3 for the destination's span and for the operand's.
-fn check_spans(
-    operand: &[u64],
-    operand_strides: &[i64],
-    dest: &[u64],
-    dest_strides: &[i64],
-) -> Result<(), Refusal>
-    requires { (length operand_strides.now ≡ length operand.now) × (length dest_strides.now ≡ length dest.now) }
-    ensures { result ≡ or_else (extents_refusal dest.now operand.now) (or_else (span_fits (spanned dest.now dest_strides.now)) (span_fits (spanned operand.now operand_strides.now))) }
-{
-    let a = check_extents(dest, operand);
-    if !layout::is_done(a) {
-        return a;
-    }
-    let b = checks::check_span(dest, dest_strides);
-    if !layout::is_done(b) {
-        return b;
-    }
-    checks::check_span(operand, operand_strides)
-}
-
-// 3 for the products, 7, then 3 for the spans.
+// 3 for the products, 7, then 3 for the destination's span and for the operand's.
 fn check_numbers(
     operand: &[u64],
     operand_strides: &[i64],
@@ -100,12 +59,16 @@ fn check_numbers(
     requires { (length operand_strides.now ≡ length operand.now) × (length dest_strides.now ≡ length dest.now) }
     ensures { result ≡ numbers_refusal operand.now operand_strides.now index.now updates.now dest.now dest_strides.now }
 {
-    let products = check_products(operand, index, updates);
-    let spans = check_spans(operand, operand_strides, dest, dest_strides);
-    checks::or_else(products, spans)
+    checks::check_total(operand)?;
+    checks::check_total(index)?;
+    checks::check_total(updates)?;
+    check_extents(dest, operand)?;
+    checks::check_span(dest, dest_strides)?;
+    checks::check_span(operand, operand_strides)
 }
 
 // What is asked before 4.
+#[tactic(auto, unfolding(crate::specs::Refusals::sizes_refusal))]
 pub fn check_sizes(
     oe: &[u64],
     os: &[i64],
@@ -118,7 +81,7 @@ pub fn check_sizes(
 ) -> Result<(), Refusal>
     ensures { result ≡ sizes_refusal oe.now os.now ie.now is.now ue.now us.now de.now ds.now }
 {
-    let lengths = check_layouts(
+    check_layouts(
         oe.len(),
         os.len(),
         ie.len(),
@@ -127,10 +90,7 @@ pub fn check_sizes(
         us.len(),
         de.len(),
         ds.len(),
-    );
-    if !layout::is_done(lengths) {
-        return lengths;
-    }
+    )?;
     check_numbers(oe, os, ie, ue, de, ds)
 }
 
@@ -161,8 +121,8 @@ pub fn examine(
         dest_extents,
         dest_strides,
     );
-    if !layout::is_done(sizes) {
-        return scatter_checks::unexamined(sizes);
+    if let Err(refusal) = sizes {
+        return scatter_checks::unexamined(Err(refusal));
     }
     let four = checks::check_nested(dest_extents, dest_strides);
     scatter_checks::examine_from(
