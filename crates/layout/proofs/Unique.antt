@@ -1,25 +1,42 @@
 -- The search of an axis list for its first axis that is too large or repeated. Assumes nothing.
 use Rattle.std.specs.Prelude.{Ok, Err}
-use Rattle.layout.specs.Answers.{Answer}
-use mathlib.Core.Path.{◌≡◌, refl, ap}
-use Rattle.std.specs.List.{list_any}
+use mathlib.Core.Path.{◌≡◌, refl}
 use mathlib.Core.Bool.{Bool, true, false, ◌||◌}
-use mathlib.Core.List.{List, [], ◌∷◌}
-use Prim.Native.Nat.{ℕ, ◌+◌, ◌≤◌, ◌<◌}
+use mathlib.Core.List.{List, [], ◌∷◌, ◌++◌}
+use Prim.Native.Nat.{ℕ, ◌+◌, ◌-◌, ◌≤◌, ◌<◌}
 use native.Mathlib.Numerals.{add-one}
+use native.Mathlib.Omega.{arith}
 use lib.ListN.{length, take, drop, get_or, drop_of_length-le}
-use lib.Seq.{take-suc, drop-cons}
+use lib.Seq.{take-suc, drop-cons, take-add}
 use lib.Dec.{eqb}
-use borrow.Author.Tests.{le-leb, lt-leb}
+use borrow.Author.Tests.{eq-eqb, ne_eqb, le-leb, lt-leb}
 use Rattle.indexing.specs.Coordinates.{has}
+use Rattle.layout.specs.Answers.{Answer}
 use Rattle.layout.specs.Lists.{unique_axes}
 use Rattle.layout.specs.declared.Refusal.TheVariants as F
 
--- `contains`, as std answers it
-pub any-has : (xs : List ℕ) (a : ℕ) → list_any (λ y. eqb y a) xs ≡ has xs a
+or-true : (b : Bool) → (b || true) ≡ true
+or-true true = refl
+or-true false = refl
+
+or_assoc : (p q r : Bool) → (p || (q || r)) ≡ ((p || q) || r)
+or_assoc true q r = refl
+or_assoc false q r = refl
+
+has_join : (a : ℕ) (xs ys : List ℕ) → has (xs ++ ys) a ≡ (has xs a || has ys a)
 unfolding has
-any-has [] a = refl
-any-has (x ∷ xs) a = ap (λ (b : Bool). eqb x a || b) (any-has xs a)
+has_join a [] ys = refl
+has_join a (x ∷ xs) ys = rw (has_join a xs ys) (or_assoc (eqb x a) (has xs a) (has ys a))
+
+-- the entry j is another
+pub has-none : (a : ℕ) (xs : List ℕ) (j : ℕ) → j < length xs → has (take j xs) a ≡ false → (get_or xs j 0 ≡ a → ⊥) → has (take (j + 1) xs) a ≡ false
+has-none a xs j h m n = rw (add-one j, take-suc xs j 0 h, has_join, m) (unfold has in rw (ne_eqb (get_or xs j 0) a n))
+
+-- the entry j is before i
+pub has-found : (a : ℕ) (xs : List ℕ) (i j : ℕ) → j < i → j < length xs → get_or xs j 0 ≡ a → has (take i xs) a ≡ true
+has-found a xs i j h l e =
+    let f : i ≡ (j + 1) + (i - (j + 1)) = omega arith in
+    rw (f, take-add (j + 1) (i - (j + 1)) xs, has_join, add-one j, take-suc xs j 0 l, has_join) (unfold has in rw (eq-eqb (get_or xs j 0) a e, or-true))
 
 module _ (rank : ℕ) (xs : List ℕ) (i : ℕ) where
   -- the rest of the search at i

@@ -340,12 +340,20 @@ pub fn checked_strided_offset(
 pub fn validate_unique_axes(axes: &[u64], rank: u64) -> Result<(), Refusal>
     ensures { result ≡ unique_axes rank [] axes.now }
 {
-    for (i, &axis) in axes.iter().enumerate() {
-        if rank <= axis || axes[..i].contains(&axis) {
-            return Err(Refusal::InvalidAxis(axis, rank));
+    'search: {
+        for i in 0..axes.len() {
+            let axis = axes[i];
+            if axis >= rank {
+                break 'search Err(Refusal::InvalidAxis(axis, rank));
+            }
+            for j in 0..i {
+                if axes[j] == axis {
+                    break 'search Err(Refusal::InvalidAxis(axis, rank));
+                }
+            }
         }
+        Ok(())
     }
-    Ok(())
 }
 
 // A start that is moved inside the extent, and whether that is another start.
