@@ -9,7 +9,7 @@ ghost use Rattle.layout.specs.Reach.{buffer_bounds};
 ghost use Rattle.equality.specs.Same.{same_by};
 ghost use Rattle.calls.specs.Calls.{plan_refusal};
 
-use layout::{Refusal, Layout, Reach};
+use layout::{Layout, Reach, Refusal};
 
 // Whether two views have the same extents and the same strides.
 pub fn same_view(
@@ -52,8 +52,7 @@ pub fn check_plan(fits: bool) -> Result<(), Refusal>
 pub fn check_bounds(first: Reach, second: Reach, third: Reach) -> Result<(), Refusal>
     ensures { result ≡ or_else (buffer_bounds 1 first) (or_else (buffer_bounds 2 second) (buffer_bounds 3 third)) }
 {
-    let a = layout::check_reach(first, 1);
-    let b = layout::check_reach(second, 2);
-    let c = layout::check_reach(third, 3);
-    checks::or_else(a, checks::or_else(b, c))
+    layout::check_reach(first, 1)?;
+    layout::check_reach(second, 2)?;
+    layout::check_reach(third, 3)
 }

@@ -1,5 +1,6 @@
 -- The first of several answers that refuses, one after another. Assumes nothing.
 use Rattle.std.specs.Prelude.{Ok, Err}
+use Rattle.std.specs.Result.{result_and}
 use mathlib.Core.Path.{◌≡◌, refl, sym, ap, ◌∙◌}
 use mathlib.Core.Bool.{Bool, true, false}
 use Prim.Native.Nat.{ℕ, suc, ◌+◌, ◌-◌, ◌<◌, ◌≤◌}
@@ -34,3 +35,15 @@ module _ (f : ℕ → Answer) (n i : ℕ) where
 
 pub first-starts : (f : ℕ → Answer) (n : ℕ) → first_of f (n - 0) 0 ≡ first_of f n 0
 first-starts f n = let e : n - 0 ≡ n = omega arith in ap (λ (k : ℕ). first_of f k 0) e
+
+-- five answers joined by `and`
+five : (a b c d e : Answer) → result_and (result_and (result_and (result_and a b) c) d) e ≡ or_else a (or_else b (or_else c (or_else d e)))
+five (Err _) b c d e = refl
+five (Ok _) (Err _) c d e = refl
+five (Ok _) (Ok _) (Err _) d e = refl
+five (Ok _) (Ok _) (Ok _) (Err _) e = refl
+five (Ok _) (Ok _) (Ok _) (Ok _) e = refl
+
+pub five-in-turn : {b c d e w x y z p q r s : Answer} (a : Answer) → b ≡ w → c ≡ x → d ≡ y → e ≡ z
+    → p ≡ result_and a b → q ≡ result_and p c → r ≡ result_and q d → s ≡ result_and r e → s ≡ or_else a (or_else w (or_else x (or_else y z)))
+five-in-turn {w = w} {x = x} {y = y} {z = z} a f g h i j k l m = rw (m, l, k, j, f, g, h, i) (five a w x y z)

@@ -9,7 +9,7 @@ use lib.IntN.{ℤ, pos}
 use Rattle.indexing.specs.Coordinates.{others}
 use Rattle.layout.specs.Answers.{is_done}
 use Rattle.layout.specs.Layouts.{rank_limit, padded, stride_length, rank_at_most}
-use Rattle.axis_lists.specs.Held.{held_numbers, Numbers}
+use Rattle.axis_lists.specs.Held.{held_numbers, Numbers, numbers_of}
 use Rattle.axis_lists.proofs.Filling.{read_back, length-others}
 use Rattle.checks.specs.Checks.{layouts_refusal}
 use Rattle.checks.proofs.Made.{or-done, same_length, few-axes}
@@ -27,10 +27,10 @@ held-part r l e h =
     let z : length l - 0 ≡ length l = omega arith in
     ap (λ (m : Numbers). take (m.count - 0) (drop 0 m.entries)) e ∙ ap (λ (k : ℕ). take k (padded rank_limit 0 l)) z ∙ read_back 0 l h
 
-pub steps-part : (n : ℕ) (xs l : List ℤ) → xs ≡ padded rank_limit (pos 0) l → length l ≡ n → n ≤ rank_limit → take (n - 0) (drop 0 xs) ≡ l
+pub steps-part : (n : ℕ) (xs l : List ℤ) → xs ≡ padded rank_limit (pos 0) l → length l ≡ n → n ≤ rank_limit → take n xs ≡ l
 steps-part n xs l e k h =
-    let z : n - 0 ≡ length l = omega arith in
-    ap (λ (ys : List ℤ). take (n - 0) ys) e ∙ ap (λ (m : ℕ). take m (padded rank_limit (pos 0) l)) z ∙ read_back (pos 0) l (omega arith)
+    let z : n ≡ length l = omega arith in
+    ap (λ (ys : List ℤ). take n ys) e ∙ ap (λ (m : ℕ). take m (padded rank_limit (pos 0) l)) z ∙ read_back (pos 0) l (omega arith)
 
 -- it lies inside the array
 pub held_fits : (r : Numbers) (l : List ℕ) → r ≡ held_numbers l → length l ≤ rank_limit → r.count ≤ length r.entries
@@ -44,6 +44,10 @@ few-others n axes h = omega (arith, length-others 0 n axes)
 
 pub others-held : (r : Numbers) (n : ℕ) (axes : List ℕ) → r ≡ held_numbers (others (min n rank_limit) axes) → n ≤ rank_limit → r ≡ held_numbers (others n axes)
 others-held r n axes e h = let q : min n rank_limit ≡ n = omega arith in e ∙ ap (λ (k : ℕ). held_numbers (others k axes)) q
+
+-- the axes that a list has not, lent
+pub lent-others : (r : Numbers) (n : ℕ) (axes : List ℕ) → r ≡ held_numbers (others (min n rank_limit) axes) → n ≤ rank_limit → numbers_of r ≡ others n axes
+lent-others r n axes e h = ap numbers_of (others-held r n axes e h) ∙ read_back 0 (others n axes) (few-others n axes h)
 
 -- ---- lists that neither 1 nor 2 refuses
 pub record Lengths (oe os ie is de ds : ℕ) : Type 0 where

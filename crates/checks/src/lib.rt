@@ -26,14 +26,12 @@ pub fn check_layouts(
 ) -> Result<(), Refusal>
     ensures { result ≡ layouts_refusal first_extents first_strides second_extents second_strides third_extents third_strides }
 {
-    let a = layout::check_stride_length(first_extents, first_strides);
-    let b = layout::check_stride_length(second_extents, second_strides);
-    let c = layout::check_stride_length(third_extents, third_strides);
-    let d = layout::check_rank(first_extents);
-    let e = layout::check_rank(second_extents);
-    let f = layout::check_rank(third_extents);
-    let ranks = or_else(d, or_else(e, f));
-    or_else(a, or_else(b, or_else(c, ranks)))
+    layout::check_stride_length(first_extents, first_strides)?;
+    layout::check_stride_length(second_extents, second_strides)?;
+    layout::check_stride_length(third_extents, third_strides)?;
+    layout::check_rank(first_extents)?;
+    layout::check_rank(second_extents)?;
+    layout::check_rank(third_extents)
 }
 
 // 3 where the product of the extents does not fit.

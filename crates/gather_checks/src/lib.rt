@@ -9,7 +9,7 @@ ghost use Rattle.checks.specs.Checks.{number_fits, nested_refusal, components_of
 ghost use Rattle.gather_checks.specs.Refusals.{gather_from, numbers_refusal, sizes_refusal, compile_refusal, lists_refusal, resets_refusal, collapsed_one, axis_resets};
 ghost use Rattle.gather_checks.specs.Given.{counts_by, shape_by, shape_answer, Made, examined_by, Examines};
 
-use layout::{Refusal, RAW_FUSED_RANK_LIMIT};
+use layout::{RAW_FUSED_RANK_LIMIT, Refusal};
 
 // What compile answers; where that is Done, what each axis of the destination adds to the place in the operand and in the index view,
 // and zeros past the last.
@@ -32,28 +32,38 @@ fn unexamined(answer: Result<(), Refusal>) -> Examined
 }
 
 // 3 for products and spans.
-fn check_numbers(oe: &[u64], os: &[i64], ie: &[u64], is: &[i64], de: &[u64], ds: &[i64]) -> Result<(), Refusal>
+fn check_numbers(
+    oe: &[u64],
+    os: &[i64],
+    ie: &[u64],
+    is: &[i64],
+    de: &[u64],
+    ds: &[i64],
+) -> Result<(), Refusal>
     requires { (length os.now ≡ length oe.now) × (length is.now ≡ length ie.now) × (length ds.now ≡ length de.now) }
     ensures { result ≡ numbers_refusal oe.now os.now ie.now is.now de.now ds.now }
 {
-    let a = checks::check_total(oe);
-    let b = checks::check_total(ie);
-    let c = checks::check_total(de);
-    let d = checks::check_span(oe, os);
-    let e = checks::check_span(ie, is);
-    let f = checks::check_span(de, ds);
-    let spans = checks::or_else(d, checks::or_else(e, f));
-    checks::or_else(a, checks::or_else(b, checks::or_else(c, spans)))
+    checks::check_total(oe)?;
+    checks::check_total(ie)?;
+    checks::check_total(de)?;
+    checks::check_span(oe, os)?;
+    checks::check_span(ie, is)?;
+    checks::check_span(de, ds)
 }
 
 // 1 and 2, then 3 for products and spans: what is asked before 4.
-fn check_sizes(oe: &[u64], os: &[i64], ie: &[u64], is: &[i64], de: &[u64], ds: &[i64]) -> Result<(), Refusal>
+#[tactic(auto, unfolding(crate::specs::Refusals::sizes_refusal))]
+fn check_sizes(
+    oe: &[u64],
+    os: &[i64],
+    ie: &[u64],
+    is: &[i64],
+    de: &[u64],
+    ds: &[i64],
+) -> Result<(), Refusal>
     ensures { result ≡ sizes_refusal oe.now os.now ie.now is.now de.now ds.now }
 {
-    let lengths = checks::check_layouts(oe.len(), os.len(), ie.len(), is.len(), de.len(), ds.len());
-    if !layout::is_done(lengths) {
-        return lengths;
-    }
+    checks::check_layouts(oe.len(), os.len(), ie.len(), is.len(), de.len(), ds.len())?;
     check_numbers(oe, os, ie, is, de, ds)
 }
 
@@ -61,13 +71,10 @@ fn check_sizes(oe: &[u64], os: &[i64], ie: &[u64], is: &[i64], de: &[u64], ds: &
 fn check_collapsed(rank: u64, sizes: &[u64], collapsed: &[u64]) -> Result<(), Refusal>
     ensures { result ≡ collapsed_one rank sizes.now collapsed.now }
 {
-    let mut i: usize = 0;
-    while i < collapsed.len() {
-        let axis = collapsed[i];
+    for &axis in collapsed {
         if axis_lists::entry_at(sizes, axis) != 1 {
             return Err(Refusal::InvalidAxis(axis, rank));
         }
-        i += 1;
     }
     Ok(())
 }
@@ -75,8 +82,7 @@ fn check_collapsed(rank: u64, sizes: &[u64], collapsed: &[u64]) -> Result<(), Re
 fn check_reset(extent: u64, step: i64) -> Result<(), Refusal>
     ensures { result ≡ number_fits (reset_of extent step) }
 {
-    let reset = layout::checked_replay_reset(extent, step);
-    match reset {
+    match layout::checked_replay_reset(extent, step) {
         Some(_) => Ok(()),
         None => Err(Refusal::OffsetOverflow),
     }
@@ -85,10 +91,9 @@ fn check_reset(extent: u64, step: i64) -> Result<(), Refusal>
 fn check_axis(extent: u64, dest: i64, window: i64, batch: i64) -> Result<(), Refusal>
     ensures { result ≡ axis_resets extent dest window batch }
 {
-    let a = check_reset(extent, dest);
-    let b = check_reset(extent, window);
-    let c = check_reset(extent, batch);
-    checks::or_else(a, checks::or_else(b, c))
+    check_reset(extent, dest)?;
+    check_reset(extent, window)?;
+    check_reset(extent, batch)
 }
 
 // 3 for the resets of each axis.
@@ -96,13 +101,8 @@ fn check_resets(de: &[u64], ds: &[i64], window: &[i64], batch: &[i64]) -> Result
     requires { (length ds.now ≡ length de.now) × (length window.now ≡ length de.now) × (length batch.now ≡ length de.now) }
     ensures { result ≡ resets_refusal de.now ds.now window.now batch.now }
 {
-    let mut i: usize = 0;
-    while i < de.len() {
-        let answer = check_axis(de[i], ds[i], window[i], batch[i]);
-        if !layout::is_done(answer) {
-            return answer;
-        }
-        i += 1;
+    for i in 0..de.len() {
+        check_axis(de[i], ds[i], window[i], batch[i])?;
     }
     Ok(())
 }
@@ -119,14 +119,12 @@ fn check_lists(
     ensures { result ≡ lists_refusal oe.now ie.now collapsed.now map.now vector sizes.now }
 {
     let rank = oe.len() as u64;
-    let a = checks::check_same_count(sizes.len() as u64, rank);
-    let b = layout::validate_unique_axes(collapsed, rank);
-    let c = layout::validate_unique_axes(map, rank);
-    let d = checks::check_vector_axis(vector, ie.len());
-    let e = checks::check_windows(sizes, oe);
-    let f = check_collapsed(rank, sizes, collapsed);
-    let axes = checks::or_else(d, checks::or_else(e, f));
-    checks::or_else(a, checks::or_else(b, checks::or_else(c, axes)))
+    checks::check_same_count(sizes.len() as u64, rank)?;
+    layout::validate_unique_axes(collapsed, rank)?;
+    layout::validate_unique_axes(map, rank)?;
+    checks::check_vector_axis(vector, ie.len())?;
+    checks::check_windows(sizes, oe)?;
+    check_collapsed(rank, sizes, collapsed)
 }
 
 // The counts of components and of window axes, and the window axes, given how many operand axes are shown and how many batch axes
@@ -144,10 +142,9 @@ fn check_counts(
 {
     let components = checks::component_count(ie, vector);
     let rank = starts as u64 + offset_dims.len() as u64;
-    let a = checks::check_same_count(components, map.len() as u64);
-    let b = checks::check_same_count(offset_dims.len() as u64, shown as u64);
-    let c = layout::validate_unique_axes(offset_dims, rank);
-    checks::or_else(a, checks::or_else(b, c))
+    checks::check_same_count(components, map.len() as u64)?;
+    checks::check_same_count(offset_dims.len() as u64, shown as u64)?;
+    layout::validate_unique_axes(offset_dims, rank)
 }
 
 // Whether the destination has the window extents on `offset_dims` and the batch extents on its other axes: the window's sizes on the
@@ -214,13 +211,12 @@ fn examine_axes(
 {
     let window = axis_lists::spread_picked(de.len(), offset_dims, shown, os);
     let batch = axis_lists::spread_picked(de.len(), others, starts, is);
-    let b = check_lists(oe, ie, collapsed, map, vector, sizes);
-    let c = check_counts(ie, shown.len(), starts.len(), offset_dims, map, vector);
-    let d = check_shape(shown, starts, others, ie, de, offset_dims, sizes);
+    let lists = check_lists(oe, ie, collapsed, map, vector, sizes);
+    let counts = check_counts(ie, shown.len(), starts.len(), offset_dims, map, vector);
+    let shape = check_shape(shown, starts, others, ie, de, offset_dims, sizes);
     let n = de.len();
-    let e = check_resets(de, ds, &window[0..n], &batch[0..n]);
-    let shape = checks::or_else(c, checks::or_else(d, e));
-    let answer = checks::or_else(four, checks::or_else(b, shape));
+    let resets = check_resets(de, ds, &window[..n], &batch[..n]);
+    let answer = four.and(lists).and(counts).and(shape).and(resets);
     Examined {
         answer,
         window,
@@ -246,16 +242,9 @@ fn examine_from(
     requires { is_done (sizes_refusal operand_extents.now operand_strides.now index_extents.now index_strides.now dest_extents.now dest_strides.now) ≡ true }
     ensures { Examines result four (gather_from operand_extents.now operand_strides.now index_extents.now index_strides.now dest_extents.now dest_strides.now offset_dims.now collapsed_slice_dims.now start_index_map.now index_vector_dim slice_sizes.now) }
 {
-    let vectors = [index_vector_dim];
     let kept = axis_lists::other_axes(operand_extents.len(), collapsed_slice_dims);
-    let batch = axis_lists::other_axes(index_extents.len(), &vectors);
+    let batch = axis_lists::other_axes(index_extents.len(), &[index_vector_dim]);
     let rest = axis_lists::other_axes(dest_extents.len(), offset_dims);
-    let shown = kept.entries;
-    let starts = batch.entries;
-    let others = rest.entries;
-    let k = kept.count;
-    let m = batch.count;
-    let n = rest.count;
     examine_axes(
         operand_extents,
         operand_strides,
@@ -269,9 +258,9 @@ fn examine_from(
         index_vector_dim,
         slice_sizes,
         four,
-        &shown[0..k],
-        &starts[0..m],
-        &others[0..n],
+        kept.as_slice(),
+        batch.as_slice(),
+        rest.as_slice(),
     )
 }
 
@@ -300,7 +289,7 @@ pub fn examine(
         dest_extents,
         dest_strides,
     );
-    if !layout::is_done(sizes) {
+    if sizes.is_err() {
         return unexamined(sizes);
     }
     let four = checks::check_nested(dest_extents, dest_strides);
@@ -344,7 +333,7 @@ pub fn examine_again(
         dest_extents,
         dest_strides,
     );
-    if !layout::is_done(sizes) {
+    if sizes.is_err() {
         return unexamined(sizes);
     }
     examine_from(

@@ -202,7 +202,3 @@ module _ (ts stride by : ℤ) (ft : SFits w64 ts) (fs : SFits w64 stride) (fy : 
     pub take-row-end : y ≡ in_order (cell_at z rule src (clamped_at starts (line (read t) (pos 1)) (read base) (pos 1) limit) (line (read other) (pos 1))) n x
         → y ≡ in_order (cell_at z rule src (clamped_at starts (line t ts) base stride limit) (line other by)) n x
     take-row-end h = h ∙ same-places z rule src _ _ _ _ n (λ i _. clamps starts t base limit i f g) (λ i _. plain other i k) x
-
-    pub put-row-end : y ≡ in_order (cell_at z rule src (line (read other) (pos 1)) (clamped_at starts (line (read t) (pos 1)) (read base) (pos 1) limit)) n x
-        → y ≡ in_order (cell_at z rule src (line other by) (clamped_at starts (line t ts) base stride limit)) n x
-    put-row-end h = h ∙ same-places z rule src _ _ _ _ n (λ i _. plain other i k) (λ i _. clamps starts t base limit i f g) x

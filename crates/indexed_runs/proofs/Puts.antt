@@ -39,11 +39,6 @@ module _ (starts offsets strides : List ℤ) (limits : List ℕ) (count : ℕ) (
       pub place_is : pos (nat_abs (read r)) ≡ moved_at starts offsets strides limits count (λ _. read d) (line (read t) (read ts)) i
       place_is = place-index.is ∙ e ∙ ap (λ (v : ℤ). read d +ℤ start_at starts offsets strides limits v count) q.read_is
 
--- what is asked, by locals read back, and what is told
-pub puts-ask : (starts offsets strides : List ℤ) (limits : List ℕ) (count : ℕ) (s t d ss ts : ℤ) (n sn dn : ℕ) → SFits w64 s → SFits w64 t → SFits w64 d → SFits w64 ss → SFits w64 ts
-    → Putting starts offsets strides limits count s t d ss ts n sn dn → Putting starts offsets strides limits count (read s) (read t) (read d) (read ss) (read ts) n sn dn
-puts-ask starts offsets strides limits count s t d ss ts n sn dn fs ft fd fss fts w = simp (back fs, back ft, back fd, back fss, back fts) w
-
 pub puts-end : {A : Type 0} (z : A) (rule : A → A → A) (src : List A) (starts offsets strides : List ℤ) (limits : List ℕ) (count : ℕ) (s t d ss ts : ℤ) (i n : ℕ) (x y : List A)
     → SFits w64 s → SFits w64 t → SFits w64 d → SFits w64 ss → SFits w64 ts → i ≡ n
     → y ≡ in_order (cell_at z rule src (line (read s) (read ss)) (moved_at starts offsets strides limits count (λ _. read d) (line (read t) (read ts)))) i x

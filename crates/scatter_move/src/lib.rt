@@ -34,7 +34,7 @@ pub struct ScatterNumbers {
     pub limits: [u64; RAW_FUSED_RANK_LIMIT],
 }
 
-// What a call of a scatter has decided: its answer; where that is Done, also where the destination's cells lie, the numbers, the axes
+// What a call of a scatter has decided: its answer; where that is Ok, also where the destination's cells lie, the numbers, the axes
 // of the walk from batch to batch, and where the starts, the updates and the destination begin.
 #[derive(Clone, Copy)]
 pub struct PreparedScatter {
