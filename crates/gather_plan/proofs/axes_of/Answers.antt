@@ -1,9 +1,8 @@
-use Rattle.std.proofs.Common.{rules, arith, ◌≡◌, length, sym, ap, ◌∙◌, pos, ℤ, List, get_or, w64}
+use Rattle.std.proofs.Common.{rules, arith, ◌≡◌, length, sym, ◌∙◌, w64}
 use mir.Val.{SFits}
 use Rattle.integer.specs.Z.{back}
 use Rattle.indexing.specs.Coordinates.{tabulate}
 use Rattle.indexing.proofs.Updates.{length-tabulate, get_d_tabulate}
-use Rattle.layout.specs.Layouts.{rank_limit}
 use Rattle.axis_lists.specs.Held.{numbers_of, steps_of}
 use Rattle.axis_lists.proofs.Filling.{next-written, written-all}
 use Rattle.gather_plan.specs.Plan.{no_axis}
@@ -19,7 +18,7 @@ loop-i-preserved c =
     let fw : SFits w64 c.stride_at-w.result = search rules in
     let fb : SFits w64 c.stride_at-b.result = search rules in
     let at : c.axis_with.result ≡ f c.loop-i.i =
-        rw (c.axis_with.ensures, back fs, back fw, back fb, c.stride_at-b.ensures, c.stride_at-w.ensures, c.stride_at-s.ensures, c.as_slice.ensures, c.as_slice-in-loop-i.ensures, c.role_at-role.ensures) in
+    rw (c.axis_with.ensures, back fs, back fw, back fb, c.stride_at-b.ensures, c.stride_at-w.ensures, c.stride_at-s.ensures, c.as_slice.ensures, c.as_slice-in-loop-i.ensures, c.role_at-role.ensures) in
     next-written no_axis (tabulate n f) c.loop-i.out c.loop-i.i c.axis_with.result (omega (arith, length-tabulate n f, c.loop-i-test.true, c.requires)) c.loop-i.invariant (at ∙ sym (get_d_tabulate n f c.loop-i.i no_axis c.loop-i-test.true))
 
 pub returns : goal.returns
