@@ -1,6 +1,8 @@
 -- Whether two views have the same layout, as a test and as equations. Assumes nothing.
 use mathlib.Core.Path.{◌≡◌}
-use mathlib.Core.Bool.{true}
+use mathlib.Core.Bool.{Bool, true}
+use mathlib.Core.List.{List}
+use Prim.Native.Nat.{ℕ}
 use lib.Dec.{eqb}
 use Rattle.integer.specs.Defs.{eq_z}
 use Rattle.integer.specs.Tests.{and-true, and_both}

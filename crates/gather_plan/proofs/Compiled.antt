@@ -1,26 +1,17 @@
 -- What compile gives: the plan of an accepted gather, which holds that gather. Assumes nothing.
-use mathlib.Core.Path.{◌≡◌, sym, ap, ◌∙◌}
-use mathlib.Core.Bool.{Bool, true, false, cond}
+use mathlib.Core.Path.{◌≡◌, ap}
+use mathlib.Core.Bool.{Bool, true, cond}
 use Rattle.indexing.specs.Gather.{Gather}
 use Rattle.layout.specs.Answers.{is_done, Answer}
 use Rattle.axis_lists.proofs.Filling.{read_back}
 use Rattle.gather_checks.specs.Refusals.{gather_from}
-use Rattle.gather_plan.specs.Plan.{plan_of, refused_plan, refused_gather, compiled_by, held_gather}
-use Rattle.gather_plan.specs.declared.GatherPlan.{GatherPlan}
+use Rattle.gather_plan.specs.Plan.{plan_of, refused_plan, compiled_by, held_gather}
 use Rattle.gather_plan.proofs.Accepted.{Accepted, operand-extents-read, operand-strides-read, index-extents-read, index-strides-read, dest-extents-read, dest-strides-read}
 
 -- what compile gives for a gather that it does not refuse
 pub compiled-plan : (x : Answer) (g : Gather) → is_done x ≡ true → (compiled_by x g).plan ≡ plan_of g
 unfolding compiled_by
 compiled-plan x g e = ap (λ (b : Bool). cond b (plan_of g) refused_plan) e
-
-pub compiled-done : (x : Answer) (g : Gather) (plan : GatherPlan) → is_done x ≡ true → plan ≡ plan_of g → record { answer = x; plan = plan } ≡ compiled_by x g
-unfolding compiled_by
-compiled-done x g plan e f = λ i. record { answer = x; plan = (f ∙ sym (compiled-plan x g e)) i }
-
-pub compiled-refused : (x : Answer) (g : Gather) → is_done x ≡ false → refused_gather x ≡ compiled_by x g
-unfolding compiled_by
-compiled-refused x g e = λ i. record { answer = x; plan = sym (ap (λ (b : Bool). cond b (plan_of g) refused_plan) e) i }
 
 -- a gather without the places where its views begin
 abbrev pub unplaced : Gather → Gather

@@ -5,9 +5,9 @@ use mathlib.Core.List.{List, [], ◌∷◌}
 use Prim.Native.Nat.{ℕ, ◌+◌, ◌<◌, ◌≤◌, min}
 use native.Mathlib.Numerals.{add-one}
 use native.Mathlib.Omega.{arith}
-use borrow.Author.Tests.{eqb-true, eqb-false, eq-eqb, ne_eqb}
-use lib.Dec.{eqb}
-use lib.ListN.{length, take, drop, get_or, set, drop_of_length-le}
+use borrow.Author.Tests.{eqb-true, eqb-false, eq-eqb, ne_eqb, ltb-true, ltb-false}
+use lib.Dec.{eqb, ltb}
+use lib.ListN.{length, drop, get_or, set, drop_of_length-le}
 use lib.Seq.{drop-cons, get_or-set_same, get_or-set_other}
 use lib.IntN.{ℤ, pos}
 use Rattle.indexing.specs.Coordinates.{rank, pick, spread, has}
@@ -15,34 +15,33 @@ use Rattle.indexing.specs.Start.{without}
 use Rattle.indexing.specs.Gather.{Gather, shown_dims, batch_dims}
 use Rattle.indexing.specs.Axes.{get_or-same, length-spread, spread_none, others-not, others-has}
 use Rattle.indexing.specs.Steps.{window_steps, batch_steps}
-use Rattle.layout.proofs.Turns.{drop-take, drop-done}
 use Rattle.gather_plan.specs.declared.Role.{Role}
 use Rattle.gather_plan.specs.declared.Role.TheVariants.{Batch, Window}
 use Rattle.gather_plan.specs.Plan.{role_of}
 
 -- what is left to look at from entry i on
-abbrev pub left : List ℕ → List ℕ → ℕ → ℕ → ℕ → Role
-left offsets shown n a i = role_of (drop i offsets) (drop i (take n shown)) a
+abbrev pub left : List ℕ → List ℕ → ℕ → ℕ → Role
+left offsets shown a i = role_of (drop i offsets) (drop i shown) a
 
-module _ (offsets shown : List ℕ) (n a i : ℕ) where
-  pub role-here : i < length offsets → i < min n (length shown) → get_or offsets i 0 ≡ a → Window (get_or shown i 0) ≡ left offsets shown n a i
+module _ (offsets shown : List ℕ) (a i : ℕ) where
+  pub role-here : i < length offsets → i < length shown → get_or offsets i 0 ≡ a → Window (get_or shown i 0) ≡ left offsets shown a i
   unfolding role_of
-  role-here h k e = rw (drop-take n shown i 0 k, drop-cons offsets i 0 h, eq-eqb (get_or offsets i 0) a e)
+  role-here h k e = rw (drop-cons shown i 0 k, drop-cons offsets i 0 h, eq-eqb (get_or offsets i 0) a e)
 
-  pub role-next : i < length offsets → i < min n (length shown) → (get_or offsets i 0 ≡ a → ⊥) → left offsets shown n a (i + 1) ≡ left offsets shown n a i
+  pub role-next : i < length offsets → i < length shown → (get_or offsets i 0 ≡ a → ⊥) → left offsets shown a (i + 1) ≡ left offsets shown a i
   unfolding role_of
-  role-next h k e = rw (drop-take n shown i 0 k, drop-cons offsets i 0 h, ne_eqb (get_or offsets i 0) a e, add-one i)
+  role-next h k e = rw (drop-cons shown i 0 k, drop-cons offsets i 0 h, ne_eqb (get_or offsets i 0) a e, add-one i)
 
-  pub role-short : length offsets ≤ i → Batch ≡ left offsets shown n a i
-  unfolding role_of
-  role-short h = rw (drop_of_length-le offsets h)
-
-  pub role-past : min n (length shown) ≤ i → Batch ≡ left offsets shown n a i
-  role-past h = rw (drop-done n shown i h) (none (drop i offsets))
+  pub role-done : min (length offsets) (length shown) ≤ i → Batch ≡ left offsets shown a i
+  role-done h = go (ltb i (length offsets)) refl
     where
       none : (xs : List ℕ) → Batch ≡ role_of xs [] a
       none [] = unfold role_of in refl
       none (x ∷ xs) = unfold role_of in refl
+
+      go : (t : Bool) → ltb i (length offsets) ≡ t → Batch ≡ left offsets shown a i
+      go true e = let f : drop i shown ≡ [] = drop_of_length-le shown (omega (arith, ltb-true i (length offsets) e)) in rw f (none (drop i offsets))
+      go false e = let f : drop i offsets ≡ [] = drop_of_length-le offsets (ltb-false i (length offsets) e) in rw f (unfold role_of in refl)
 
 -- ---- what a role says of the steps that are spread over the axes
 shows : (offsets shown : List ℕ) (a k : ℕ) → role_of offsets shown a ≡ Window k → has offsets a ≡ true

@@ -13,7 +13,7 @@ ghost use Rattle.gather_plan.specs.Made.{axes_from};
 
 use axis_lists::{Numbers, Steps};
 use gather_checks::Examined;
-use layout::{Refusal, Layout, RAW_FUSED_RANK_LIMIT};
+use layout::{Layout, RAW_FUSED_RANK_LIMIT, Refusal};
 
 // A destination axis is a batch axis, or a window axis that shows one operand axis.
 #[derive(Clone, Copy, PartialEq, Eq)]
@@ -77,8 +77,7 @@ fn refused(answer: Result<(), Refusal>) -> CompiledGather
     let extents = [1u64; RAW_FUSED_RANK_LIMIT];
     let strides = [0i64; RAW_FUSED_RANK_LIMIT];
     let zeros = [0u64; RAW_FUSED_RANK_LIMIT];
-    let none = no_axis();
-    let axes = [none; RAW_FUSED_RANK_LIMIT];
+    let axes = [no_axis(); RAW_FUSED_RANK_LIMIT];
     let l = Layout {
         rank: 0,
         extents,
@@ -115,36 +114,25 @@ fn refused(answer: Result<(), Refusal>) -> CompiledGather
 fn reset_value(extent: u64, step: i64) -> i64
     ensures { result ≡ reset_or extent step }
 {
-    let reset = layout::checked_replay_reset(extent, step);
-    match reset {
-        Some(z) => z,
-        None => 0,
-    }
+    layout::checked_replay_reset(extent, step).unwrap_or(0)
 }
 
 // The product of the extents, and 0 where it does not fit.
 fn total_value(extents: &[u64]) -> u64
     ensures { result ≡ total_or extents.now }
 {
-    let total = spans::checked_total_len(extents);
-    match total {
-        Some(n) => n,
-        None => 0,
-    }
+    spans::checked_total_len(extents).unwrap_or(0)
 }
 
 // The operand axis that stands in `shown` where the axis stands in `offset_dims`; none of a batch axis.
 fn role_at(offset_dims: &[u64], shown: Numbers, axis: u64) -> Role
     ensures { result ≡ role_of offset_dims.now (numbers_of shown) axis }
 {
-    let entries = shown.entries;
-    let n = layout::axis_count(shown.count);
-    let mut i: usize = 0;
-    while i < offset_dims.len() && i < n {
+    let entries = shown.as_slice();
+    for i in 0..offset_dims.len().min(entries.len()) {
         if offset_dims[i] == axis {
             return Role::Window(entries[i]);
         }
-        i += 1;
     }
     Role::Batch
 }
@@ -152,17 +140,14 @@ fn role_at(offset_dims: &[u64], shown: Numbers, axis: u64) -> Role
 fn axis_with(role: Role, extent: u64, dest: i64, window: i64, batch: i64) -> GatherReplayAxis
     ensures { result ≡ axis_with reset_or role extent dest window batch }
 {
-    let a = reset_value(extent, dest);
-    let b = reset_value(extent, window);
-    let c = reset_value(extent, batch);
     GatherReplayAxis {
         role,
         dest_step: dest,
-        dest_reset: a,
+        dest_reset: reset_value(extent, dest),
         window_step: window,
-        window_reset: b,
+        window_reset: reset_value(extent, window),
         index_batch_step: batch,
-        index_batch_reset: c,
+        index_batch_reset: reset_value(extent, batch),
     }
 }
 
@@ -178,8 +163,7 @@ fn axes_of(
     requires { length extents.now ≤ rank_limit }
     ensures { result ≡ axes_from extents.now dest.now (steps_of window) (steps_of batch) offset_dims.now (numbers_of shown) }
 {
-    let none = no_axis();
-    let mut out = [none; RAW_FUSED_RANK_LIMIT];
+    let mut out = [no_axis(); RAW_FUSED_RANK_LIMIT];
     for i in 0..extents.len() {
         let k = i as u64;
         let role = role_at(offset_dims, shown, k);
@@ -210,12 +194,9 @@ fn plan_of(
     requires { Found (gather_from operand_extents.now operand_strides.now index_extents.now index_strides.now dest_extents.now dest_strides.now offset_dims.now collapsed_slice_dims.now start_index_map.now index_vector_dim slice_sizes.now) window batch }
     ensures { result ≡ plan_of (gather_from operand_extents.now operand_strides.now index_extents.now index_strides.now dest_extents.now dest_strides.now offset_dims.now collapsed_slice_dims.now start_index_map.now index_vector_dim slice_sizes.now) }
 {
-    let first = layout::make_layout(operand_extents, operand_strides);
-    let second = layout::make_layout(index_extents, index_strides);
-    let third = layout::make_layout(dest_extents, dest_strides);
-    let operand = first.layout;
-    let index = second.layout;
-    let dest = third.layout;
+    let operand = layout::make_layout(operand_extents, operand_strides).layout;
+    let index = layout::make_layout(index_extents, index_strides).layout;
+    let dest = layout::make_layout(dest_extents, dest_strides).layout;
     let shown = axis_lists::other_axes(operand_extents.len(), collapsed_slice_dims);
     let n = dest_extents.len();
     let moves = Steps {
@@ -259,6 +240,7 @@ fn plan_of(
 }
 
 // What compile gives, by what its checks found.
+#[tactic(auto, unfolding(crate::specs::Plan::compiled_by))]
 fn compiled_from(
     found: Examined,
     operand_extents: &[u64],
@@ -277,11 +259,9 @@ fn compiled_from(
     ensures { result ≡ compiled_by found.answer (gather_from operand_extents.now operand_strides.now index_extents.now index_strides.now dest_extents.now dest_strides.now offset_dims.now collapsed_slice_dims.now start_index_map.now index_vector_dim slice_sizes.now) }
 {
     let answer = found.answer;
-    if !layout::is_done(answer) {
+    if answer.is_err() {
         return refused(answer);
     }
-    let window = found.window;
-    let batch = found.batch;
     let plan = plan_of(
         operand_extents,
         operand_strides,
@@ -294,8 +274,8 @@ fn compiled_from(
         start_index_map,
         index_vector_dim,
         slice_sizes,
-        window,
-        batch,
+        found.window,
+        found.batch,
     );
     CompiledGather { answer, plan }
 }

@@ -21,4 +21,4 @@ returns c =
     let g : Gather = gather_from a.operand_extents.now a.operand_strides.now a.index_extents.now a.index_strides.now a.dest_extents.now a.dest_strides.now a.offset_dims.now a.collapsed_slice_dims.now a.start_index_map.now a.index_vector_dim a.slice_sizes.now in
     let f : SFits w64 c.stride_at-stride.result = search rules in
     let o = c.index_component_offsets-offsets.ensures ∙ ap (λ (z : ℤ). held_steps (tabulate (min (length a.start_index_map.now) rank_limit) (offset_or z))) (back f ∙ c.stride_at-stride.ensures) in
-    plan-is g a.window a.batch c.requires _ _ _ _ _ _ _ _ _ _ _ _ c.make_layout-first.ensures c.make_layout-second.ensures c.make_layout-third.ensures c.other_axes-shown.ensures c.axes_of-axes.ensures o c.strides_on-entries.ensures c.from_slice.ensures c.from_slice-2.ensures c.from_slice-3.ensures c.from_slice-4.ensures c.total_value-total.ensures
+    plan-is g a.window a.batch c.requires _ _ _ _ _ _ _ _ _ _ _ _ c.make_layout.ensures c.make_layout-2.ensures c.make_layout-3.ensures c.other_axes-shown.ensures c.axes_of-axes.ensures o c.strides_on-entries.ensures c.from_slice.ensures c.from_slice-2.ensures c.from_slice-3.ensures c.from_slice-4.ensures c.total_value-total.ensures
