@@ -149,7 +149,7 @@ pub fn clamped(x: i64, limit: i64) -> StartPlace
 {
     StartPlace {
         at: x.min(limit).max(0),
-        moved: x < 0 || limit < x,
+        moved: limit < x || x < 0,
     }
 }
 
