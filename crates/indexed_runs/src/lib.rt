@@ -142,14 +142,15 @@ pub fn take_cells<E: Element>(
     }
 }
 
-// x moved inside 0 .. limit, and whether that is another.
+// x moved inside 0 .. limit, and whether that is another. The upper end is tested first, for the compiler's sake, which then makes one
+// comparison of the two tests.
 pub fn clamped(x: i64, limit: i64) -> StartPlace
     requires { pos 0 ≤ℤ limit }
     ensures { (result.at ≡ clamp x (nat_abs limit) 0) × (result.moved ≡ moved x (nat_abs limit) 0) }
 {
     StartPlace {
         at: x.min(limit).max(0),
-        moved: x < 0 || limit < x,
+        moved: limit < x || x < 0,
     }
 }
 

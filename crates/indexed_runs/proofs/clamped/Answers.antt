@@ -37,28 +37,29 @@ outside x limit n = moved-by x limit 0 (pos (min (up x) (limit - 0))) true (sym 
 inside : (x : ℤ) (limit : ℕ) → pos (min (up x) (limit - 0)) ≡ x → false ≡ moved x limit 0
 inside x limit e = moved-by x limit 0 (pos (min (up x) (limit - 0))) false (sym (clamp-is x limit 0)) (λ h. absurd (true≢false (sym h))) (λ _. e)
 
-below : (x limit : ℤ) → lt_z x (pos 0) ≡ true → true ≡ moved x (nat_abs limit) 0
-below x limit e = outside x (nat_abs limit) (λ q. let u = ap up q in let d = ap dn q in omega (arith, only x, lt_z-true x (pos 0) e))
+above : (x limit : ℤ) → pos 0 ≤ℤ limit → lt_z limit x ≡ true → true ≡ moved x (nat_abs limit) 0
+above x limit h e =
+    outside x (nat_abs limit) (λ q. let u = ap up q in let d = ap dn q in omega (arith, zfacts, h, only x, only limit, abs_is limit, lt_z-true limit x e))
 
-above : (x limit : ℤ) → pos 0 ≤ℤ limit → lt_z x (pos 0) ≡ false → lt_z limit x ≡ moved x (nat_abs limit) 0
-above x limit h n = go (lt_z limit x) refl
+not-above : (x limit : ℤ) → pos 0 ≤ℤ limit → lt_z limit x ≡ false → lt_z x (pos 0) ≡ moved x (nat_abs limit) 0
+not-above x limit h n = go (lt_z x (pos 0)) refl
   where
-    go : (b : Bool) → lt_z limit x ≡ b → b ≡ moved x (nat_abs limit) 0
-    go true e = outside x (nat_abs limit) (λ q. let u = ap up q in let d = ap dn q in omega (arith, zfacts, h, only x, only limit, abs_is limit, lt_z-true limit x e))
-    go false e = inside x (nat_abs limit) (≡-from (pos (min (up x) (nat_abs limit - 0))) x (omega (arith, zfacts, h, only x, only limit, abs_is limit, lt_z-false limit x e, lt_z-false x (pos 0) n)))
+    go : (b : Bool) → lt_z x (pos 0) ≡ b → b ≡ moved x (nat_abs limit) 0
+    go true e = outside x (nat_abs limit) (λ q. let u = ap up q in let d = ap dn q in omega (arith, only x, lt_z-true x (pos 0) e))
+    go false e = inside x (nat_abs limit) (≡-from (pos (min (up x) (nat_abs limit - 0))) x (omega (arith, zfacts, h, only x, only limit, abs_is limit, lt_z-false limit x n, lt_z-false x (pos 0) e)))
 
-pub returns-then-x-lt0 : goal.returns-then-x-lt0
-returns-then-x-lt0 c =
+pub returns-then-limit-x : goal.returns-then-limit-x
+returns-then-limit-x c =
     let fm : FitsSigned w64 c.min.result = search rules in
     let fr : FitsSigned w64 c.max.result = search rules in (
       back fr ∙ cut c.args.x c.args.limit c.min.result c.max.result c.requires (c.min.ensures.value ∙ ap₂ int_min (back c.ranges.x) (back c.ranges.limit)) (c.max.ensures.value ∙ ap (λ (m : ℤ). int_max m (pos 0)) (back fm)),
-      c.if-x-lt0.true ∙ below c.args.x c.args.limit (ap (λ (x : ℤ). lt_z x (pos 0)) (sym (back c.ranges.x)) ∙ c.if-x-lt0.true),
+      c.if-limit-x.true ∙ above c.args.x c.args.limit c.requires (ap₂ lt_z (sym (back c.ranges.limit)) (sym (back c.ranges.x)) ∙ c.if-limit-x.true),
     )
 
-pub returns-else-x-lt0 : goal.returns-else-x-lt0
-returns-else-x-lt0 c =
+pub returns-else-limit-x : goal.returns-else-limit-x
+returns-else-limit-x c =
     let fm : FitsSigned w64 c.min.result = search rules in
     let fr : FitsSigned w64 c.max.result = search rules in (
       back fr ∙ cut c.args.x c.args.limit c.min.result c.max.result c.requires (c.min.ensures.value ∙ ap₂ int_min (back c.ranges.x) (back c.ranges.limit)) (c.max.ensures.value ∙ ap (λ (m : ℤ). int_max m (pos 0)) (back fm)),
-      ap₂ lt_z (back c.ranges.limit) (back c.ranges.x) ∙ above c.args.x c.args.limit c.requires (ap (λ (x : ℤ). lt_z x (pos 0)) (sym (back c.ranges.x)) ∙ c.if-x-lt0.false),
+      ap (λ (x : ℤ). lt_z x (pos 0)) (back c.ranges.x) ∙ not-above c.args.x c.args.limit c.requires (ap₂ lt_z (sym (back c.ranges.limit)) (sym (back c.ranges.x)) ∙ c.if-limit-x.false),
     )
