@@ -10,7 +10,7 @@ ghost use Rattle.gather_lists.specs.Lists.{ListedOn, ListedAt};
 
 use gather_move::{GatherNumbers, PreparedGather};
 use indexed_runs::Components;
-use layout::{Refusal, RAW_FUSED_RANK_LIMIT};
+use layout::{RAW_FUSED_RANK_LIMIT, Refusal};
 
 // The numbers that the cells of a gather are moved with, given the steps that compile's checks found.
 fn numbers_on(

@@ -6,7 +6,7 @@ ghost use Rattle.layout.specs.Answers.{or_else};
 ghost use Rattle.layout.specs.Reach.{buffer_bounds};
 ghost use Rattle.operand_calls.specs.Prepared.{copy_from};
 
-use layout::{Refusal, Layout, RAW_FUSED_RANK_LIMIT, Reach};
+use layout::{Layout, RAW_FUSED_RANK_LIMIT, Reach, Refusal};
 
 // What a call copies before its updates: the operand's layout, the destination's strides, and where the operand begins.
 #[derive(Clone, Copy)]
@@ -40,7 +40,12 @@ pub fn copy_from(
 }
 
 // 9 for the four views in turn, the operand's first.
-pub fn check_bounds(operand: Reach, index: Reach, updates: Reach, dest: Reach) -> Result<(), Refusal>
+pub fn check_bounds(
+    operand: Reach,
+    index: Reach,
+    updates: Reach,
+    dest: Reach,
+) -> Result<(), Refusal>
     ensures { result ≡ or_else (buffer_bounds 1 operand) (or_else (buffer_bounds 2 index) (or_else (buffer_bounds 3 updates) (buffer_bounds 4 dest))) }
 {
     let a = layout::check_reach(operand, 1);

@@ -10,7 +10,7 @@ ghost use Rattle.scatter_checks.specs.Refusals.{scatter_from};
 ghost use Rattle.operand_checks.specs.Refusals.{sizes_refusal};
 ghost use Rattle.operand_plan.specs.Plan.{compiled_operand, is_compiled};
 
-use layout::{Refusal, Layout, RAW_FUSED_RANK_LIMIT};
+use layout::{Layout, RAW_FUSED_RANK_LIMIT, Refusal};
 use scatter_plan::{CompiledScatter, ScatterPlan};
 
 // The operand's layout, and the plan of the scatter without it.

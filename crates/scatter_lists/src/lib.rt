@@ -11,7 +11,7 @@ ghost use Rattle.scatter_checks.specs.Examine.{Found};
 ghost use Rattle.scatter_move.specs.Prepared.{scatter_numbers};
 ghost use Rattle.scatter_lists.specs.Lists.{ListedOn, ListedAt, prepared_at};
 
-use layout::{Refusal, RAW_FUSED_RANK_LIMIT, Reach};
+use layout::{RAW_FUSED_RANK_LIMIT, Reach, Refusal};
 use replay::CompiledReplay;
 use scatter_move::{PreparedScatter, ScatterNumbers};
 

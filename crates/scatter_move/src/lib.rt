@@ -11,7 +11,7 @@ ghost use Rattle.scatter_move.specs.Batches.{BatchesFrom, after_batches, batches
 ghost use Rattle.scatter_move.specs.Prepared.{steps_at, Cells, Movable};
 
 use indexed_runs::Components;
-use layout::{Refusal, CallAnswer, RAW_FUSED_RANK_LIMIT, Reach};
+use layout::{CallAnswer, RAW_FUSED_RANK_LIMIT, Reach, Refusal};
 use replay::WindowReplayAxis;
 use rules::{Add, Ceiling, Combine, Element, Highest, Lowest, Replace, Rule, RuleF64};
 

@@ -12,7 +12,7 @@ ghost use Rattle.scatter_checks.specs.Examine.{Found};
 ghost use Rattle.scatter_plan.specs.Plan.{plan_of, refused_scatter, compiled_by, compiled_scatter, compiled_again};
 
 use axis_lists::{Numbers, Steps};
-use layout::{Refusal, Layout, RAW_FUSED_RANK_LIMIT};
+use layout::{Layout, RAW_FUSED_RANK_LIMIT, Refusal};
 use replay::{CompiledReplay, WindowReplay, WindowReplayAxis};
 use scatter_checks::Examined;
 

@@ -26,7 +26,7 @@ ghost use Rattle.strided.specs.Named.{rule_of, rule_f64_of, rules_i32, rules_f64
 ghost use Rattle.strided.specs.Stored.{element_listed, Stored, StoredAs};
 
 use job::{Element, MadeJob};
-use layout::{Refusal, CallAnswer};
+use layout::{CallAnswer, Refusal};
 use rules::{Rule, RuleF64};
 
 // Of these exports, as strided.h has it: it grows with every change of them. It is in the name below too, so that a program made

@@ -1,7 +1,6 @@
 use Rattle.std.proofs.Common.{◌≡◌, ◌&&◌, sym, ap, ◌∙◌}
 use Rattle.std.proofs.Math.Bool.{and_assoc}
 use Rattle.layout.specs.declared.Layout.{Layout}
-
 use Rattle.layout.specs.Answers.{is_done, Answer}
 use Rattle.layout.specs.Layouts.{layout_of, extents_of, strides_of}
 use Rattle.scatter_same.specs.Same as scatter-same
