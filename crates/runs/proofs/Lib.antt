@@ -1,3 +1,4 @@
 pub mod Turns
 pub mod Place
 pub mod Runs
+pub mod Blocks
