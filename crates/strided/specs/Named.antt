@@ -6,7 +6,7 @@ use Rattle.rules.specs.declared.Rule.TheVariants as R
 use Rattle.rules.specs.declared.RuleF64.{RuleF64}
 use Rattle.rules.specs.declared.RuleF64.TheVariants as F
 use Rattle.calls.specs.Calls.{ScatterCall}
-use Rattle.layout.specs.declared.Refusal.TheVariants as F
+use Rattle.layout.specs.declared.Refusal.TheVariants as A
 
 -- 1 Add, 2 Lowest, 3 Highest, 4 Replace; for f64 also 5 Ceiling, with the limit that is given beside
 abbrev pub rule_of : ℕ → Rule
@@ -24,7 +24,7 @@ rules_f64 = 5
 
 -- 18: the number is not listed
 abbrev pub rule_refusal : ℕ → ℕ → Answer
-rule_refusal most n = cond (leb 1 n && leb n most) (Ok tt) (Err (F.UnlistedRule n))
+rule_refusal most n = cond (leb 1 n && leb n most) (Ok tt) (Err (A.UnlistedRule n))
 
 -- a call that names its rule by a number: 18 comes before all other refusals
 abbrev pub named : {A : Type 0} → ℕ → ℕ → ScatterCall A → ScatterCall A
