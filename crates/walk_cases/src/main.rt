@@ -46,8 +46,8 @@ fn compile(rt: &impl Print, extents: &[u64], sources: &[i64], dests: &[i64]) -> 
     };
     print!(rt; "walk over {window}:")?;
     let made = window.compile();
-    if !layout::is_done(made.answer) {
-        return put_refused(rt, made.answer);
+    if let Err(refusal) = made.answer {
+        return put_refused(rt, refusal);
     }
     for axis in made.axes.iter().take(made.replay.rank) {
         put_axis(rt, axis)?;

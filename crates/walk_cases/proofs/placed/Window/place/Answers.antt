@@ -3,7 +3,6 @@ use Rattle.std.proofs.Common.{rules, arith, ◌≡◌, ◌∙◌, refl, sym, ap,
 use Rattle.integer.specs.Z.{back}
 use Rattle.layout.specs.Laws.{some-cells}
 use Rattle.layout.specs.Layouts.{rank_limit}
-use Rattle.layout.proofs.First.{done-is}
 use Rattle.replay.specs.declared.CompiledReplay.{CompiledReplay}
 use Rattle.walk.specs.Walks.{covers_of}
 use Rattle.walk.specs.Walking.{Ready, Walking, walking, spans-cover}
@@ -33,7 +32,7 @@ known c =
     let f4 : SFits w64 r.replay.spans.dest_high = search rules in
     let e1 : covers_of r.replay.spans.source_low r.replay.spans.source_high sb ≡ true = sym (c.covers.ensures ∙ ap₂ (λ (x y : ℤ). covers_of x y sb) (back f1) (back f2)) ∙ c.if-not-covers.false in
     let e2 : covers_of r.replay.spans.dest_low r.replay.spans.dest_high db ≡ true = sym (c.covers-else-not-covers.ensures ∙ ap₂ (λ (x y : ℤ). covers_of x y db) (back f3) (back f4)) ∙ c.if-not-covers-2.false in
-    let n : r.answer ≡ (Ok tt) = done-is r.answer (sym c.is_done.ensures ∙ c.if-not-is_done.false) in
+    let n : r.answer ≡ Ok tt = c.in_default.is in
     let z = sym c.has_zero.ensures ∙ c.if-has_zero.false in
     let t = spans-cover ds ss ts l0 l1 l2 r c.compile_window_replay-made.ensures n sb db e1 e2 in
     let q : Ready ds ss ts sb db = record { done = ap (λ (x : CompiledReplay). x.answer) (sym c.compile_window_replay-made.ensures) ∙ n; positive = some-cells ds z; source-reach = t.0; dest-reach = t.1 } in
