@@ -1,27 +1,18 @@
--- The loop over a plan's axes, which writes a number of each. Assumes nothing.
+-- A number of each of a plan's axes. Assumes nothing.
 use mathlib.Core.Path.{◌≡◌, sym, ◌∙◌}
 use mathlib.Core.List.{List}
-use Prim.Native.Nat.{ℕ, ◌+◌, ◌<◌}
+use Prim.Native.Nat.{ℕ, ◌<◌}
 use native.Mathlib.Omega.{arith}
-use lib.ListN.{length, get_or, set}
+use lib.ListN.{length, get_or}
+use lib.Seq.{ext_get_or}
 use lib.IntN.{ℤ, pos}
 use Rattle.indexing.specs.Coordinates.{tabulate}
 use Rattle.indexing.proofs.Updates.{length-tabulate, get_d_tabulate}
 use Rattle.layout.specs.Layouts.{rank_limit}
-use Rattle.axis_lists.proofs.Filling.{written, one_written, all-written}
-use Rattle.components.proofs.Padded.{full}
 use Rattle.gather_plan.specs.declared.GatherReplayAxis.{GatherReplayAxis}
 use Rattle.gather_plan.specs.Plan.{no_axis}
 
-module _ (axes : List GatherReplayAxis) (f : GatherReplayAxis → ℤ) (out : List ℤ) (i : ℕ) where
-  abbrev each : List ℤ
-  each = tabulate rank_limit (λ a. f (get_or axes a no_axis))
-
-  long : length each ≡ rank_limit
-  long = length-tabulate rank_limit (λ a. f (get_or axes a no_axis))
-
-  pub axis-written : (x : ℤ) → i < rank_limit → out ≡ written (pos 0) each i → x ≡ f (get_or axes i no_axis) → set out i x ≡ written (pos 0) each (i + 1)
-  axis-written x h e q = one_written (pos 0) each out i x (omega (arith, long)) (omega (arith, long)) e (q ∙ sym (get_d_tabulate rank_limit (λ a. f (get_or axes a no_axis)) i (pos 0) h))
-
-  pub axes-written : i ≡ rank_limit → out ≡ written (pos 0) each i → out ≡ each
-  axes-written h e = e ∙ all-written (pos 0) each i (omega (arith, long)) (omega (arith, long)) ∙ full (pos 0) each long
+pub axes-mapped : (axes : List GatherReplayAxis) (f : GatherReplayAxis → ℤ) (out : List ℤ) → length out ≡ rank_limit → ((i : ℕ) → i < rank_limit → get_or out i (pos 0) ≡ f (get_or axes i no_axis)) → out ≡ tabulate rank_limit (λ a. f (get_or axes a no_axis))
+axes-mapped axes f out k each =
+    let g : ℕ → ℤ = λ a. f (get_or axes a no_axis) in
+    ext_get_or (pos 0) out (tabulate rank_limit g) (k ∙ sym (length-tabulate rank_limit g)) (λ i h. each i (omega (arith, k)) ∙ sym (get_d_tabulate rank_limit g i (pos 0) (omega (arith, k))))

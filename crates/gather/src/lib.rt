@@ -53,19 +53,11 @@ fn axis_move(axis: GatherReplayAxis) -> AxisMove
 fn moves_of(axes: [GatherReplayAxis; RAW_FUSED_RANK_LIMIT]) -> Moves
     ensures { result ≡ moves_of axes }
 {
-    let mut window = [0i64; RAW_FUSED_RANK_LIMIT];
-    let mut batch = [0i64; RAW_FUSED_RANK_LIMIT];
-    let mut i: usize = 0;
-    while i < RAW_FUSED_RANK_LIMIT {
-        let axis = axes[i];
-        let moved = axis_move(axis);
-        let w = moved.window;
-        let b = moved.batch;
-        window[i] = w;
-        batch[i] = b;
-        i += 1;
+    let moves = axes.map(axis_move);
+    Moves {
+        window: moves.map(|moved| moved.window),
+        batch: moves.map(|moved| moved.batch),
     }
-    Moves { window, batch }
 }
 
 // The extents of the destination's axes, with 1 on those that a list by value names.

@@ -1,4 +1,5 @@
--- Axes by their extents and rows are those axes. Assumes nothing.
+-- A number or a row of each axis; and axes by their extents and rows are those axes. Assumes nothing.
+use Rattle.std.specs.Prelude.{map}
 use mathlib.Core.Path.{◌≡◌, sym, ◌∙◌}
 use mathlib.Core.List.{List, []}
 use Prim.Native.Nat.{ℕ, ◌<◌}
@@ -11,6 +12,11 @@ use Rattle.indexing.specs.Axes.{get_d_any}
 use Rattle.layout.specs.Layouts.{rank_limit}
 use Rattle.replay.specs.declared.WindowReplayAxis.{WindowReplayAxis}
 use Rattle.replay.specs.Replays.{the_axis, no_axis, extents, row_of, rows_of, axes_from}
+
+-- what an array's `map` gives
+pub mapped : {A B : Type 0} (f : A → B) (xs : List A) (ys : List B) (d : A) (e : B) → length xs ≡ rank_limit → length ys ≡ rank_limit → ((i : ℕ) → i < rank_limit → get_or ys i e ≡ f (get_or xs i d)) → ys ≡ map f xs
+mapped f xs ys d e l m h =
+    ext_get_or e ys (map f xs) (m ∙ sym (length-map xs f ∙ l)) (λ i k. h i (omega (arith, m)) ∙ sym (get_or-map f xs i d) ∙ get_d_any (map f xs) i (f d) e (omega (arith, l, m, length-map xs f)))
 
 -- axis i of these extents and rows
 abbrev pub axis_at : List ℕ → List (List ℤ) → ℕ → WindowReplayAxis

@@ -3,7 +3,7 @@
 #![tactic(auto)]
 
 ghost use Rattle.std.specs.Prelude.{◌≡◌, take, drop, ◌*◌};
-ghost use Rattle.replay.specs.Replays.{no_axis, axis_of, given_axes, walk_of, done_replay, refused_replay, compiled_replay, extents, rows_of, axes_from};
+ghost use Rattle.replay.specs.Replays.{no_axis, axis_of, given_axes, walk_of, done_replay, refused_replay, compiled_replay, extents, row_of, rows_of, axes_from};
 ghost use Rattle.replay.specs.Parts.{past, checked_axis, as_merged, as_apart, joined_axis, walk_from};
 
 use layout::{RAW_FUSED_RANK_LIMIT, Refusal};
@@ -144,14 +144,7 @@ pub fn refused_replay() -> CompiledReplay
 fn shape_of(axes: [WindowReplayAxis; RAW_FUSED_RANK_LIMIT]) -> [u64; RAW_FUSED_RANK_LIMIT]
     ensures { result ≡ extents axes }
 {
-    let mut out = [0u64; RAW_FUSED_RANK_LIMIT];
-    let mut i: usize = 0;
-    while i < RAW_FUSED_RANK_LIMIT {
-        let a = axes[i];
-        out[i] = a.extent;
-        i += 1;
-    }
-    out
+    axes.map(|axis| axis.extent)
 }
 
 fn done_replay(
@@ -253,20 +246,23 @@ pub fn compile_window_replay(
     fuse(shape, source_strides, dest_strides, rank, spans)
 }
 
-// The rows, one per axis, four numbers in a row: source step, source reset, destination step, destination reset.
+// The row of an axis, four numbers: source step, source reset, destination step, destination reset.
+fn row_of(axis: WindowReplayAxis) -> [i64; 4]
+    ensures { result ≡ row_of axis }
+{
+    [
+        axis.source_step,
+        axis.source_reset,
+        axis.dest_step,
+        axis.dest_reset,
+    ]
+}
+
+// The rows, one per axis.
 pub fn rows_of(axes: [WindowReplayAxis; RAW_FUSED_RANK_LIMIT]) -> [[i64; 4]; RAW_FUSED_RANK_LIMIT]
     ensures { result ≡ rows_of axes }
 {
-    let empty = [0i64; 4];
-    let mut out = [empty; RAW_FUSED_RANK_LIMIT];
-    let mut i: usize = 0;
-    while i < RAW_FUSED_RANK_LIMIT {
-        let a = axes[i];
-        let row = [a.source_step, a.source_reset, a.dest_step, a.dest_reset];
-        out[i] = row;
-        i += 1;
-    }
-    out
+    axes.map(row_of)
 }
 
 // The axes of these extents and rows.
@@ -278,23 +274,15 @@ pub fn axes_from(
 {
     let empty = no_axis();
     let mut out = [empty; RAW_FUSED_RANK_LIMIT];
-    let mut i: usize = 0;
-    while i < RAW_FUSED_RANK_LIMIT {
+    for i in 0..RAW_FUSED_RANK_LIMIT {
         let row = rows[i];
-        let extent = extents[i];
-        let source_step = row[0];
-        let source_reset = row[1];
-        let dest_step = row[2];
-        let dest_reset = row[3];
-        let axis = WindowReplayAxis {
-            extent,
-            source_step,
-            source_reset,
-            dest_step,
-            dest_reset,
+        out[i] = WindowReplayAxis {
+            extent: extents[i],
+            source_step: row[0],
+            source_reset: row[1],
+            dest_step: row[2],
+            dest_reset: row[3],
         };
-        out[i] = axis;
-        i += 1;
     }
     out
 }
