@@ -5,7 +5,8 @@ use mathlib.Core.List.{List}
 use mir.Val.{to_z, of_z}
 use Rattle.integer.specs.Z.{back}
 use Rattle.layout.specs.Layouts.{rank_limit}
-use Rattle.walk.specs.Walks.{Walk, state_at, entry, Moves}
+use Rattle.walk.specs.Walks.{Walk, state_at, Moves}
+use Rattle.walk.proofs.Known.{each_row}
 use Rattle.walk.proofs.Decoding.{decoding-none, decoding-next, decoded, here-fits, extent-pos, source-moves, dest-moves}
 use Rattle.walk.proofs.decode.Goals as goal
 
@@ -42,7 +43,7 @@ offset_add-requires c =
     let ls : length c.args.shape ≡ rank_limit = search rules in
     let lr : length c.args.rows ≡ rank_limit = search rules in
     let w = walk-bits _ _ _ _ _ c.ranges.source_base c.ranges.dest_base c.requires in
-    let f : SFits w64 (entry c.args.rows c.loop-i.i 0) = search rules in
+    let f = each_row 4 c.args.rows c.well_formed.1.1.1.1.0.0 c.well_formed.1.1.1.1.0.1.1 c.loop-i.i 0 in
     moves-bits _ _ _ (here-fits _ _ _ _ _ w ls lr _ _ _ _ c.loop-i.invariant).0 f (source-moves _ _ _ _ _ w ls lr _ _ _ _ c.loop-i.invariant c.loop-i-test.true)
 
 pub offset_add-requires-in-loop-i : goal.offset_add-requires-in-loop-i
@@ -50,7 +51,7 @@ offset_add-requires-in-loop-i c =
     let ls : length c.args.shape ≡ rank_limit = search rules in
     let lr : length c.args.rows ≡ rank_limit = search rules in
     let w = walk-bits _ _ _ _ _ c.ranges.source_base c.ranges.dest_base c.requires in
-    let f : SFits w64 (entry c.args.rows c.loop-i.i 2) = search rules in
+    let f = each_row 4 c.args.rows c.well_formed.1.1.1.1.0.0 c.well_formed.1.1.1.1.0.1.1 c.loop-i.i 2 in
     moves-bits _ _ _ (here-fits _ _ _ _ _ w ls lr _ _ _ _ c.loop-i.invariant).1 f (dest-moves _ _ _ _ _ w ls lr _ _ _ _ c.loop-i.invariant c.loop-i-test.true)
 
 pub loop-i-preserved : goal.loop-i-preserved
@@ -61,8 +62,8 @@ loop-i-preserved c =
     let i = c.loop-i.invariant in
     let h = c.loop-i-test.true in
     let fits = here-fits _ _ _ _ _ w ls lr _ _ _ _ i in
-    let f : SFits w64 (entry c.args.rows c.loop-i.i 0) = search rules in
-    let g : SFits w64 (entry c.args.rows c.loop-i.i 2) = search rules in
+    let f = each_row 4 c.args.rows c.well_formed.1.1.1.1.0.0 c.well_formed.1.1.1.1.0.1.1 c.loop-i.i 0 in
+    let g = each_row 4 c.args.rows c.well_formed.1.1.1.1.0.0 c.well_formed.1.1.1.1.0.1.1 c.loop-i.i 2 in
     let n = decoding-next _ _ _ _ _ w ls lr _ _ _ _ i h in
     record {
       at = n.at;
