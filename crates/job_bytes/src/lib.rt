@@ -32,11 +32,9 @@ fn number_of(field: &[u8]) -> u64
     requires { length field.now ≤ 8 }
     ensures { result ≡ number_from 0 field.now }
 {
-    let mut value: u64 = 0;
-    for &byte in field {
-        value = value * 256 + byte as u64;
-    }
-    value
+    let mut word = [0u8; 8];
+    word[8 - field.len()..].copy_from_slice(field);
+    u64::from_be_bytes(word)
 }
 
 // A number of `width` bytes.
