@@ -30,6 +30,21 @@ module _ {A : Type 0} (z : A) (rule : A → A → A) where
       ∙ ap (beside z rule updates i) e
       ∙ ap (λ (m : ℕ). in_order (beside z rule updates) m x) (sym (add-one i))
 
+-- ---- one list written over another, element by element
+pub pasted : {A : Type 0} (from x y : List A) (i : ℕ) (a : A) → i < length from → i < length x → y ≡ paste x 0 from i → a ≡ get_or from i a → set y i a ≡ paste x 0 from (i + 1)
+pasted from x y i a h k e f =
+    ap₂ (λ (l : List _) (v : _). set l i v) e f
+    ∙ ap (λ (m : ℕ). set (paste x 0 from i) m (get_or from i a)) (sym (zero-add i))
+    ∙ paste-suc x 0 from i a (omega arith) h
+    ∙ ap (paste x 0 from) (sym (add-one i))
+
+pub pasted-over : {A : Type 0} (from x : List A) → length from ≡ length x → paste x 0 from (length x) ≡ from
+pasted-over from x e =
+    ap (λ (m : ℕ). take (length x) from ++ drop m x) (zero-add (length x))
+    ∙ ap (λ (l : List _). take (length x) from ++ l) (drop-length x)
+    ∙ append-nil (take (length x) from)
+    ∙ take_all (length x) from (omega arith)
+
 -- ---- where the rule keeps nothing of what was there
 module _ {A : Type 0} (z : A) where
   upto : (updates cells : List A) (k : ℕ) → k ≤ length updates → length updates ≡ length cells → in_order (beside z (λ x u. u) updates) k cells ≡ paste cells 0 updates k

@@ -2,6 +2,7 @@
 
 -- what a reader must believe: what a rule makes of a cell; when two ships may swap, and what a cell then holds
 pub mod Rules
+pub mod Blocks
 pub mod Swaps
 -- that it is so, for any lists of updates and any grid
 pub mod Choice

@@ -1,15 +1,19 @@
 // How an update is put on a cell: the combining rules of a scatter. A gather's copy is Replace, and a stored job's scatter is Add.
 #![tactic(auto)]
 
-ghost use Rattle.std.specs.Prelude.{◌≡◌, ◌<◌, ◌^◌, pos, length};
+ghost use Rattle.std.specs.Prelude.{◌≡◌, ◌<◌, ◌≤◌, ◌^◌, pos, length};
 ghost use Rattle.std.specs.Float.{nan};
 ghost use Rattle.indexing.specs.Coordinates.{element_at, store};
 ghost use Rattle.indexing.specs.Loops.{in_order};
 ghost use Rattle.indexing.specs.Scatter.{add_i32, add_f64};
 ghost use Rattle.rules.specs.Rules.{rule_i32, rule_f64, lowest, highest, lowest_f64, highest_f64, capped};
+ghost use Rattle.rules.specs.Blocks.{block_cells};
 
 // Fewer cells than these are copied one by one.
 pub const FEW: usize = 8;
+
+// As many cells at most are copied by way of an array.
+pub const BLOCK: usize = 32;
 
 // An element of a grid.
 pub trait Element: Copy {
@@ -19,18 +23,47 @@ pub trait Element: Copy {
     // Does nothing. An element takes up room, so that each index of a slice is an i64: sums of places rest on it.
     fn short(cells: &[Self])
         ensures { length cells.now < 2 ^ 63 };
+
+    // A copy of up to BLOCK cells.
+    fn copy_block(from: &[Self], to: &mut [Self])
+        requires { (length from.now ≡ length to.old) × (length to.old ≤ block_cells) }
+        ensures { to.new ≡ from.now };
+}
+
+// One by one. Into an array and out of it again the compiler makes one move of memory, which has not to ask whether the two overlap.
+fn copy_each<T: Copy>(from: &[T], to: &mut [T])
+    requires { length from.now ≡ length to.old }
+    ensures { to.new ≡ from.now }
+{
+    for i in 0..to.len() {
+        to[i] = from[i];
+    }
 }
 
 impl Element for i32 {
     ghost absent = { pos 0 };
 
     fn short(_cells: &[i32]) {}
+
+    fn copy_block(from: &[i32], to: &mut [i32]) {
+        let n = to.len();
+        let mut held = [0i32; BLOCK];
+        copy_each(from, &mut held[..n]);
+        copy_each(&held[..n], to);
+    }
 }
 
 impl Element for f64 {
     ghost absent = { nan };
 
     fn short(_cells: &[f64]) {}
+
+    fn copy_block(from: &[f64], to: &mut [f64]) {
+        let n = to.len();
+        let mut held = [0.0f64; BLOCK];
+        copy_each(from, &mut held[..n]);
+        copy_each(&held[..n], to);
+    }
 }
 
 // A rule as a type of its own, so that a loop over cells has none to ask for.
@@ -125,9 +158,9 @@ impl<E: Element> Combine<E> for Replace {
 
     fn apply_each(self, updates: &[E], cells: &mut [E]) {
         if cells.len() < FEW {
-            for i in 0..cells.len() {
-                cells[i] = updates[i];
-            }
+            copy_each(updates, cells);
+        } else if cells.len() <= BLOCK {
+            E::copy_block(updates, cells);
         } else {
             cells.copy_from_slice(updates);
         }

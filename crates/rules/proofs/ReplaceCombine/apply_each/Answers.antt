@@ -1,16 +1,12 @@
-use Rattle.std.proofs.Common.{◌∙◌, refl, length, get_or, ◌<◌, arith}
-use Rattle.std.proofs.lemmas.List.{get_or_default}
-use Rattle.rules.proofs.Each.{before, after, copied}
+use Rattle.std.proofs.Common.{◌∙◌}
+use Rattle.rules.proofs.Each.{copied}
 use Rattle.rules.proofs.ReplaceCombine.apply_each.Goals as goal
 
-pub loop-i-init : goal.loop-i-init
-loop-i-init g c = before g.E.Element.absent (λ x u. u) c.args.updates.now c.args.cells.now
+pub returns-then-cells-lt-FEW : goal.returns-then-cells-lt-FEW
+returns-then-cells-lt-FEW g c = c.copy_each.ensures ∙ copied g.E.Element.absent c.args.updates.now c.args.cells.now c.requires
 
-pub loop-i-preserved : goal.loop-i-preserved
-loop-i-preserved g c =
-    let a = get_or c.loop-i.cells c.loop-i.i g.E.Element.absent in
-    let h : c.loop-i.i < length c.loop-i.cells = omega arith in
-    after g.E.Element.absent (λ x u. u) c.args.updates.now c.args.cells.now c.loop-i.cells c.loop-i.i a _ _ c.loop-i.invariant h (omega arith) (get_or_default c.loop-i.cells c.loop-i.i g.E.Element.absent a h) c.index-updates-i.is refl
+pub returns-then-cells-le-BLOCK : goal.returns-then-cells-le-BLOCK
+returns-then-cells-le-BLOCK g c = c.copy_block.ensures ∙ copied g.E.Element.absent c.args.updates.now c.args.cells.now c.requires
 
-pub returns-else-cells-lt-FEW : goal.returns-else-cells-lt-FEW
-returns-else-cells-lt-FEW g c = c.copy_from_slice.ensures.after ∙ copied g.E.Element.absent c.args.updates.now c.args.cells.now c.requires
+pub returns-else-cells-le-BLOCK : goal.returns-else-cells-le-BLOCK
+returns-else-cells-le-BLOCK g c = c.copy_from_slice.ensures.after ∙ copied g.E.Element.absent c.args.updates.now c.args.cells.now c.requires

@@ -1,7 +1,0 @@
-use Rattle.std.proofs.Common.{◌≡◌}
-use Rattle.indexing.specs.Loops.{in_order}
-use Rattle.rules.proofs.Each.{beside}
-use Rattle.rules.proofs.ReplaceCombine.apply_each.Given as goal
-
-abbrev pub invariant-loop-i : goal.invariant-loop-i
-invariant-loop-i g l = l.cells ≡ in_order (beside g.E.Element.absent (λ x u. u) l.updates) l.i l.fn.cells
