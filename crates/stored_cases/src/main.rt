@@ -11,7 +11,7 @@ use std::io;
 use std::io::Read;
 use std::rt::Files;
 use stored_reader::file;
-use stored_reader::packed::{CASE_BYTES, Case, HEAD_BYTES, Head, words_of};
+use stored_reader::packed::{CASE_BYTES, Case, HEAD_BYTES, Head, WORDS, words_of};
 
 // Answers the case of this index, and counts its outcome.
 fn take_case(rt: &impl Print, index: u64, case: &Case, counts: &mut Counts) -> io::Result<()> {
@@ -43,7 +43,10 @@ fn next_case(
         return Err(Stopped::EndsInside(index));
     }
     let words = words_of(&bytes);
-    let numbers = words.map(|word| word.cast_signed());
+    let mut numbers = [0i64; WORDS];
+    for (number, word) in numbers.iter_mut().zip(&words) {
+        *number = word.cast_signed();
+    }
     let Some(case) = Case::new(head, &words, &numbers) else {
         return Err(Stopped::Unlisted(index));
     };
