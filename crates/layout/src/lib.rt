@@ -173,8 +173,9 @@ pub fn padded<T: Copy>(list: &[T], rest: T) -> [T; RAW_FUSED_RANK_LIMIT]
     ensures { result ≡ padded rank_limit rest list.now }
 {
     let mut out = [rest; RAW_FUSED_RANK_LIMIT];
-    let n = list.len().min(RAW_FUSED_RANK_LIMIT);
-    out[..n].copy_from_slice(&list[..n]);
+    for i in 0..list.len().min(RAW_FUSED_RANK_LIMIT) {
+        out[i] = list[i];
+    }
     out
 }
 
