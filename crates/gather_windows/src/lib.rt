@@ -72,7 +72,7 @@ fn gather_run<E: Element>(
 }
 
 // Whether place j of an axis counts: where all of it counts, a place that has a batch coordinate of its own.
-fn counts_at(counts: bool, j: u64, batches: u64) -> bool
+pub fn counts_at(counts: bool, j: u64, batches: u64) -> bool
     ensures { result ≡ (counts && ltb j batches) }
 {
     counts && j < batches

@@ -1,12 +1,14 @@
 -- The laws of the rules: what each cell holds after one list of updates and after two, and two lists in either order. For any lists of updates and any
 -- grid. Assumes nothing.
-use Rattle.std.specs.Prelude.{◌≡◌, refl, Bool, true, false, cond, ℕ, ◌<◌, length, get_or, ℤ, pos, ◌≤ℤ◌}
+use Rattle.std.specs.Prelude.{◌≡◌, refl, Bool, true, false, cond, ℕ, ◌<◌, length, get_or, ℤ, pos, ◌+ℤ◌, ◌≤ℤ◌}
 use Rattle.std.proofs.Math.Path.{sym, ap}
-use Rattle.std.proofs.Common.{◌∙◌, subst, ⊎_elim, arith, ext_get_or}
+use Rattle.std.proofs.Common.{◌∙◌, subst, ⊎_elim, arith, ext_get_or, SFits}
 use mathlib.Core.List.Memᴰ
 use mathlib.Core.List.{List, [], ◌∷◌, ◌++◌, Memᴰ}
 use Rattle.std.specs.Int.Signed.{lt_z, le_z}
+use Rattle.std.specs.Int.{w32}
 use Rattle.integer.specs.Defs.{min_ℤ, max_ℤ}
+use Rattle.integer.specs.Wrap.{wrap-fits}
 use Rattle.integer.specs.Z.{≡-from, zfacts}
 use Rattle.indexing.specs.Scatter.{Update, combined, landing, add_i32}
 use Rattle.indexing.specs.Updates.{in_turn}
@@ -17,6 +19,17 @@ use Rattle.rules.specs.Swaps.{least, greatest, latest, leaves, put_on, Alike, bo
 use Rattle.rules.specs.Choice.{either, in-turn-one-of, min-best, max-best, best-swap, in-turn-best, best-of-all}
 use Rattle.rules.specs.declared.Rule.{Rule}
 use Rattle.rules.specs.declared.Rule.TheVariants as R
+
+-- ---- a rule's result is an i32 where both values are
+cond-fits : (b : Bool) (x u : ℤ) → SFits w32 x → SFits w32 u → SFits w32 (cond b u x)
+cond-fits true x u f g = g
+cond-fits false x u f g = f
+
+pub rule_fits : (r : Rule) (x u : ℤ) → SFits w32 x → SFits w32 u → SFits w32 (rule_i32 r x u)
+rule_fits R.Add x u f g = wrap-fits (x +ℤ u)
+rule_fits R.Lowest x u f g = cond-fits (lt_z u x) x u f g
+rule_fits R.Highest x u f g = cond-fits (lt_z x u) x u f g
+rule_fits R.Replace x u f g = g
 
 -- ---- lists of any elements and any two rules, where no element gets an update from both
 module _ {A : Type 0} (r s : A → A → A) (d : A) (north south : List (Update A)) (grid : List A) where

@@ -8,9 +8,11 @@ use lib.ListN.{length, get_or, set, take, drop, length-drop}
 use lib.Seq.{length-take-le}
 use lib.IntN.{ℤ, pos, nat_abs}
 use lib.Signed.{◌<ℤ◌, non_neg}
+use mir.Facts.{sfits_lit}
 use mir.Syntax.{w64}
-use mir.Val.{SFits, Fits}
+use mir.Val.{SFits, Fits, of_z}
 use Rattle.integer.specs.Z.{back, <-to}
+use Rattle.integer.specs.Machine.{same_bits}
 use Rattle.indexing.specs.Coordinates.{InSlice}
 use Rattle.indexing.specs.Loops.{in_order}
 use Rattle.runs.specs.Runs.{cell_at, line, Line, Run, Plane, run_at}
@@ -23,6 +25,15 @@ module _ {A : Type 0} (z : A) (rule : A → A → A) (src : List A) (s d ss ds :
   pub turn : (x y : List A) (i sn dn : ℕ) (v : A) → y ≡ in_order (cell_at z rule src (line (read s) (read ss)) (line (read d) (read ds))) i x → Step s ss i sn → Step d ds i dn
       → v ≡ rule (get_or y (nat_abs (machine d ds i)) z) (get_or src (nat_abs (machine s ss i)) z) → set y (nat_abs (machine d ds i)) v ≡ in_order (cell_at z rule src (line (read s) (read ss)) (line (read d) (read ds))) (i + 1) x
   turn x y i sn dn v e p q w = cell-more z rule src (line (read s) (read ss)) (line (read d) (read ds)) x y i (nat_abs (machine s ss i)) (nat_abs (machine d ds i)) v e p.index_is q.index_is w
+
+  -- the end: the places by the parameters themselves
+  pub ends : (i n : ℕ) (x y : List A) → SFits w64 s → SFits w64 d → SFits w64 ss → SFits w64 ds → i ≡ n → y ≡ in_order (cell_at z rule src (line (read s) (read ss)) (line (read d) (read ds))) i x
+      → y ≡ in_order (cell_at z rule src (line s ss) (line d ds)) n x
+  ends i n x y f1 f2 f3 f4 u e =
+      e
+      ∙ ap₂ (λ (a b : ℤ). in_order (cell_at z rule src (line a (read ss)) (line b (read ds))) i x) (back f1) (back f2)
+      ∙ ap₂ (λ (a b : ℤ). in_order (cell_at z rule src (line s a) (line d b)) i x) (back f3) (back f4)
+      ∙ ap (λ (m : ℕ). in_order (cell_at z rule src (line s ss) (line d ds)) m x) u
 
 -- ---- strides of 1
 last-is : (s : ℤ) (n m : ℕ) → InSlice m (line s (pos 1) (n - 1)) → (a : ℕ) → pos a ≡ s → 0 < n → a + n ≤ m
@@ -51,6 +62,36 @@ part-run {A = A} z rule src xs ys s d a b n p q ep eq es ed h e =
     ∙ ap (λ (m : ℕ). take b xs ++ (in_order (cell_at z rule (take n (drop a src)) pos pos) m (take n (drop b xs)) ++ drop n (drop b xs))) (length-take-le n (drop b xs) (omega (arith, length-drop b xs)))
     ∙ on-parts z rule src xs a b n h
     ∙ ap₂ (λ (u v : ℤ). in_order (cell_at z rule src (line u (pos 1)) (line v (pos 1))) n xs) es ed
+
+-- where the machine has found both strides to be 1
+module _ (ss ds : ℤ) (fss : SFits w64 ss) (fds : SFits w64 ds) (es : of_z w64 ss ≡ 1) (ed : of_z w64 ds ≡ 1) where
+  one-source : ss ≡ pos 1
+  one-source = same_bits {w = w64} fss (sfits_lit {z = pos 1} tt) es
+
+  one-dest : ds ≡ pos 1
+  one-dest = same_bits {w = w64} fds (sfits_lit {z = pos 1} tt) ed
+
+  pub row-asks : (s d : ℤ) (n sn dn : ℕ) → SFits w64 s → SFits w64 d → (n ≡ 0 → ⊥) → Run s d ss ds n sn dn → (0 < n) × Run (read s) (read d) (pos 1) (pos 1) n sn dn
+  row-asks s d n sn dn fs fd h r = (omega (arith, h), simp (back fs, back fd) (subst (λ (x : ℤ). Run s d x (pos 1) n sn dn) one-source (subst (λ (x : ℤ). Run s d ss x n sn dn) one-dest r)))
+
+  pub row-end : {A : Type 0} (z : A) (rule : A → A → A) (src : List A) (s d : ℤ) (n : ℕ) (x y : List A) → SFits w64 s → SFits w64 d → y ≡ in_order (cell_at z rule src (line (read s) (pos 1)) (line (read d) (pos 1))) n x
+      → y ≡ in_order (cell_at z rule src (line s ss) (line d ds)) n x
+  row-end z rule src s d n x y fs fd h =
+      h
+      ∙ ap₂ (λ (a b : ℤ). in_order (cell_at z rule src (line a (pos 1)) (line b (pos 1))) n x) (back fs) (back fd)
+      ∙ ap₂ (λ (a b : ℤ). in_order (cell_at z rule src (line s a) (line d b)) n x) (sym one-source) (sym one-dest)
+
+  pub rows-ask : (s d st dt : ℤ) (n m sn dn : ℕ) → SFits w64 s → SFits w64 d → SFits w64 st → SFits w64 dt → Plane s d ss ds st dt n m sn dn → Plane (read s) (read d) (pos 1) (pos 1) (read st) (read dt) n m sn dn
+  rows-ask s d st dt n m sn dn fs fd fst fdt p =
+      simp (back fs, back fd, back fst, back fdt) (subst (λ (x : ℤ). Plane s d x (pos 1) st dt n m sn dn) one-source (subst (λ (x : ℤ). Plane s d ss x st dt n m sn dn) one-dest p))
+
+  pub rows_end : {A : Type 0} (z : A) (rule : A → A → A) (src : List A) (s d st dt : ℤ) (n m : ℕ) (x y : List A) → SFits w64 s → SFits w64 d → SFits w64 st → SFits w64 dt
+      → y ≡ in_order (run_at z rule src (read s) (read d) (pos 1) (pos 1) (read st) (read dt) n) m x → y ≡ in_order (run_at z rule src s d ss ds st dt n) m x
+  rows_end z rule src s d st dt n m x y fs fd fst fdt h =
+      h
+      ∙ ap₂ (λ (a b : ℤ). in_order (run_at z rule src a b (pos 1) (pos 1) (read st) (read dt) n) m x) (back fs) (back fd)
+      ∙ ap₂ (λ (a b : ℤ). in_order (run_at z rule src s d (pos 1) (pos 1) a b n) m x) (back fst) (back fdt)
+      ∙ ap₂ (λ (a b : ℤ). in_order (run_at z rule src s d a b st dt n) m x) (sym one-source) (sym one-dest)
 
 -- ---- runs, one after the other
 
