@@ -1,4 +1,5 @@
--- Laws of tests and sums: a test that every number passes keeps it; a sum that fits, or else another number with its remainder.
+-- Laws of tests and sums that the edits add_bound and wrap_amount cite, and no proof here: a test that every number passes keeps it;
+-- a sum that fits, or else another number with its remainder.
 use Rattle.std.specs.Prelude.{◌≡◌, refl, Bool, true, Option, Some, None, ℤ}
 use Rattle.std.specs.Option.{MatchOption, SomeIff, unwrap_or}
 use Rattle.std.specs.Bool.{then_some}

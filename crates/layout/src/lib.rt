@@ -173,9 +173,8 @@ pub fn padded<T: Copy>(list: &[T], rest: T) -> [T; RAW_FUSED_RANK_LIMIT]
     ensures { result ≡ padded rank_limit rest list.now }
 {
     let mut out = [rest; RAW_FUSED_RANK_LIMIT];
-    for i in 0..list.len().min(RAW_FUSED_RANK_LIMIT) {
-        out[i] = list[i];
-    }
+    let n = list.len().min(RAW_FUSED_RANK_LIMIT);
+    out[..n].copy_from_slice(&list[..n]);
     out
 }
 

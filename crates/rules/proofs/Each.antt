@@ -57,10 +57,4 @@ module _ {A : Type 0} (z : A) where
 
   -- the updates are left
   pub copied : (updates cells : List A) → length updates ≡ length cells → updates ≡ in_order (beside z (λ x u. u) updates) (length cells) cells
-  copied updates cells e =
-      sym
-      (upto updates cells (length cells) (omega arith) e
-      ∙ ap (λ (m : ℕ). take (length cells) updates ++ drop m cells) (zero-add (length cells))
-      ∙ ap (λ (l : List A). take (length cells) updates ++ l) (drop-length cells)
-      ∙ append-nil (take (length cells) updates)
-      ∙ take_all (length cells) updates (omega arith))
+  copied updates cells e = sym (upto updates cells (length cells) (omega arith) e ∙ pasted-over updates cells e)

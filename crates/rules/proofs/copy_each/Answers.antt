@@ -1,7 +1,5 @@
-use Rattle.std.proofs.Common.{◌≡◌, ◌∙◌, sym, ap, ap₂, ℕ, List, length, set, arith}
-use lib.Seq.{paste, paste-zero, paste-suc}
-use native.Mathlib.Numerals.{add-one}
-use native.Mathlib.Nat.{zero-add}
+use Rattle.std.proofs.Common.{◌≡◌, ◌∙◌, sym, ap, length, arith}
+use lib.Seq.{paste, paste-zero}
 use Rattle.rules.proofs.Each.{pasted, pasted-over}
 use Rattle.rules.proofs.copy_each.Goals as goal
 
