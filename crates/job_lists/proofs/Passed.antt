@@ -1,4 +1,4 @@
--- A result of which the error was passed through a function, for the edit place_of_the_list; no proof here cites it. Assumes nothing.
+-- Laws of a result of which the error was passed through a function, for the edit place_of_the_list; no proof here cites them. Assumes nothing.
 use Rattle.std.specs.Prelude.{◌≡◌, Result, Ok, Err}
 use Rattle.std.specs.Result.{MatchResult, IsErrAnd}
 use Rattle.std.proofs.Math.Path.{sym, ap}
