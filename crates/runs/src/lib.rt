@@ -92,7 +92,8 @@ fn strided_rows<E: Element, R: Combine<E>>(
     }
 }
 
-// The same, with a way of its own for strides of 1 on both sides.
+// The same, with a way of its own for strides of 1 on both sides. Written out in place, or the loop over the rows counts them in memory.
+#[inline(always)]
 pub fn plane<E: Element, R: Combine<E>>(
     rule: R,
     src: &[E],
